@@ -1,0 +1,26 @@
+-- Tests, sums and choices over the numbers below n. A vector's entries, the records held and the Sets of an object are
+-- all counted from 0, so these serve wherever document 01 says 'some', 'every', 'the number of' or 'the sum of'.
+-- Assumes nothing.
+use mathlib.Core.Bool.{Bool, true, false, _&&_, _||_, cond}
+use mathlib.Core.List.{List, [], _∷_, _++_}
+use Prim.Native.Nat.{ℕ, zero, suc, _+_}
+
+-- some number below n passes
+unfoldable pub some : ℕ → (ℕ → Bool) → Bool
+some zero f = false
+some (suc n) f = some n f || f n
+
+-- every number below n passes
+unfoldable pub all : ℕ → (ℕ → Bool) → Bool
+all zero f = true
+all (suc n) f = all n f && f n
+
+-- the sum of f over the numbers below n
+unfoldable pub sum : ℕ → (ℕ → ℕ) → ℕ
+sum zero f = 0
+sum (suc n) f = sum n f + f n
+
+-- the numbers below n that pass, ascending
+unfoldable pub keep : ℕ → (ℕ → Bool) → List ℕ
+keep zero f = []
+keep (suc n) f = keep n f ++ cond (f n) (n ∷ []) []

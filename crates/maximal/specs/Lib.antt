@@ -1,0 +1,4 @@
+pub mod Sets
+pub mod Groups
+pub mod Step
+pub mod Arrivals

@@ -1,0 +1,45 @@
+-- The numbers of document 01's 'The edit record', each said once, and where each field starts. Assumes nothing.
+use Prim.Native.Nat.{ℕ, _+_, _*_}
+
+-- the sites that a drawing has at most: the entries of a vector
+abbrev pub mostSites : ℕ
+mostSites = 8
+
+-- the attribute keys are the numbers below this one
+abbrev pub keys : ℕ
+keys = 16
+
+abbrev pub createKind : ℕ
+createKind = 1
+
+abbrev pub setKind : ℕ
+setKind = 2
+
+-- ---- the fields, in their order
+
+abbrev pub kindAt : ℕ
+kindAt = 0
+
+abbrev pub siteAt : ℕ
+siteAt = 1
+
+abbrev pub seqAt : ℕ
+seqAt = 2
+
+abbrev pub vectorAt : ℕ
+vectorAt = 4
+
+abbrev pub targetAt : ℕ
+targetAt = vectorAt + 2 * mostSites
+
+abbrev pub keyAt : ℕ
+keyAt = targetAt + 1
+
+abbrev pub targetSeqAt : ℕ
+targetSeqAt = targetAt + 2
+
+abbrev pub valueAt : ℕ
+valueAt = targetAt + 4
+
+abbrev pub recordLength : ℕ
+recordLength = targetAt + 8
