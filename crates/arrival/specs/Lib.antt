@@ -1,0 +1,2 @@
+pub mod Arrival
+pub mod Replay

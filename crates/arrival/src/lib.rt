@@ -1,0 +1,2 @@
+// What an arriving edit does to the tables (document 01, 'Numbers given back' and 'Tables and what makes them sound'),
+// and the separate check.

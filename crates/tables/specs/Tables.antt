@@ -1,0 +1,88 @@
+-- The lent tables, their limits, and the answers. Assumes nothing.
+use Prim.Native.Nat.{ℕ, _+_, _*_}
+use mathlib.Core.List.{List}
+use lib.ListN.{getD, replicate}
+use Rattle.record.specs.Layout.{mostSites, recordLength}
+use Rattle.record.specs.declared.Edit.{Edit}
+use Rattle.history.specs.History.{editsOf}
+use Rattle.group.specs.Row.{mostObjects, mostGroups}
+use Rattle.tables.specs.declared.Counters.{Counters}
+use Rattle.tables.specs.declared.Answer.{Answer}
+use Rattle.tables.specs.declared.Answer.the-variants.{
+  Done, Malformed, Repeated, Early, Torn, Astray, Full, Crowded, Unsound, BadSites, BadFile, NoRoom, NoLine,
+}
+
+-- the records held, Creates included, are at most so many
+abbrev pub mostRecords : ℕ
+mostRecords = 256
+
+-- ---- the tables as lent: bytes of records; per object the place of its Create, its number of Sets and its number of
+-- groups; the rows of groups
+
+pub record Tables : Type 0 where
+  pub counters : Counters
+  pub records : List ℕ
+  pub objects : List ℕ
+  pub groups : List ℕ
+
+abbrev pub tablesOf : Counters → List ℕ → List ℕ → List ℕ → Tables
+tablesOf c rs os gs = record { counters = c; records = rs; objects = os; groups = gs }
+
+-- the numbers of an object's entry
+abbrev pub entryLength : ℕ
+entryLength = 3
+
+abbrev pub placeAt : List ℕ → ℕ → ℕ
+placeAt os o = getD os (o * entryLength) 0
+
+abbrev pub setsAt : List ℕ → ℕ → ℕ
+setsAt os o = getD os (o * entryLength + 1) 0
+
+abbrev pub groupsAt : List ℕ → ℕ → ℕ
+groupsAt os o = getD os (o * entryLength + 2) 0
+
+-- the edits that the tables hold
+abbrev pub heldBy : Tables → List Edit
+heldBy t = editsOf (t .records) (t .counters .records)
+
+-- ---- the stated lengths
+
+abbrev pub recordsLength : ℕ
+recordsLength = mostRecords * recordLength
+
+abbrev pub objectsLength : ℕ
+objectsLength = mostObjects * entryLength
+
+abbrev pub groupsLength : ℕ
+groupsLength = mostObjects * mostGroups
+
+-- the empty drawing of n sites: every entry is zero except N
+unfoldable pub emptyDrawing : ℕ → Tables
+emptyDrawing n =
+    tablesOf (record { sites = n; records = 0; objects = 0; held = replicate mostSites 0 }) (replicate recordsLength 0)
+    (replicate objectsLength 0) (replicate groupsLength 0)
+
+-- ---- document 01's number of each answer
+
+unfoldable pub numberOf : Answer → ℕ
+numberOf Done = 0
+numberOf Malformed = 1
+numberOf Repeated = 2
+numberOf Early = 3
+numberOf Torn = 4
+numberOf Astray = 5
+numberOf Full = 6
+numberOf Crowded = 7
+numberOf Unsound = 8
+numberOf BadSites = 9
+numberOf BadFile = 10
+numberOf NoRoom = 11
+numberOf NoLine = 12
+
+-- what a call gives back and the tables that it leaves
+pub record Outcome : Type 0 where
+  pub answer : ℕ
+  pub after : Tables
+
+abbrev pub outcomeOf : ℕ → Tables → Outcome
+outcomeOf n t = record { answer = n; after = t }
