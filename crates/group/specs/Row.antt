@@ -7,13 +7,15 @@ use Prim.Native.Nat.{ℕ, _+_, _-_, _*_}
 use lib.Dec.{ltb}
 use lib.ListN.{length, take, drop, replicate}
 
--- the versions that an object has at most, the Sets that it has at most, and the objects that a drawing has at most
+-- the versions that an object has at most: the places of its row
 abbrev pub mostGroups : ℕ
 mostGroups = 32
 
+-- the Sets that an object has at most: the bits of a group
 abbrev pub mostSets : ℕ
 mostSets = 64
 
+-- the objects that a drawing has at most: the rows of the table
 abbrev pub mostObjects : ℕ
 mostObjects = 64
 
