@@ -10,12 +10,12 @@ use Rattle.record.specs.declared.Edit.{Edit}
 use Rattle.record.specs.Layout.{recordLength}
 use Rattle.record.specs.Record.{decodeOf}
 use Rattle.record.specs.Form.{isCreate, isSet, malformed}
-use Rattle.history.specs.History.{creates, setsOn, objectOf, conflictsWith}
+use Rattle.history.specs.History.{creates, setsOn, objectOf, conflictsWith, mostRecords}
 use Rattle.history.specs.Answers.{isRepeated, isEarly, isTorn, isAstray}
 use Rattle.maximal.specs.Step.{step}
 use Rattle.group.specs.Row.{mostObjects, mostSets, mostGroups, row, putRow}
 use Rattle.tables.specs.declared.Counters.{Counters}
-use Rattle.tables.specs.Tables.{Tables, Outcome, outcomeOf, tablesOf, mostRecords, entryLength, groupsAt, heldBy}
+use Rattle.tables.specs.Tables.{Tables, Outcome, outcomeOf, tablesOf, entryLength, groupsAt, heldBy}
 use Rattle.tables.specs.Sound.{sound}
 
 -- ---- the answer

@@ -1,7 +1,8 @@
--- The edits held, in the order of arrival, as the table of records holds them: one record after another. Assumes nothing.
+-- The edits held, in the order of arrival, as the table of records holds them: one record after another.
+-- Assumes nothing.
 use Prim.Native.Nat.{ℕ, zero, suc, _+_, _*_}
 use mathlib.Core.List.{List, [], _∷_, _++_}
-use mathlib.Core.Bool.{Bool, not, _&&_, cond}
+use mathlib.Core.Bool.{Bool, _&&_, cond}
 use lib.ListN.{drop, take, length}
 use lib.Dec.{eqb}
 use Rattle.ground.specs.Sorted.{filter}
@@ -14,6 +15,10 @@ use Rattle.record.specs.Form.{isCreate, isSet}
 use Rattle.causal.specs.Causal.{sameEdit, hasSeen, doConflict}
 
 -- ---- in the table
+
+-- the records held, Creates included, are at most so many
+abbrev pub mostRecords : ℕ
+mostRecords = 256
 
 -- the bytes of the record in place p, and the edit in it
 abbrev pub bytesAt : List ℕ → ℕ → List ℕ

@@ -1,2 +1,4 @@
 pub mod History
 pub mod Answers
+pub mod Code
+pub mod Index

@@ -1,9 +1,50 @@
-// The edits held, in the order of arrival, and answers 2 to 5 of document 01 against them.
-use record::{Edit, RECORD};
-
+// The edits held, in the order of arrival: answers 2 to 5 of document 01 against them, what an arriving edit asks of
+// them, and one walk that tests the records of a table.
+use causal::has_seen;
+use causal::is_conflict;
+use causal::is_same;
+use record::AT_KIND;
+use record::AT_VECTOR;
+use record::CREATE;
+use record::Edit;
+use record::RECORD;
+use record::SET;
+use record::SITES;
+use record::Seq;
+use record::Site;
 ghost use mathlib.Core.Path.{_≡_};
-ghost use Prim.Native.Nat.{_<_};
-ghost use Rattle.history.specs.History.{recordAt};
+ghost use mathlib.Core.Bool.{true, cond};
+ghost use Prim.Native.Nat.{_+_, _^_, _≤_, _<_};
+ghost use lib.ListN.{length, getD};
+ghost use Rattle.record.specs.Layout.{mostSites};
+ghost use Rattle.history.specs.History.{mostRecords, recordAt, editsOf, isSetOn, setsOn, isTarget};
+ghost use Rattle.history.specs.Answers.{largerSomewhere, tears};
+ghost use Rattle.history.specs.Code.{bump, aheadElsewhere, repeatedAgainst, earlyAgainst};
+ghost use Rattle.history.specs.Code.{markBits, surveyOf, surveyWith, Room};
+ghost use Rattle.history.specs.Index.{placesLength, placeOf, latestSeen, tornAt, tornByLatest};
+ghost use Rattle.history.specs.Index.{targetHeld, passesAgainst, WalkedOver};
+
+// The records held, Creates included, are at most so many.
+pub const RECORDS: usize = 256;
+
+// The entries of an index of places: the edit s.q has its place at s * RECORDS + q.
+pub const PLACES: usize = SITES * RECORDS + 1;
+
+// What an arriving edit asks of the edits held: whether 4 applies, whether its target is held, the number of its
+// object, how many Sets that has, and which of them conflict with it, bit i for the i-th.
+pub struct Surveyed {
+    pub torn: bool,
+    pub found: bool,
+    pub object: usize,
+    pub sets: usize,
+    pub conflicts: u64,
+}
+
+// Whether the records passed, and how many edits of each site they are.
+pub struct Walked {
+    pub ok: bool,
+    pub held: [u16; SITES],
+}
 
 // The edit in place p of a table of records; a place past the end holds zeros.
 pub fn decode_at(recs: &[u8], p: usize) -> Edit
@@ -16,4 +57,243 @@ pub fn decode_at(recs: &[u8], p: usize) -> Edit
     } else {
         record::decode(&recs[..0])
     }
+}
+
+// The counts with one edit more of the site s.
+pub fn bumped(v: [u16; SITES], s: Site) -> [u16; SITES]
+    requires { ⌜ getD v (s .0) 0 < mostRecords ⌝ }
+    ensures { λ r. ⌜ r ≡ bump v s ⌝ }
+{
+    let mut w = v;
+    let i = s.0 as usize;
+    if i < SITES {
+        w[i] = w[i] + 1;
+    }
+    w
+}
+
+// Whether answer 2 is given to the edit, where so many edits of each site are held.
+pub fn is_repeated(held: [u16; SITES], e: Edit) -> bool
+    ensures { λ r. ⌜ r ≡ repeatedAgainst held e ⌝ }
+{
+    e.seq.0 <= record::entry(held, e.site).0
+}
+
+// Whether an entry of v other than the site's own is above that of held.
+fn is_ahead_elsewhere(held: [u16; SITES], v: [u16; SITES], s: Site) -> bool
+    ensures { λ r. ⌜ r ≡ aheadElsewhere held v s ⌝ }
+{
+    let own = s.0 as usize;
+    let mut found = false;
+    let mut t: usize = 0;
+    while t < SITES {
+        found = found | ((t != own) & (held[t] < v[t]));
+        t += 1;
+    }
+    found
+}
+
+// Whether answer 3 is given to the edit, where so many edits of each site are held.
+pub fn is_early(held: [u16; SITES], e: Edit) -> bool
+    ensures { λ r. ⌜ r ≡ earlyAgainst held e ⌝ }
+{
+    let v = e.vector;
+    let own = record::entry(held, e.site);
+    (own.0 as u32 + 1 < e.seq.0 as u32) | is_ahead_elsewhere(held, v, e.site)
+}
+
+// Whether an entry of v is larger than w's.
+fn is_larger_somewhere(v: [u16; SITES], w: [u16; SITES]) -> bool
+    ensures { λ r. ⌜ r ≡ largerSomewhere v w ⌝ }
+{
+    let mut found = false;
+    let mut s: usize = 0;
+    while s < SITES {
+        found = found | (w[s] < v[s]);
+        s += 1;
+    }
+    found
+}
+
+// Whether e has seen a, whose vector has a larger entry somewhere.
+fn is_torn_by(e: Edit, a: Edit) -> bool
+    ensures { λ r. ⌜ r ≡ tears e a ⌝ }
+{
+    let v = a.vector;
+    let w = e.vector;
+    has_seen(w, a.site, a.seq) & is_larger_somewhere(v, w)
+}
+
+// Whether a is the Create that e targets, and e has seen it.
+fn is_target(e: Edit, a: Edit) -> bool
+    ensures { λ r. ⌜ r ≡ isTarget e a ⌝ }
+{
+    let w = e.vector;
+    (a.kind == CREATE) & is_same(a.site, a.seq, e.tsite, e.tseq) & has_seen(w, a.site, a.seq)
+}
+
+// Whether e is a Set on the Create s.q.
+pub fn is_set_on(s: Site, q: Seq, e: Edit) -> bool
+    ensures { λ r. ⌜ r ≡ isSetOn s q e ⌝ }
+{
+    (e.kind == SET) & is_same(e.tsite, e.tseq, s, q)
+}
+
+// 1 where b holds, else 0.
+fn one_if(b: bool) -> usize
+    ensures { λ r. ⌜ (r ≡ cond b 1 0) × (r ≤ 1) ⌝ }
+{
+    if b { 1 } else { 0 }
+}
+
+// The marks m with bit k, if b holds.
+fn marked_if(b: bool, m: u64, k: usize) -> u64
+    requires { ⌜ (m < 2 ^ k) × (b ≡ true → k < markBits) ⌝ }
+    ensures { λ r. ⌜ r ≡ m + cond b (2 ^ k) 0 ⌝ }
+{
+    if b { m + (1 << k) } else { m }
+}
+
+// The survey with one edit more, a, of those that e asks of.
+fn survey_with(v: Surveyed, a: Edit, e: Edit) -> Surveyed
+    requires { ⌜ Room v a e ⌝ }
+    ensures { λ r. ⌜ r ≡ surveyWith v a e ⌝ }
+{
+    let torn = v.torn | is_torn_by(e, a);
+    let found = v.found | is_target(e, a);
+    let set = is_set_on(e.tsite, e.tseq, a);
+    let object = v.object + one_if((a.kind == CREATE) & !found);
+    let sets = v.sets + one_if(set);
+    let conflicts = marked_if(set & is_conflict(a, e), v.conflicts, v.sets);
+    Surveyed {
+        torn,
+        found,
+        object,
+        sets,
+        conflicts,
+    }
+}
+
+// The survey of the first n records for the edit e, whose object has at most as many Sets as a number has bits.
+pub fn survey(recs: &[u8], n: usize, e: Edit) -> Surveyed
+    requires { ⌜ (n ≤ mostRecords) × (length (setsOn (e .tsite) (e .tseq) (editsOf (now recs) n)) ≤ markBits) ⌝ }
+    ensures { λ r. ⌜ r ≡ surveyOf (editsOf (now (recs .entry)) n) e ⌝ }
+{
+    let mut v = Surveyed {
+        torn: false,
+        found: false,
+        object: 0,
+        sets: 0,
+        conflicts: 0,
+    };
+    let mut i: usize = 0;
+    while i < n {
+        let a = decode_at(recs, i);
+        let next = survey_with(v, a, e);
+        v = next;
+        i += 1;
+    }
+    v
+}
+
+// The place of the edit s.q by the index.
+fn place_at(places: &[u16], s: Site, q: Seq) -> u16
+    ensures { λ r. ⌜ r ≡ placeOf (now (places .entry)) (s .0) (q .0) ⌝ }
+{
+    let at = s.0 as usize * RECORDS + q.0 as usize;
+    if at < places.len() { places[at] } else { 0 }
+}
+
+// The latest edit of site s that e has seen, e itself left out; 0 is none.
+fn latest_seen(e: Edit, s: Site) -> Seq
+    ensures { λ r. ⌜ r .0 ≡ latestSeen e (s .0) ⌝ }
+{
+    let v = e.vector;
+    let q = record::entry(v, s);
+    if (e.site.0 == s.0) & (0 < q.0) {
+        Seq(q.0 - 1)
+    } else {
+        q
+    }
+}
+
+// Whether the vector of the record in place p has an entry larger than w's; the entries are read where they stand.
+fn is_larger_at(recs: &[u8], p: u16, w: [u16; SITES]) -> bool
+    ensures { λ r. ⌜ r ≡ largerSomewhere (recordAt (now (recs .entry)) p .vector) w ⌝ }
+{
+    let at = p as usize * RECORD + AT_VECTOR;
+    let mut found = false;
+    let mut s: usize = 0;
+    while s < SITES {
+        found = found | (w[s] < record::two_at(recs, at + 2 * s));
+        s += 1;
+    }
+    found
+}
+
+// Whether the latest edit of site s that e has seen has a vector with a larger entry somewhere.
+fn is_torn_at(recs: &[u8], places: &[u16], e: Edit, s: Site) -> bool
+    ensures { λ r. ⌜ r ≡ tornAt (now (recs .entry)) (now (places .entry)) e (s .0) ⌝ }
+{
+    let w = e.vector;
+    let q = latest_seen(e, s);
+    let p = place_at(places, s, q);
+    (q.0 != 0) & is_larger_at(recs, p, w)
+}
+
+// Whether answer 4 is given to the edit, by the latest edit of each site that it has seen.
+fn is_torn_by_latest(recs: &[u8], places: &[u16], e: Edit) -> bool
+    ensures { λ r. ⌜ r ≡ tornByLatest (now (recs .entry)) (now (places .entry)) e ⌝ }
+{
+    let mut found = false;
+    let mut s: u8 = 0;
+    while (s as usize) < SITES {
+        found = found | is_torn_at(recs, places, e, Site(s));
+        s += 1;
+    }
+    found
+}
+
+// Whether the edit's target was seen, is held, and is a Create.
+fn is_target_held(held: [u16; SITES], recs: &[u8], places: &[u16], e: Edit) -> bool
+    ensures { λ r. ⌜ r ≡ targetHeld held (now (recs .entry)) (now (places .entry)) e ⌝ }
+{
+    let w = e.vector;
+    let seen = record::entry(w, e.tsite);
+    let have = record::entry(held, e.tsite);
+    let p = place_at(places, e.tsite, e.tseq);
+    let kind = record::byte_at(recs, p as usize * RECORD + AT_KIND);
+    (0 < e.tseq.0) & (e.tseq.0 <= seen.0) & (e.tseq.0 <= have.0) & (kind == CREATE)
+}
+
+// Whether none of answers 1 to 5 is given to the edit, by the counts and the index of the records before it.
+fn is_passing(sites: u8, held: [u16; SITES], recs: &[u8], places: &[u16], e: Edit) -> bool
+    ensures { λ r. ⌜ r ≡ passesAgainst sites held (now (recs .entry)) (now (places .entry)) e ⌝ }
+{
+    let astray = (e.kind == SET) & !is_target_held(held, recs, places, e);
+    !(record::is_unfit(sites, e)
+        | is_repeated(held, e)
+        | is_early(held, e)
+        | is_torn_by_latest(recs, places, e)
+        | astray)
+}
+
+// The first n records in turn: whether each passes 1 to 5 after those before it, and then their counts and index.
+pub fn walk(sites: u8, recs: &[u8], n: usize, places: &mut [u16]) -> Walked
+    requires { ⌜ (sites ≤ mostSites) × (n ≤ mostRecords) × (length (now places) ≡ placesLength) ⌝ }
+    ensures { λ r. ⌜ WalkedOver sites (now (recs .entry)) n r (now (places .exit)) ⌝ }
+{
+    let mut held = [0u16; SITES];
+    let mut i: usize = 0;
+    while i < n {
+        let e = decode_at(recs, i);
+        if !is_passing(sites, held, recs, places, e) {
+            return Walked { ok: false, held };
+        }
+        places[e.site.0 as usize * RECORDS + e.seq.0 as usize] = i as u16;
+        let next = bumped(held, e.site);
+        held = next;
+        i += 1;
+    }
+    Walked { ok: true, held }
 }

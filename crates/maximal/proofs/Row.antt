@@ -3,18 +3,20 @@ use mathlib.Core.Path.{_≡_, refl, sym, _∙_}
 use mathlib.Core.Logic.{_⊎_, inl, inr}
 use mathlib.Core.Bool.{Bool, true, false, not, _&&_, _||_, cond, or-false, or-comm}
 use mathlib.Core.List.{List, [], _∷_, flatMap}
-use Prim.Native.Nat.{ℕ, _^_, _<_}
+use Prim.Native.Nat.{ℕ, suc, _^_, _≤_, _<_}
+use native.Mathlib.Omega.{arith}
 use lib.Dec.{eqb}
-use lib.Bits.{bitAnd, bitOr}
+use lib.Bits.{bitAnd, bitOr, and-le-r}
 use borrow.Author.Tests.{eqb-true, eqb-false, eq-eqb, ne-eqb, not-true}
 use Rattle.ground.specs.Sorted.{any, elem, filter, Ascending}
-use Rattle.ground.proofs.Bools.{both, and-on, either, or-left, or-right, eqb-self}
+use Rattle.ground.proofs.Bools.{off, both, and-on, either, or-left, or-right, eqb-self}
 use Rattle.ground.proofs.Lists.{any-on, any-at, any-flatMap, filter-at, filter-on}
 use Rattle.ground.proofs.Sorted.{any-ascending, is-ascending}
+use Rattle.ground.proofs.Places.{largest}
 use Rattle.maximal.specs.Sets.{_⊆_}
 use Rattle.maximal.specs.Groups.{bit}
 use Rattle.maximal.specs.Step.{compatible, candidate, partOfLarger, offered, dropped, step}
-use Rattle.maximal.proofs.Bits.{part-and, gains}
+use Rattle.maximal.proofs.Bits.{part-and, candidate-below, gains}
 
 -- ---- what a row offers
 
@@ -116,3 +118,31 @@ module _ (n x y : ℕ) (lx : x < 2 ^ n) (ly : y < 2 ^ n) where
   larger-on s d =
       and-on (eqb (bitAnd x y) x) (not (eqb x y)) (eq-eqb (bitAnd x y) x (part-and n x y lx ly .1 s))
       (rw (ne-eqb x y d))
+
+-- ---- a row of numbers below 2 ^ k, of which there is one
+
+module _ (m k : ℕ) (gs : List ℕ) (low : (x : ℕ) → elem x gs ≡ true → x < 2 ^ k) where
+  pub step-below : (x : ℕ) → elem x (step m k gs) ≡ true → x < 2 ^ suc k
+  step-below x h =
+      let (g, e, q) = row-at m k gs x (step-at m k gs x h .0) in
+      elim q [
+        | inl c ↦ rw c (candidate-below m k g (low g e))
+        | inr (c, d) ↦ omega (arith, low g e)
+      ]
+
+  -- what is part of a larger number is smaller
+  part-less : (x y : ℕ) → partOfLarger x y ≡ true → x < y
+  part-less x y h =
+      let (p, d) = both (eqb (bitAnd x y) x) (not (eqb x y)) h in
+      omega (arith, and-le-r x y, eqb-true (bitAnd x y) x p, eqb-false x y (not-true (eqb x y) d))
+
+  -- the largest of what the row offers is not dropped
+  pub step-some : (g : ℕ) → elem g gs ≡ true → (x : ℕ) × (elem x (step m k gs) ≡ true)
+  step-some g e =
+      let (x, r, top) = largest (candidate m k g) (row m k gs) (candidate-on m k gs g e) in
+      (
+        x,
+        step-on m k gs x r (off (dropped k (row m k gs) x) (λ h.
+            let (b, y, ey, by, p) = dropped-at k (row m k gs) x h in
+            omega (arith, top y ey, part-less x y p))),
+      )

@@ -1,3 +1,4 @@
 pub mod Bytes
 pub mod RoundTrip
 pub mod WellFormed
+pub mod Agree

@@ -17,13 +17,13 @@ pub const CREATE: u8 = 1;
 pub const SET: u8 = 2;
 
 // Where each field of a record starts.
-const AT_KIND: usize = 0;
+pub const AT_KIND: usize = 0;
 
 const AT_SITE: usize = 1;
 
 const AT_SEQ: usize = 2;
 
-const AT_VECTOR: usize = 4;
+pub const AT_VECTOR: usize = 4;
 
 const AT_TARGET: usize = AT_VECTOR + 2 * SITES;
 
@@ -55,14 +55,14 @@ pub struct Edit {
 }
 
 // The byte at i, and 0 past the end.
-fn byte_at(s: &[u8], i: usize) -> u8
+pub fn byte_at(s: &[u8], i: usize) -> u8
     ensures { λ r. ⌜ r ≡ getD (now (s .entry)) i 0 ⌝ }
 {
     if i < s.len() { s[i] } else { 0 }
 }
 
 // The number in the two bytes from i on.
-fn two_at(s: &[u8], i: usize) -> u16
+pub fn two_at(s: &[u8], i: usize) -> u16
     requires { ⌜ i < 2 ^ 48 ⌝ }
     ensures { λ r. ⌜ r ≡ two (now (s .entry)) i ⌝ }
 {

@@ -1,3 +1,4 @@
 pub mod Tables
 pub mod Sound
 pub mod Opening
+pub mod Passes

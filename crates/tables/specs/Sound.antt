@@ -9,13 +9,11 @@ use lib.Dec.{eqb, leb, ltb}
 use Rattle.ground.specs.Below.{all}
 use Rattle.record.specs.Layout.{mostSites, recordLength}
 use Rattle.record.specs.Form.{isCreate}
-use Rattle.history.specs.History.{recordAt, editsOf, countFrom, creates, setsOn}
+use Rattle.history.specs.History.{recordAt, editsOf, countFrom, creates, setsOn, mostRecords}
 use Rattle.history.specs.Answers.{recordsPass}
 use Rattle.group.specs.Row.{mostObjects, mostSets, mostGroups}
 use Rattle.tables.specs.declared.Counters.{Counters}
-use Rattle.tables.specs.Tables.{
-  Tables, mostRecords, entryLength, placeAt, setsAt, groupsAt, heldBy, recordsLength, objectsLength, groupsLength,
-}
+use Rattle.tables.specs.Tables.{Tables, entryLength, placeAt, setsAt, groupsAt, heldBy, recordsLength, objectsLength, groupsLength}
 
 -- ---- lengths and limits
 

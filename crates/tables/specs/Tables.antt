@@ -4,17 +4,25 @@ use mathlib.Core.List.{List}
 use lib.ListN.{getD, replicate}
 use Rattle.record.specs.Layout.{mostSites, recordLength}
 use Rattle.record.specs.declared.Edit.{Edit}
-use Rattle.history.specs.History.{editsOf}
+use Rattle.history.specs.History.{mostRecords, editsOf}
 use Rattle.group.specs.Row.{mostObjects, mostGroups}
 use Rattle.tables.specs.declared.Counters.{Counters}
 use Rattle.tables.specs.declared.Answer.{Answer}
 use Rattle.tables.specs.declared.Answer.the-variants.{
-  Done, Malformed, Repeated, Early, Torn, Astray, Full, Crowded, Unsound, BadSites, BadFile, NoRoom, NoLine,
+  Done,
+  Malformed,
+  Repeated,
+  Early,
+  Torn,
+  Astray,
+  Full,
+  Crowded,
+  Unsound,
+  BadSites,
+  BadFile,
+  NoRoom,
+  NoLine,
 }
-
--- the records held, Creates included, are at most so many
-abbrev pub mostRecords : ℕ
-mostRecords = 256
 
 -- ---- the tables as lent: bytes of records; per object the place of its Create, its number of Sets and its number of
 -- groups; the rows of groups
@@ -64,7 +72,7 @@ emptyDrawing n =
 
 -- ---- document 01's number of each answer
 
-unfoldable pub numberOf : Answer → ℕ
+abbrev pub numberOf : Answer → ℕ
 numberOf Done = 0
 numberOf Malformed = 1
 numberOf Repeated = 2

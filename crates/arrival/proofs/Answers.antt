@@ -1,0 +1,41 @@
+-- Demand 2, refusals: an edit is refused only for a listed reason that is present, and always when one is; and 7 is
+-- given exactly when more than 32 maximal sets would exist. Assumes nothing.
+use mathlib.Core.Path.{_≡_, ap, _∙_}
+use mathlib.Core.Logic.{_⊎_, inl, inr}
+use mathlib.Core.Bool.{Bool, true, false, _&&_}
+use mathlib.Core.List.{List, [], _∷_, _++_}
+use Prim.Native.Nat.{ℕ, suc, _+_, _<_}
+use native.Mathlib.Omega.{arith}
+use lib.ListN.{length}
+use lib.Dec.{ltb}
+use Rattle.ground.specs.Sorted.{any}
+use Rattle.record.specs.declared.Edit.{Edit}
+use Rattle.record.specs.Form.{isSet}
+use Rattle.history.specs.History.{recordAt, isTarget, objectOf}
+use Rattle.group.specs.Row.{mostGroups}
+use Rattle.tables.specs.Tables.{Tables, heldBy, placeAt}
+use Rattle.arrival.specs.Arrival.{isCrowded, reasons, answerTo}
+use Rattle.arrival.specs.Truth.{trueGroups}
+use Rattle.arrival.proofs.Reasons.{First, first-present, answer-present}
+use Rattle.arrival.proofs.Faithful.{Faithful, after-true}
+
+-- the answer is 0, or the number of a reason that is present while none before it is
+pub refused-for-a-reason :
+    (t : Tables) (b : List ℕ) → (answerTo t b ≡ 0) ⊎ ((i : ℕ) × (answerTo t b ≡ 1 + i) × First (reasons t b) i)
+unfolding answerTo
+refused-for-a-reason t b = answer-present 1 (reasons t b)
+
+-- and where a reason is present, the first that is gives the answer
+pub reason-refuses : (t : Tables) (b : List ℕ) (i : ℕ) → First (reasons t b) i → answerTo t b ≡ 1 + i
+unfolding answerTo
+reason-refuses t b i f = first-present 1 (reasons t b) i f
+
+-- in a faithful drawing 7's reason is that the object's Sets with the new one have more than 32 maximal sets
+pub crowded-exactly :
+    (t : Tables) → Faithful t → (e : Edit) → isSet e ≡ true → any (isTarget e) (heldBy t) ≡ true →
+    isCrowded t e
+    ≡ ltb mostGroups
+    (length
+    (trueGroups (heldBy t ++ (e ∷ [])) (recordAt (t .records) (placeAt (t .objects) (objectOf e (heldBy t))))))
+unfolding isCrowded
+crowded-exactly t f e k aim = rw k (ap (λ (l : List ℕ). ltb mostGroups (length l)) (after-true t f e k aim))

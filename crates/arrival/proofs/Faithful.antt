@@ -1,0 +1,269 @@
+-- Demand 2's theorem: after any records taken from an empty drawing the tables are sound, and the row of each object is
+-- the ascending list of all maximal conflict-free sets of its Sets. Assumes nothing.
+use mathlib.Core.Path.{_≡_, refl, sym, ap, ap₂, _∙_}
+use mathlib.Core.Logic.{_⊎_, inl, inr}
+use mathlib.Core.Bool.{Bool, true, false, not, _&&_, _||_, cond}
+use mathlib.Core.List.{List, [], _∷_, _++_, append-nil}
+use Prim.Native.Nat.{ℕ, zero, suc, _+_, _-_, _*_, _/_, _%_, _^_, _≤_, _<_}
+use native.Mathlib.Omega.{arith}
+use native.Mathlib.Decide.{ℕ-discrete}
+use lib.ListN.{length, getD, take, drop, replicate, length-drop}
+use lib.Seq.{drop-cons}
+use lib.Dec.{eqb}
+use borrow.Author.Tests.{eqb-true}
+use Rattle.ground.specs.Sorted.{any, filter}
+use Rattle.ground.proofs.Bools.{clash}
+use Rattle.ground.proofs.Numbers.{last}
+use Rattle.ground.proofs.Snoc.{filter-snoc}
+use Rattle.record.specs.declared.Site.{Site}
+use Rattle.record.specs.declared.Seq.{Seq}
+use Rattle.record.specs.declared.Edit.{Edit}
+use Rattle.record.specs.Layout.{mostSites}
+use Rattle.record.specs.Record.{decodeOf}
+use Rattle.record.specs.Form.{isCreate, isSet}
+use Rattle.causal.specs.Causal.{sameEdit, doConflict}
+use Rattle.causal.proofs.Laws.{same-reflexive, conflict-symmetric, conflict-irreflexive}
+use Rattle.maximal.specs.Groups.{bit, every, groups}
+use Rattle.maximal.specs.Step.{step}
+use Rattle.maximal.specs.Arrivals.{rel, groupsOf}
+use Rattle.maximal.proofs.Groups.{no-elements}
+use Rattle.maximal.proofs.Arrivals.{arrives}
+use Rattle.history.specs.History.{recordAt, editsOf, isSetOn, setsOn, isTarget, objectOf, conflictsWith}
+use Rattle.history.proofs.Conflicts.{conflicts-bit}
+use Rattle.group.specs.Row.{mostGroups, row, putRow}
+use Rattle.tables.specs.Tables.{Tables, Outcome, outcomeOf, heldBy, placeAt, groupsAt, emptyDrawing, entryLength}
+use Rattle.tables.proofs.Facts.{Sound}
+use Rattle.arrival.specs.Arrival.{
+  matesOf, rowOf, groupsAfter, answerTo, putRecord, putEntry, putCounts, withCreate, withSet, taken, acceptanceOf,
+}
+use Rattle.arrival.specs.Truth.{noEdit, trueGroups}
+use Rattle.arrival.proofs.Reasons.{Accepted, accepted, accepted-target, set-or-create}
+use Rattle.arrival.proofs.Records.{put-before, put-here}
+use Rattle.arrival.proofs.Entries.{
+  counts-place, counts-groups, other-place, other-groups, entry-here, entry-other,
+}
+use Rattle.arrival.proofs.Rows.{row-back, row-other}
+use Rattle.arrival.proofs.Kept.{room, held-after}
+use Rattle.arrival.proofs.KeptCreate.{create-not-set, no-set-held}
+use Rattle.arrival.proofs.Aimed.{object-less, target-site, target-seq, row-fits}
+use Rattle.arrival.proofs.KeptSet.{not-on}
+use Rattle.arrival.proofs.Keeps.{Kept, empty-kept, acceptance-keeps}
+
+-- the row of every object is the list of all maximal conflict-free sets of its Sets
+abbrev pub RowsTrue : Tables → Type 0
+RowsTrue t =
+    (o : ℕ) → o < t .counters .objects →
+    rowOf t o ≡ trueGroups (heldBy t) (recordAt (t .records) (placeAt (t .objects) o))
+
+pub record Faithful (t : Tables) : Type 0 where
+  pub kept : Kept t
+  pub rows : RowsTrue t
+
+-- ---- the groups of an object, one edit more
+
+groups-same :
+    (es : List Edit) (c e : Edit) → isSetOn (c .site) (c .seq) e ≡ false → trueGroups (es ++ (e ∷ [])) c ≡ trueGroups es c
+unfolding trueGroups setsOn
+groups-same es c e d =
+    ap (groupsOf noEdit doConflict)
+    (filter-snoc (isSetOn (c .site) (c .seq)) es e
+    ∙ rw d (append-nil (filter (isSetOn (c .site) (c .seq)) es)))
+
+mask-bits :
+    (e : Edit) (ms : List Edit) (i : ℕ) → i < length ms → bit (conflictsWith e ms) i ≡ doConflict e (getD ms i noEdit)
+unfolding bit
+mask-bits e ms i l =
+    ap (λ (x : ℕ). eqb x 1) (conflicts-bit e ms noEdit i l) ∙ one (doConflict (getD ms i noEdit) e)
+    ∙ conflict-symmetric (getD ms i noEdit) e
+  where
+    one : (b : Bool) → eqb (cond b 1 0) 1 ≡ b
+    one true = refl
+    one false = refl
+
+-- a Set on the object stands last among its Sets
+sets-more :
+    (es : List Edit) (e : Edit) → isSet e ≡ true →
+    setsOn (e .tsite) (e .tseq) (es ++ (e ∷ [])) ≡ setsOn (e .tsite) (e .tseq) es ++ (e ∷ [])
+unfolding setsOn
+sets-more es e k = filter-snoc (isSetOn (e .tsite) (e .tseq)) es e ∙ rw (k, same-reflexive (e .tsite) (e .tseq))
+
+-- the step gives the groups of the Sets with the new one
+groups-more :
+    (es : List Edit) (e : Edit) → isSet e ≡ true → (c : Edit) → c .site ≡ e .tsite → c .seq ≡ e .tseq →
+    step (conflictsWith e (setsOn (e .tsite) (e .tseq) es)) (length (setsOn (e .tsite) (e .tseq) es)) (trueGroups es c)
+    ≡ trueGroups (es ++ (e ∷ [])) c
+unfolding trueGroups
+groups-more es e k c hs hq =
+    let ms = setsOn (e .tsite) (e .tseq) es in
+    let old : setsOn (c .site) (c .seq) es ≡ ms = ap₂ (λ (x : Site) (y : Seq). setsOn x y es) hs hq in
+    let new : setsOn (c .site) (c .seq) (es ++ (e ∷ [])) ≡ ms ++ (e ∷ [])
+    = ap₂ (λ (x : Site) (y : Seq). setsOn x y (es ++ (e ∷ []))) hs hq ∙ sets-more es e k in
+    ap (λ (l : List Edit). step (conflictsWith e ms) (length ms) (groupsOf noEdit doConflict l)) old
+    ∙ arrives noEdit doConflict conflict-symmetric conflict-irreflexive ms e (conflictsWith e ms) (mask-bits e ms)
+    ∙ ap (groupsOf noEdit doConflict) (sym new)
+
+groups-first : (es : List Edit) (c : Edit) → length (setsOn (c .site) (c .seq) es) ≡ 0 → trueGroups es c ≡ 0 ∷ []
+unfolding trueGroups
+groups-first es c h = go (setsOn (c .site) (c .seq) es) h
+  where
+    go : (ms : List Edit) → length ms ≡ 0 → groupsOf noEdit doConflict ms ≡ 0 ∷ []
+    go [] h = unfold groupsOf in no-elements (rel noEdit doConflict []) every
+    go (m ∷ ms) h = absurd (omega arith)
+
+-- ---- a Set whose target is held: the step gives all maximal sets of the object's Sets with the new one
+
+pub after-true :
+    (t : Tables) (f : Faithful t) (e : Edit) → isSet e ≡ true → any (isTarget e) (heldBy t) ≡ true →
+    groupsAfter t e
+    ≡ trueGroups (heldBy t ++ (e ∷ [])) (recordAt (t .records) (placeAt (t .objects) (objectOf e (heldBy t))))
+unfolding groupsAfter
+after-true t f e k aim =
+    let s = f .kept .isSound in
+    let o = objectOf e (heldBy t) in
+    ap (step (conflictsWith e (matesOf t e)) (length (matesOf t e))) (f .rows o (object-less t s e aim))
+    ∙ groups-more (heldBy t) e k (recordAt (t .records) (placeAt (t .objects) o)) (target-site t s e aim)
+    (target-seq t s e aim)
+
+-- ---- a Create
+
+module _ (t : Tables) (b : List ℕ) (f : Faithful t) (a : Accepted t b) where
+  abbrev e : Edit
+  e = decodeOf b
+
+  abbrev n : ℕ
+  n = t .counters .records
+
+  abbrev rs : List ℕ
+  rs = t .records
+
+  abbrev rs′ : List ℕ
+  rs′ = putRecord rs n b
+
+  abbrev s : Sound t
+  s = f .kept .isSound
+
+  abbrev wide : length (t .counters .held) ≡ mostSites
+  wide = f .kept .wide
+
+  -- the groups of the object whose Create is in place p
+  groups-in : (p : ℕ) → p < n →
+      trueGroups (editsOf rs′ (n + 1)) (recordAt rs′ p) ≡ trueGroups (heldBy t ++ (e ∷ [])) (recordAt rs p)
+  groups-in p l =
+      ap₂ trueGroups (held-after t b s wide a) (put-before rs n b (a .whole) (room t b s wide a) p l)
+
+  module _ (k : isCreate e ≡ true) where
+    abbrev m : ℕ
+    m = t .counters .objects
+
+    abbrev os′ : List ℕ
+    os′ = putEntry (t .objects) m n 0 1
+
+    create-old : (o : ℕ) → o < m →
+        take (groupsAt os′ o) (row o (t .groups)) ≡ trueGroups (editsOf rs′ (n + 1)) (recordAt rs′ (placeAt os′ o))
+    create-old o l =
+        let (ep, ek, eg) = entry-other (t .objects) m n 0 1 o (λ q. omega arith) in
+        let p = placeAt (t .objects) o in
+        ap (λ (g : ℕ). take g (row o (t .groups))) eg
+        ∙ f .rows o l
+        ∙ sym (groups-same (heldBy t) (recordAt rs p) e (rw (create-not-set e k)))
+        ∙ sym (groups-in p (s .object o l .entry .place))
+        ∙ ap (λ (q : ℕ). trueGroups (editsOf rs′ (n + 1)) (recordAt rs′ q)) (sym ep)
+
+    first-row : take 1 (row m (t .groups)) ≡ 0 ∷ []
+    first-row =
+        let l : m * mostGroups < length (t .groups) = omega (arith, s .groups-long, a .create-room k) in
+        rw (drop-cons (t .groups) (m * mostGroups) 0 l)
+        (ap (λ (x : ℕ). x ∷ []) (s .groups-zero (m * mostGroups) (omega arith) l))
+
+    create-new :
+        take (groupsAt os′ m) (row m (t .groups)) ≡ trueGroups (editsOf rs′ (n + 1)) (recordAt rs′ (placeAt os′ m))
+    create-new =
+        let (ep, ek, eg) = entry-here (t .objects) m n 0 1 (omega (arith, s .objects-long, a .create-room k)) in
+        ap (λ (g : ℕ). take g (row m (t .groups))) eg
+        ∙ first-row
+        ∙ sym (groups-same (heldBy t) e e (rw (create-not-set e k))
+        ∙ groups-first (heldBy t) e (no-set-held t b s wide a))
+        ∙ sym (ap₂ trueGroups (held-after t b s wide a) (put-here rs n b (a .whole) (room t b s wide a)))
+        ∙ ap (λ (q : ℕ). trueGroups (editsOf rs′ (n + 1)) (recordAt rs′ q)) (sym ep)
+
+    pub create-keeps-true : RowsTrue (withCreate t b)
+    unfolding withCreate
+    create-keeps-true o l =
+        let l′ : o < suc m = omega arith in
+        elim (last l′) [ inl j ↦ create-old o j | inr q ↦ rw q create-new ]
+
+  -- ---- a Set
+
+  module _ (k : isSet e ≡ true) where
+    abbrev x : ℕ
+    x = objectOf e (heldBy t)
+
+    abbrev aim : any (isTarget e) (heldBy t) ≡ true
+    aim = accepted-target t b a k
+
+    abbrev after : List ℕ
+    after = groupsAfter t e
+
+    abbrev gs′ : List ℕ
+    gs′ = putRow x (t .groups) (after ++ replicate (mostGroups - length after) 0)
+
+    abbrev sets : ℕ
+    sets = length (matesOf t e) + 1
+
+    abbrev os″ : List ℕ
+    os″ = putCounts (t .objects) x sets (length after)
+
+    set-its : take (groupsAt os″ x) (row x gs′) ≡ trueGroups (editsOf rs′ (n + 1)) (recordAt rs′ (placeAt os″ x))
+    set-its =
+        let fits : x * entryLength + entryLength ≤ length (t .objects)
+        = omega (arith, s .objects-long, s .few-objects, object-less t s e aim) in
+        ap (λ (g : ℕ). take g (row x gs′)) (counts-groups (t .objects) x sets (length after) fits)
+        ∙ row-back (t .groups) x after (a .few k) (row-fits t s e aim)
+        ∙ after-true t f e k aim
+        ∙ sym (groups-in (placeAt (t .objects) x) (s .object x (object-less t s e aim) .entry .place))
+        ∙ ap (λ (q : ℕ). trueGroups (editsOf rs′ (n + 1)) (recordAt rs′ q))
+        (sym (counts-place (t .objects) x sets (length after) fits))
+
+    set-other : (o : ℕ) → o < t .counters .objects → (o ≡ x → ⊥) →
+        take (groupsAt os″ o) (row o gs′) ≡ trueGroups (editsOf rs′ (n + 1)) (recordAt rs′ (placeAt os″ o))
+    set-other o l d =
+        let p = placeAt (t .objects) o in
+        ap₂ take (other-groups (t .objects) o x sets (length after) d)
+        (row-other (t .groups) x after (a .few k) (row-fits t s e aim) o d (omega (arith, s .groups-long, s .few-objects)))
+        ∙ f .rows o l
+        ∙ sym (groups-same (heldBy t) (recordAt rs p) e (not-on t b s a k wide o l d))
+        ∙ sym (groups-in p (s .object o l .entry .place))
+        ∙ ap (λ (q : ℕ). trueGroups (editsOf rs′ (n + 1)) (recordAt rs′ q))
+        (sym (other-place (t .objects) o x sets (length after) d))
+
+    pub set-keeps-true : RowsTrue (withSet t b)
+    unfolding withSet
+    set-keeps-true o l =
+        let l′ : o < t .counters .objects = omega arith in
+        elim (ℕ-discrete o x) [ yes q ↦ rw q set-its | no d ↦ set-other o l′ d ]
+
+-- ---- any records from an empty drawing
+
+pub acceptance-faithful : (t : Tables) (b : List ℕ) → Faithful t → Faithful (acceptanceOf t b .after)
+acceptance-faithful t b f = record { kept = acceptance-keeps t b (f .kept); rows = rows }
+  where
+    both-kinds : answerTo t b ≡ 0 → RowsTrue (taken t b)
+    both-kinds h = go (isCreate (decodeOf b)) refl
+      where
+        go : (c : Bool) → isCreate (decodeOf b) ≡ c → RowsTrue (cond c (withCreate t b) (withSet t b))
+        go true c = create-keeps-true t b f (accepted t b h) c
+        go false c = set-keeps-true t b f (accepted t b h) (set-or-create t b (accepted t b h) c)
+
+    rows : RowsTrue (acceptanceOf t b .after)
+    rows = unfold acceptanceOf in go (eqb (answerTo t b) 0) refl
+      where
+        go : (x : Bool) → eqb (answerTo t b) 0 ≡ x →
+            RowsTrue (cond x (outcomeOf 0 (taken t b)) (outcomeOf (answerTo t b) t) .after)
+        go true h = both-kinds (eqb-true (answerTo t b) 0 h)
+        go false h = f .rows
+
+pub empty-faithful : (n : ℕ) → 1 ≤ n → n ≤ mostSites → Faithful (emptyDrawing n)
+empty-faithful n some few = record { kept = empty-kept n some few; rows = rows }
+  where
+    rows : RowsTrue (emptyDrawing n)
+    rows = unfold emptyDrawing in λ o l. absurd (omega arith)

@@ -1,0 +1,15 @@
+pub mod Records
+pub mod Reasons
+pub mod Objects
+pub mod Kept
+pub mod Entries
+pub mod KeptCreate
+pub mod Rows
+pub mod Aimed
+pub mod KeptSet
+pub mod Keeps
+pub mod Faithful
+pub mod Answers
+pub mod Replayed
+pub mod Identifiers
+pub mod Values

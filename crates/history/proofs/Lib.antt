@@ -1,0 +1,9 @@
+pub mod History
+pub mod Conflicts
+pub mod OneMore
+pub mod Against
+pub mod Passed
+pub mod Latest
+pub mod InPlace
+pub mod Walking
+pub mod Ranks

@@ -1,0 +1,7 @@
+pub mod Zeros
+pub mod Groups
+pub mod Counts
+pub mod Tallies
+pub mod Sound
+pub mod Opening
+pub mod Facts

@@ -1,0 +1,90 @@
+// The entries of the lent slices: read with 0 past the end, tested for zero, and made zero.
+ghost use mathlib.Core.Path.{_≡_};
+ghost use lib.ListN.{length, getD, replicate};
+ghost use Rattle.tables.specs.Sound.{zeroFrom};
+
+// The number at i, and 0 past the end.
+pub fn at16(s: &[u16], i: usize) -> u16
+    ensures { λ r. ⌜ r ≡ getD (now (s .entry)) i 0 ⌝ }
+{
+    if i < s.len() { s[i] } else { 0 }
+}
+
+// The group at i, and 0 past the end.
+pub fn at64(s: &[u64], i: usize) -> u64
+    ensures { λ r. ⌜ r ≡ getD (now (s .entry)) i 0 ⌝ }
+{
+    if i < s.len() { s[i] } else { 0 }
+}
+
+// Whether every byte from k on is zero.
+pub fn is_zero_from8(s: &[u8], k: usize) -> bool
+    ensures { λ r. ⌜ r ≡ zeroFrom (now (s .entry)) k ⌝ }
+{
+    let mut zero = true;
+    let mut i = k;
+    while i < s.len() {
+        zero = zero & (s[i] == 0);
+        i += 1;
+    }
+    zero
+}
+
+// Whether every number from k on is zero.
+pub fn is_zero_from16(s: &[u16], k: usize) -> bool
+    ensures { λ r. ⌜ r ≡ zeroFrom (now (s .entry)) k ⌝ }
+{
+    let mut zero = true;
+    let mut i = k;
+    while i < s.len() {
+        zero = zero & (s[i] == 0);
+        i += 1;
+    }
+    zero
+}
+
+// Whether every group from k on is zero.
+pub fn is_zero_from64(s: &[u64], k: usize) -> bool
+    ensures { λ r. ⌜ r ≡ zeroFrom (now (s .entry)) k ⌝ }
+{
+    let mut zero = true;
+    let mut i = k;
+    while i < s.len() {
+        zero = zero & (s[i] == 0);
+        i += 1;
+    }
+    zero
+}
+
+// Makes every byte of the records zero.
+pub fn clear_records(records: &mut [u8])
+    ensures { λ r. ⌜ now (records .exit) ≡ replicate (length (now (records .entry))) 0 ⌝ }
+{
+    let mut i: usize = 0;
+    while i < records.len() {
+        records[i] = 0;
+        i += 1;
+    }
+}
+
+// Makes every number of the objects zero.
+pub fn clear_objects(objects: &mut [u16])
+    ensures { λ r. ⌜ now (objects .exit) ≡ replicate (length (now (objects .entry))) 0 ⌝ }
+{
+    let mut o: usize = 0;
+    while o < objects.len() {
+        objects[o] = 0;
+        o += 1;
+    }
+}
+
+// Makes every group zero.
+pub fn clear_groups(groups: &mut [u64])
+    ensures { λ r. ⌜ now (groups .exit) ≡ replicate (length (now (groups .entry))) 0 ⌝ }
+{
+    let mut g: usize = 0;
+    while g < groups.len() {
+        groups[g] = 0;
+        g += 1;
+    }
+}
