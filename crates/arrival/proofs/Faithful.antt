@@ -37,7 +37,7 @@ use Rattle.arrival.specs.Arrival.{
   matesOf, rowOf, groupsAfter, answerTo, putRecord, putEntry, putCounts, withCreate, withSet, taken, acceptanceOf,
 }
 use Rattle.arrival.specs.Truth.{noEdit, trueGroups}
-use Rattle.arrival.proofs.Reasons.{Accepted, accepted, accepted-target, set-or-create}
+use Rattle.arrival.proofs.Admitted.{Accepted, accepted, admitted-target, set-or-create}
 use Rattle.arrival.proofs.Records.{put-before, put-here}
 use Rattle.arrival.proofs.Entries.{
   counts-place, counts-groups, other-place, other-groups, entry-here, entry-other,
@@ -149,7 +149,7 @@ module _ (t : Tables) (b : List ℕ) (f : Faithful t) (a : Accepted t b) where
   groups-in : (p : ℕ) → p < n →
       trueGroups (editsOf rs′ (n + 1)) (recordAt rs′ p) ≡ trueGroups (heldBy t ++ (e ∷ [])) (recordAt rs p)
   groups-in p l =
-      ap₂ trueGroups (held-after t b s wide a) (put-before rs n b (a .whole) (room t b s wide a) p l)
+      ap₂ trueGroups (held-after t b s wide (a .admitted)) (put-before rs n b (a .admitted .whole) (room t b s wide (a .admitted)) p l)
 
   module _ (k : isCreate e ≡ true) where
     abbrev m : ℕ
@@ -171,19 +171,19 @@ module _ (t : Tables) (b : List ℕ) (f : Faithful t) (a : Accepted t b) where
 
     first-row : take 1 (row m (t .groups)) ≡ 0 ∷ []
     first-row =
-        let l : m * mostGroups < length (t .groups) = omega (arith, s .groups-long, a .create-room k) in
+        let l : m * mostGroups < length (t .groups) = omega (arith, s .groups-long, a .admitted .create-room k) in
         rw (drop-cons (t .groups) (m * mostGroups) 0 l)
         (ap (λ (x : ℕ). x ∷ []) (s .groups-zero (m * mostGroups) (omega arith) l))
 
     create-new :
         take (groupsAt os′ m) (row m (t .groups)) ≡ trueGroups (editsOf rs′ (n + 1)) (recordAt rs′ (placeAt os′ m))
     create-new =
-        let (ep, ek, eg) = entry-here (t .objects) m n 0 1 (omega (arith, s .objects-long, a .create-room k)) in
+        let (ep, ek, eg) = entry-here (t .objects) m n 0 1 (omega (arith, s .objects-long, a .admitted .create-room k)) in
         ap (λ (g : ℕ). take g (row m (t .groups))) eg
         ∙ first-row
         ∙ sym (groups-same (heldBy t) e e (rw (create-not-set e k))
-        ∙ groups-first (heldBy t) e (no-set-held t b s wide a))
-        ∙ sym (ap₂ trueGroups (held-after t b s wide a) (put-here rs n b (a .whole) (room t b s wide a)))
+        ∙ groups-first (heldBy t) e (no-set-held t b s wide (a .admitted)))
+        ∙ sym (ap₂ trueGroups (held-after t b s wide (a .admitted)) (put-here rs n b (a .admitted .whole) (room t b s wide (a .admitted))))
         ∙ ap (λ (q : ℕ). trueGroups (editsOf rs′ (n + 1)) (recordAt rs′ q)) (sym ep)
 
     pub create-keeps-true : RowsTrue (withCreate t b)
@@ -199,7 +199,7 @@ module _ (t : Tables) (b : List ℕ) (f : Faithful t) (a : Accepted t b) where
     x = objectOf e (heldBy t)
 
     abbrev aim : any (isTarget e) (heldBy t) ≡ true
-    aim = accepted-target t b a k
+    aim = admitted-target t b (a .admitted) k
 
     abbrev after : List ℕ
     after = groupsAfter t e
@@ -252,7 +252,7 @@ acceptance-faithful t b f = record { kept = acceptance-keeps t b (f .kept); rows
       where
         go : (c : Bool) → isCreate (decodeOf b) ≡ c → RowsTrue (cond c (withCreate t b) (withSet t b))
         go true c = create-keeps-true t b f (accepted t b h) c
-        go false c = set-keeps-true t b f (accepted t b h) (set-or-create t b (accepted t b h) c)
+        go false c = set-keeps-true t b f (accepted t b h) (set-or-create t b (accepted t b h .admitted) c)
 
     rows : RowsTrue (acceptanceOf t b .after)
     rows = unfold acceptanceOf in go (eqb (answerTo t b) 0) refl

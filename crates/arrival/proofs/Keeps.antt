@@ -19,7 +19,7 @@ use Rattle.tables.specs.Tables.{Tables, Outcome, outcomeOf, emptyDrawing, recor
 use Rattle.tables.specs.Sound.{sound}
 use Rattle.tables.proofs.Facts.{Sound, ZeroFrom, sound-at, sound-on}
 use Rattle.arrival.specs.Arrival.{answerTo, withCreate, withSet, taken, acceptanceOf, arrivalOf}
-use Rattle.arrival.proofs.Reasons.{accepted, set-or-create}
+use Rattle.arrival.proofs.Admitted.{accepted, set-or-create}
 use Rattle.arrival.proofs.KeptCreate.{create-keeps-sound}
 use Rattle.arrival.proofs.KeptSet.{set-keeps-sound}
 
@@ -76,13 +76,13 @@ module _ (t : Tables) (b : List ℕ) (k : Kept t) where
       go : (c : Bool) → isCreate (decodeOf b) ≡ c → Kept (cond c (withCreate t b) (withSet t b))
       go true c =
           record {
-            isSound = create-keeps-sound t b (k .isSound) (k .wide) (accepted t b h) c;
+            isSound = create-keeps-sound t b (k .isSound) (k .wide) (accepted t b h .admitted) c;
             wide = unfold withCreate in bumped count;
           }
       go false c =
           record {
             isSound =
-                set-keeps-sound t b (k .isSound) (accepted t b h) (set-or-create t b (accepted t b h) c) (k .wide);
+                set-keeps-sound t b (k .isSound) (accepted t b h) (set-or-create t b (accepted t b h .admitted) c) (k .wide);
             wide = unfold withSet in bumped count;
           }
 

@@ -30,7 +30,7 @@ use Rattle.group.specs.Row.{mostSets}
 use Rattle.tables.specs.Tables.{Tables, heldBy, recordsLength}
 use Rattle.tables.proofs.Facts.{Sound, Entry, ZeroFrom}
 use Rattle.arrival.specs.Arrival.{counted, putRecord}
-use Rattle.arrival.proofs.Reasons.{Accepted, accepted-passes}
+use Rattle.arrival.proofs.Admitted.{Admitted, admitted-passes}
 use Rattle.arrival.proofs.Records.{
   put-long, put-behind, put-before, put-here, put-edits-before, put-edits,
 }
@@ -56,7 +56,7 @@ sets-snoc s q es e = filter-length-snoc (isSetOn s q) es e
 
 -- ---- the tables with one record more
 
-module _ (t : Tables) (b : List ℕ) (s : Sound t) (wide : length (t .counters .held) ≡ mostSites) (a : Accepted t b) where
+module _ (t : Tables) (b : List ℕ) (s : Sound t) (wide : length (t .counters .held) ≡ mostSites) (a : Admitted t b) where
   abbrev e : Edit
   e = decodeOf b
 
@@ -112,7 +112,7 @@ module _ (t : Tables) (b : List ℕ) (s : Sound t) (wide : length (t .counters .
             (all-at n f (s .pass) p m)
         | inr q ↦
             rw (q, put-edits-before rs n b (a .whole) room n (omega arith), put-here rs n b (a .whole) room)
-            (accepted-passes t b a)
+            (admitted-passes t b a)
       ]))
 
   -- past the last record there are zeros

@@ -25,7 +25,7 @@ use Rattle.group.specs.Row.{mostGroups}
 use Rattle.tables.specs.Tables.{Tables, heldBy, placeAt, entryLength}
 use Rattle.tables.proofs.Facts.{Sound, Entry, Row, Object}
 use Rattle.arrival.specs.Arrival.{putEntry, putRecord, withCreate}
-use Rattle.arrival.proofs.Reasons.{Accepted}
+use Rattle.arrival.proofs.Admitted.{Admitted}
 use Rattle.arrival.proofs.Records.{put-here, put-edits-before}
 use Rattle.arrival.proofs.Objects.{same-parts, chosen-none}
 use Rattle.arrival.proofs.Entries.{object-of, entry-long, entry-past, entry-here, entry-other}
@@ -38,7 +38,7 @@ create-not-set e h =
     let k : e .kind ≡ createKind = eqb-true (e .kind) createKind h in
     ne-eqb (e .kind) setKind (λ q. omega arith)
 
-module _ (t : Tables) (b : List ℕ) (s : Sound t) (wide : length (t .counters .held) ≡ mostSites) (a : Accepted t b) where
+module _ (t : Tables) (b : List ℕ) (s : Sound t) (wide : length (t .counters .held) ≡ mostSites) (a : Admitted t b) where
   abbrev e : Edit
   e = decodeOf b
 

@@ -26,7 +26,7 @@ use Rattle.group.specs.Row.{mostGroups, mostSets, row, putRow}
 use Rattle.tables.specs.Tables.{Tables, heldBy, placeAt, setsAt, groupsAt, entryLength}
 use Rattle.tables.proofs.Facts.{Sound, Entry, Row, Object}
 use Rattle.arrival.specs.Arrival.{matesOf, rowOf, groupsAfter, putCounts, putRecord, withSet}
-use Rattle.arrival.proofs.Reasons.{Accepted, accepted-target}
+use Rattle.arrival.proofs.Admitted.{Accepted, admitted-target}
 use Rattle.arrival.proofs.Objects.{same-parts}
 use Rattle.arrival.proofs.Aimed.{
   object-less, target, target-site, target-seq, sets-are, row-fits, after-ascending, after-below, after-some,
@@ -59,7 +59,7 @@ module _ (t : Tables) (b : List ℕ) (s : Sound t) (a : Accepted t b) (k : isSet
   p = placeAt (t .objects) o
 
   abbrev aim : any (isTarget e) (heldBy t) ≡ true
-  aim = accepted-target t b a k
+  aim = admitted-target t b (a .admitted) k
 
   abbrev after : List ℕ
   after = groupsAfter t e
@@ -98,7 +98,7 @@ module _ (t : Tables) (b : List ℕ) (s : Sound t) (a : Accepted t b) (k : isSet
         = ap₂ (λ (y : Site) (z : Seq). isSet e && sameEdit (e .tsite) (e .tseq) y z) (target-site t s e aim) (target-seq t s e aim)
         ∙ rw (k, same-reflexive (e .tsite) (e .tseq)) in
         let grown : Entry rs′ (n + 1) o p (setsAt (t .objects) o + 1)
-        = entry-grown t b s wide a o p (setsAt (t .objects) o) x on (omega (arith, (sets-are t s e aim), a .set-room k)) in
+        = entry-grown t b s wide (a .admitted) o p (setsAt (t .objects) o) x on (omega (arith, (sets-are t s e aim), a .admitted .set-room k)) in
         object-of rs′ (n + 1) os′ gs′ o (counts-place (t .objects) o (length (matesOf t e) + 1) (length after) fits)
         (counts-sets (t .objects) o (length (matesOf t e) + 1) (length after) fits)
         (counts-groups (t .objects) o (length (matesOf t e) + 1) (length after) fits)
@@ -127,7 +127,7 @@ module _ (t : Tables) (b : List ℕ) (s : Sound t) (a : Accepted t b) (k : isSet
         object-of rs′ (n + 1) os′ gs′ q (other-place (t .objects) q o m (length after) d)
         (other-sets (t .objects) q o m (length after) d)
         (other-groups (t .objects) q o m (length after) d)
-        (entry-kept t b s wide a q (placeAt (t .objects) q) (setsAt (t .objects) q) (x .entry) (not-on q l d))
+        (entry-kept t b s wide (a .admitted) q (placeAt (t .objects) q) (setsAt (t .objects) q) (x .entry) (not-on q l d))
         (other-row (t .groups) o after (a .few k) (row-fits t s e aim) q (setsAt (t .objects) q) (groupsAt (t .objects) q) d (x .row))
 
     pub set-keeps-sound : Sound (withSet t b)
@@ -137,24 +137,24 @@ module _ (t : Tables) (b : List ℕ) (s : Sound t) (a : Accepted t b) (k : isSet
         let long : length os′ ≡ length (t .objects) = counts-long (t .objects) o m (length after) in
         let none : _≡_ {A = ℕ} (cond (isCreate e) 1 0) 0 = ap (λ (x : Bool). cond x 1 0) (set-not-create e k) in
         record {
-          records-long = records-long-after t b s wide a;
+          records-long = records-long-after t b s wide (a .admitted);
           objects-long = long ∙ s .objects-long;
           groups-long = row-put-long (t .groups) o after (a .few k) (row-fits t s e aim) ∙ s .groups-long;
           some-sites = s .some-sites;
           few-sites = s .few-sites;
-          few-records = omega (arith, a .room);
+          few-records = omega (arith, a .admitted .room);
           few-objects = omega (arith, s .few-objects);
-          held = counts-after t b s wide a;
+          held = counts-after t b s wide (a .admitted);
           objects =
               ap (λ (x : ℕ). x + 0) (s .objects)
-              ∙ sym (ap (λ (es : List Edit). length (creates es)) (held-after t b s wide a)
+              ∙ sym (ap (λ (es : List Edit). length (creates es)) (held-after t b s wide (a .admitted))
               ∙ creates-snoc (heldBy t) e ∙ rw none);
-          pass = pass-after t b s wide a;
+          pass = pass-after t b s wide (a .admitted);
           object =
               λ q l.
               let l′ : q < t .counters .objects = omega arith in
               elim (ℕ-discrete q o) [ yes h ↦ rw h its-object | no d ↦ other-object q l′ d ];
-          records-zero = records-zero-after t b s wide a;
+          records-zero = records-zero-after t b s wide (a .admitted);
           objects-zero =
               λ i l j.
               counts-other (t .objects) o m (length after) i (λ q. omega (arith, (object-less t s e aim))) (λ q. omega (arith, (object-less t s e aim)))

@@ -1,5 +1,7 @@
 pub mod Records
 pub mod Reasons
+pub mod Six
+pub mod Admitted
 pub mod Objects
 pub mod Kept
 pub mod Entries
@@ -13,3 +15,6 @@ pub mod Answers
 pub mod Replayed
 pub mod Identifiers
 pub mod Values
+pub mod Outcomes
+pub mod SetReady
+pub mod Accepting

@@ -2,7 +2,8 @@
 -- proofs/ tie them to `Arrival`. Assumes nothing.
 use Prim.Native.Nat.{ℕ}
 use mathlib.Core.List.{List, [], _∷_}
-use mathlib.Core.Bool.{Bool, not, _&&_, _||_}
+use mathlib.Core.Path.{_≡_}
+use mathlib.Core.Bool.{Bool, true, not, _&&_, _||_}
 use lib.Dec.{eqb, leb}
 use Rattle.record.specs.declared.Edit.{Edit}
 use Rattle.record.specs.Layout.{recordLength}
@@ -11,10 +12,11 @@ use Rattle.record.specs.Form.{isCreate, isSet, unfit, malformed}
 use Rattle.history.specs.declared.Surveyed.{Surveyed}
 use Rattle.history.specs.History.{mostRecords}
 use Rattle.history.specs.Answers.{isRepeated, isEarly, isTorn, isAstray}
-use Rattle.history.specs.Code.{repeatedAgainst, earlyAgainst}
+use Rattle.history.specs.Code.{repeatedAgainst, earlyAgainst, surveyOf}
 use Rattle.group.specs.Row.{mostObjects, mostSets}
 use Rattle.tables.specs.declared.Counters.{Counters}
 use Rattle.tables.specs.Tables.{Tables, heldBy}
+use Rattle.tables.specs.Sound.{sound}
 use Rattle.arrival.specs.Arrival.{isFull, firstOf}
 
 -- 6, where the edit's object has k Sets
@@ -48,3 +50,11 @@ six t b =
 
 unfoldable pub sixth : Tables → List ℕ → ℕ
 sixth t b = firstOf 1 (six t b)
+
+-- a Set that passes 1 to 6 at sound tables, with its survey
+pub record Ready (t : Tables) (b : List ℕ) (e : Edit) (v : Surveyed) : Type 0 where
+  pub isSound : sound t ≡ true
+  pub edit : e ≡ decodeOf b
+  pub surveyed : v ≡ surveyOf (heldBy t) e
+  pub passes : sixth t b ≡ 0
+  pub set : isSet e ≡ true

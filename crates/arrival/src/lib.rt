@@ -9,17 +9,14 @@ ghost use mathlib.Core.List.{[], _∷_};
 ghost use Prim.Native.Nat.{_+_, _≤_, _<_};
 ghost use lib.ListN.{length, getD};
 ghost use Rattle.record.specs.Layout.{recordLength};
-ghost use Rattle.record.specs.Record.{decodeOf};
-ghost use Rattle.record.specs.Form.{isSet};
 ghost use Rattle.history.specs.History.{mostRecords};
-ghost use Rattle.history.specs.Code.{surveyOf};
-ghost use Rattle.group.specs.Row.{mostObjects, mostSets, mostGroups};
-ghost use Rattle.tables.specs.Tables.{tablesOf, heldBy, outcomeOf, numberOf, recordsLength, objectsLength};
+ghost use Rattle.group.specs.Row.{mostObjects};
+ghost use Rattle.tables.specs.Tables.{tablesOf, outcomeOf, numberOf, recordsLength, objectsLength};
 ghost use Rattle.tables.specs.Sound.{sound};
 ghost use Rattle.arrival.specs.Arrival.{
   firstOf, counted, putRecord, putCounts, putEntry, acceptanceOf, arrivalOf
 };
-ghost use Rattle.arrival.specs.Code.{fullWith, sixBy, sixth};
+ghost use Rattle.arrival.specs.Code.{fullWith, sixBy, Ready};
 
 // An answer to an arriving edit, and the counters after it.
 #[repr(C)]
@@ -131,4 +128,124 @@ fn refusal(c: Counters, bytes: usize, e: Edit, v: Surveyed) -> Answer
     let five = (e.kind == SET) & !v.found;
     let six = is_full(c, e, v.sets);
     first_reason(one, two, three, v.torn, five, six)
+}
+
+// Takes a Create that passes 1 to 6: its record, its object's entry and the counters after it.
+fn take_create(c: Counters, records: &mut [u8], objects: &mut [u16], rec: &[u8], s: Site) -> Counters
+    requires { ⌜ (c .records < mostRecords)
+        × (c .objects < mostObjects)
+        × (length (now records) ≡ recordsLength)
+        × (length (now objects) ≡ objectsLength)
+        × (length (now rec) ≡ recordLength)
+        × (getD (c .held) (s .0) 0 < mostRecords) ⌝ }
+    ensures { λ r. ⌜ (r ≡ counted c s 1)
+        × (now (records .exit) ≡ putRecord (now (records .entry)) (c .records) (now (rec .entry)))
+        × (now (objects .exit) ≡ putEntry (now (objects .entry)) (c .objects) (c .records) 0 1) ⌝ }
+{
+    put_record(records, c.records as usize, rec);
+    put_object(objects, c.objects as usize, c.records);
+    counted_with(c, s, 1)
+}
+
+// Stores a Set on object o, which now has k Sets and g groups: its record, the entry's counts and the counters after it.
+fn store_set(
+    c: Counters,
+    records: &mut [u8],
+    objects: &mut [u16],
+    rec: &[u8],
+    s: Site,
+    o: usize,
+    k: u16,
+    g: u16,
+) -> Counters
+    requires { ⌜ (c .records < mostRecords)
+        × (c .objects ≤ mostObjects)
+        × (o < mostObjects)
+        × (length (now records) ≡ recordsLength)
+        × (length (now objects) ≡ objectsLength)
+        × (length (now rec) ≡ recordLength)
+        × (getD (c .held) (s .0) 0 < mostRecords) ⌝ }
+    ensures { λ r. ⌜ (r ≡ counted c s 0)
+        × (now (records .exit) ≡ putRecord (now (records .entry)) (c .records) (now (rec .entry)))
+        × (now (objects .exit) ≡ putCounts (now (objects .entry)) o k g) ⌝ }
+{
+    put_record(records, c.records as usize, rec);
+    put_counts(objects, o, k, g);
+    counted_with(c, s, 0)
+}
+
+// Takes a Set that passes 1 to 6, or refuses it with 7 and leaves everything as it was.
+fn take_set(
+    c: Counters,
+    records: &mut [u8],
+    objects: &mut [u16],
+    groups: &mut [u64],
+    rec: &[u8],
+    e: Edit,
+    v: Surveyed,
+) -> Arrived
+    requires { ⌜ Ready (tablesOf c (now records) (now objects) (now groups)) (now rec) e v ⌝ }
+    ensures { λ r. ⌜ outcomeOf (numberOf (r .answer))
+        (tablesOf (r .counters) (now (records .exit)) (now (objects .exit)) (now (groups .exit)))
+        ≡ acceptanceOf (tablesOf c (now (records .entry)) (now (objects .entry)) (now (groups .entry)))
+        (now (rec .entry)) ⌝ }
+{
+    let o = v.object;
+    let k = v.sets;
+    let g = objects[o * ENTRY + 2];
+    let m = group::step_at(groups, o, g as usize, v.conflicts, k);
+    if group::GROUPS < m {
+        return Arrived {
+            answer: Answer::Crowded,
+            counters: c,
+        };
+    }
+    let d = store_set(c, records, objects, rec, e.site, o, k as u16 + 1, m as u16);
+    Arrived {
+        answer: Answer::Done,
+        counters: d,
+    }
+}
+
+// An arrival at tables that are known to be sound, as those that an arrival left are.
+pub fn accept(c: Counters, records: &mut [u8], objects: &mut [u16], groups: &mut [u64], rec: &[u8]) -> Arrived
+    requires { ⌜ sound (tablesOf c (now records) (now objects) (now groups)) ≡ true ⌝ }
+    ensures { λ r. ⌜ outcomeOf (numberOf (r .answer))
+        (tablesOf (r .counters) (now (records .exit)) (now (objects .exit)) (now (groups .exit)))
+        ≡ acceptanceOf (tablesOf c (now (records .entry)) (now (objects .entry)) (now (groups .entry)))
+        (now (rec .entry)) ⌝ }
+{
+    let e = record::decode(rec);
+    let v = history::survey(records, c.records as usize, e);
+    let answer = refusal(c, rec.len(), e, v);
+    if tables::number(answer) != 0 {
+        return Arrived {
+            answer,
+            counters: c,
+        };
+    }
+    if e.kind == CREATE {
+        let d = take_create(c, records, objects, rec, e.site);
+        return Arrived {
+            answer: Answer::Done,
+            counters: d,
+        };
+    }
+    take_set(c, records, objects, groups, rec, e, v)
+}
+
+// An arriving edit, any bytes, at any tables: 8, then 1 to 7 in turn, the first that applies; else the edit is taken.
+pub fn arrive(c: Counters, records: &mut [u8], objects: &mut [u16], groups: &mut [u64], rec: &[u8]) -> Arrived
+    ensures { λ r. ⌜ outcomeOf (numberOf (r .answer))
+        (tablesOf (r .counters) (now (records .exit)) (now (objects .exit)) (now (groups .exit)))
+        ≡ arrivalOf (tablesOf c (now (records .entry)) (now (objects .entry)) (now (groups .entry)))
+        (now (rec .entry)) ⌝ }
+{
+    if !tables::is_sound(c, records, objects, groups) {
+        return Arrived {
+            answer: Answer::Unsound,
+            counters: c,
+        };
+    }
+    accept(c, records, objects, groups, rec)
 }

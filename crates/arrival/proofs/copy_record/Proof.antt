@@ -1,17 +1,16 @@
-use Rattle.record.specs.Layout.{recordLength}
-use Rattle.ground.proofs.Parts.{copy-more}
-use denote.Ref.{now}
+-- `arrival::copy_record` meets its contract. Assumes nothing.
+use mathlib.Core.List.{_++_, append-nil}
+use mathlib.Core.Path.{_≡_}
+use Prim.Native.Nat.{_≤_, _-_}
 use native.Mathlib.Omega.{arith}
 use lib.Seq.{take-all}
 use lib.ListN.{length, take, drop, length-set, drop-of-length-le}
-use mathlib.Core.List.{_++_, append-nil}
-use mathlib.Core.Path.{_≡_, _∙_}
-use Prim.Native.Nat.{_≤_, _-_}
+use denote.Ref.{now}
 use borrow.Author.Needs.{needs}
+use Rattle.record.specs.Layout.{recordLength}
+use Rattle.ground.proofs.Parts.{copy-more}
 use Rattle.arrival.proofs.copy_record.Statement.{statement}
 use Rattle.arrival.proofs.copy_record.Tie as tie
-use Rattle.arrival.proofs.copy_record.Reads as reads
-use Rattle.arrival.proofs.copy_record.Lts as lts
 
 abbrev Inv-loop : tie.InvT-loop
 Inv-loop d₀ src i₀ d i = (i ≤ recordLength) × (length d ≡ length d₀) × (d ≡ take i src ++ drop i d₀)

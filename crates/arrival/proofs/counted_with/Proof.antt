@@ -1,9 +1,7 @@
+-- `arrival::counted_with` meets its contract. Assumes nothing.
 use borrow.Author.Needs.{needs}
 use Rattle.arrival.proofs.counted_with.Statement.{statement}
 use Rattle.arrival.proofs.counted_with.Tie as tie
-use Rattle.arrival.proofs.counted_with.Reads as reads
-use Rattle.arrival.proofs.counted_with.Lts as lts
-use Rattle.history.proofs.bumped.Reads as bumped-reads
 
 bumped-requires : tie.Need-bumped-requires
 bumped-requires c κs = search needs

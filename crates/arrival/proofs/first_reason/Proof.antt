@@ -1,8 +1,7 @@
+-- `arrival::first_reason` meets its contract. Assumes nothing.
 use Rattle.arrival.specs.Arrival.{firstOf}
 use Rattle.arrival.proofs.first_reason.Statement.{statement}
 use Rattle.arrival.proofs.first_reason.Tie as tie
-use Rattle.arrival.proofs.first_reason.Reads as reads
-use Rattle.arrival.proofs.first_reason.Lts as lts
 
 returns : tie.Need-returns
 unfolding firstOf

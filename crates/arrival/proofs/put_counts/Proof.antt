@@ -1,10 +1,9 @@
-use lib.ListN.{length-set}
+-- `arrival::put_counts` meets its contract. Assumes nothing.
 use native.Mathlib.Omega.{arith}
+use lib.ListN.{length-set}
 use borrow.Author.Needs.{needs}
 use Rattle.arrival.proofs.put_counts.Statement.{statement}
 use Rattle.arrival.proofs.put_counts.Tie as tie
-use Rattle.arrival.proofs.put_counts.Reads as reads
-use Rattle.arrival.proofs.put_counts.Lts as lts
 
 mul-at : tie.Need-mul-at
 mul-at c = search needs

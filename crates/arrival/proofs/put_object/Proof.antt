@@ -1,10 +1,9 @@
-use lib.ListN.{length-set}
+-- `arrival::put_object` meets its contract. Assumes nothing.
 use native.Mathlib.Omega.{arith}
+use lib.ListN.{length-set}
 use borrow.Author.Needs.{needs}
 use Rattle.arrival.proofs.put_object.Statement.{statement}
 use Rattle.arrival.proofs.put_object.Tie as tie
-use Rattle.arrival.proofs.put_object.Reads as reads
-use Rattle.arrival.proofs.put_object.Lts as lts
 
 mul-at : tie.Need-mul-at
 mul-at c = search needs

@@ -1,17 +1,15 @@
-use Rattle.record.specs.Layout.{recordLength}
-use borrow.Rule.Slice.PartMut.{post-is}
-use native.Mathlib.Omega.{arith}
-use lib.ListN.{take, drop}
-use Prim.Native.Nat.{ℕ, _+_, _*_}
+-- `arrival::put_record` meets its contract. Assumes nothing.
 use mathlib.Core.List.{List, _++_}
 use mathlib.Core.Path.{ap, _∙_}
+use Prim.Native.Nat.{ℕ, _+_, _*_}
+use native.Mathlib.Omega.{arith}
+use lib.ListN.{take, drop}
 use denote.Ref.{now}
+use borrow.Rule.Slice.PartMut.{post-is}
 use borrow.Author.Needs.{needs}
+use Rattle.record.specs.Layout.{recordLength}
 use Rattle.arrival.proofs.put_record.Statement.{statement}
 use Rattle.arrival.proofs.put_record.Tie as tie
-use Rattle.arrival.proofs.put_record.Reads as reads
-use Rattle.arrival.proofs.put_record.Lts as lts
-use Rattle.arrival.proofs.copy_record.Reads as copy-record-reads
 
 mul-at : tie.Need-mul-at
 mul-at c = search needs

@@ -1,13 +1,7 @@
+-- `arrival::refusal` meets its contract. Assumes nothing.
 use borrow.Author.Needs.{needs}
 use Rattle.arrival.proofs.refusal.Statement.{statement}
 use Rattle.arrival.proofs.refusal.Tie as tie
-use Rattle.arrival.proofs.refusal.Reads as reads
-use Rattle.arrival.proofs.refusal.Lts as lts
-use Rattle.arrival.proofs.first_reason.Reads as first-reason-reads
-use Rattle.arrival.proofs.is_full.Reads as is-full-reads
-use Rattle.history.proofs.is_early.Reads as is-early-reads
-use Rattle.history.proofs.is_repeated.Reads as is-repeated-reads
-use Rattle.record.proofs.is_unfit.Reads as is-unfit-reads
 
 is-unfit-requires : tie.Need-is-unfit-requires
 is-unfit-requires c κs = search needs

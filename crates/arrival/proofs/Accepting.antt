@@ -1,0 +1,84 @@
+-- What the code of an arrival at sound tables has in hand: the edit decoded, the survey of the records, and the first of
+-- 1 to 6. Assumes nothing.
+use mathlib.Core.Path.{_≡_, sym, ap, _∙_}
+use mathlib.Core.Bool.{Bool, true, false}
+use mathlib.Core.List.{List}
+use Prim.Native.Nat.{ℕ, _≤_, _<_}
+use lib.ListN.{length, getD}
+use lib.Dec.{eqb}
+use Rattle.record.specs.declared.Edit.{Edit}
+use Rattle.record.specs.Layout.{recordLength}
+use Rattle.record.specs.Record.{decodeOf}
+use Rattle.record.specs.Form.{isCreate, isSet}
+use Rattle.history.specs.declared.Surveyed.{Surveyed}
+use Rattle.history.specs.History.{mostRecords, editsOf, setsOn}
+use Rattle.history.specs.Code.{markBits, surveyOf}
+use Rattle.group.specs.Row.{mostObjects}
+use Rattle.tables.specs.Tables.{Tables, Outcome, outcomeOf, tablesOf, heldBy, recordsLength, objectsLength}
+use Rattle.tables.specs.Sound.{sound}
+use Rattle.tables.proofs.Facts.{Sound, sound-at}
+use Rattle.arrival.specs.Arrival.{firstOf, counted, putRecord, putEntry, withCreate, acceptanceOf}
+use Rattle.arrival.specs.Code.{sixBy, sixth, Ready}
+use Rattle.arrival.proofs.Six.{six-are}
+use Rattle.arrival.proofs.Admitted.{admitted, set-or-create}
+use Rattle.arrival.proofs.Objects.{sets-few}
+use Rattle.arrival.proofs.Outcomes.{create-is, count-room}
+
+module _ (t : Tables) (h : sound t ≡ true) where
+  -- the records may be surveyed for any edit
+  pub surveyable :
+      (e : Edit) →
+      (t .counters .records ≤ mostRecords)
+      × (length (setsOn (e .tsite) (e .tseq) (editsOf (t .records) (t .counters .records))) ≤ markBits)
+  surveyable e = (sound-at t h .few-records, sets-few t (sound-at t h) (e .tsite) (e .tseq))
+
+  module _ (b : List ℕ) (e : Edit) (de : e ≡ decodeOf b) where
+    -- the code's 1 to 6 are the definition's
+    pub sixth-is :
+        (v : Surveyed) → v ≡ surveyOf (heldBy t) e → firstOf 1 (sixBy (t .counters) (length b) e v) ≡ sixth t b
+    sixth-is v dv = rw (dv, de) (six-are t (sound-at t h) b)
+
+    module _ (z : sixth t b ≡ 0) where
+      -- ---- a Create
+
+      pub create-given :
+          isCreate e ≡ true →
+          (t .counters .records < mostRecords)
+          × (t .counters .objects < mostObjects)
+          × (length (t .records) ≡ recordsLength)
+          × (length (t .objects) ≡ objectsLength)
+          × (length b ≡ recordLength)
+          × (getD (t .counters .held) (e .site .0) 0 < mostRecords)
+      create-given k =
+          let s = sound-at t h in
+          let a = admitted t b z in
+          (
+            a .room,
+            a .create-room (sym (ap isCreate de) ∙ k),
+            s .records-long,
+            s .objects-long,
+            a .whole,
+            rw de (count-room t b s a),
+          )
+
+      pub create-taken :
+          isCreate e ≡ true →
+          outcomeOf 0
+          (tablesOf (counted (t .counters) (e .site) 1) (putRecord (t .records) (t .counters .records) b)
+          (putEntry (t .objects) (t .counters .objects) (t .counters .records) 0 1)
+          (t .groups))
+          ≡ acceptanceOf t b
+      unfolding withCreate
+      create-taken k = rw de (create-is t b z (sym (ap isCreate de) ∙ k))
+
+      -- ---- a Set
+
+      pub set-ready : (v : Surveyed) → v ≡ surveyOf (heldBy t) e → isCreate e ≡ false → Ready t b e v
+      set-ready v dv k =
+          record {
+            isSound = h;
+            edit = de;
+            surveyed = dv;
+            passes = z;
+            set = ap isSet de ∙ set-or-create t b (admitted t b z) (sym (ap isCreate de) ∙ k);
+          }

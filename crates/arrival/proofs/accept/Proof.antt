@@ -1,0 +1,130 @@
+-- `arrival::accept` meets its contract. Assumes nothing.
+use mathlib.Core.Path.{_≡_, sym, _∙_}
+use denote.Ref.{now}
+use borrow.Author.Tests.{eq-eqb, ne-eqb}
+use borrow.Author.Needs.{needs}
+use Rattle.tables.specs.Tables.{tablesOf, numberOf}
+use Rattle.record.specs.Layout.{createKind}
+use Rattle.arrival.proofs.Accepting.{surveyable, sixth-is, create-given, create-taken, set-ready}
+use Rattle.arrival.proofs.Outcomes.{refused-is}
+use Rattle.arrival.specs.Code.{sixth}
+use Rattle.arrival.proofs.accept.Statement.{statement}
+use Rattle.arrival.proofs.accept.Tie as tie
+
+decode-requires : tie.Need-decode-requires
+decode-requires c κs = search needs
+
+cast-survey : tie.Need-cast-survey
+cast-survey c = search needs
+
+survey-requires : tie.Need-survey-requires
+survey-requires c κs =
+    let a = c .before .before .before .before .before .before .before .args in
+    surveyable (tablesOf (a .c) (now (a .records)) (now (a .objects)) (now (a .groups))) (c .before .before .before .before .before .before .before .pre) (c .before .before .decode .result)
+
+refusal-requires : tie.Need-refusal-requires
+refusal-requires c κs = search needs
+
+number-requires : tie.Need-number-requires
+number-requires c κs = search needs
+
+same-length : tie.Need-same-length
+same-length c = search needs
+
+returns : tie.Need-returns
+returns c =
+    let s = c .before .before .before .before .before .before .before .before .before .before .before in
+    let a = s .args in
+    let t = tablesOf (a .c) (now (a .records)) (now (a .objects)) (now (a .groups)) in
+    let b = now (a .rec) in
+    let v = c .before .before .before .survey in
+    let d = c .before .before .before .before .before .before .decode in
+    let r = c .before .before .refusal in
+    let q : numberOf (r .result) ≡ sixth t b
+    = r .ensures ∙ sixth-is t (s .pre) b (d .result) (d .ensures) (v .result) (v .ensures) in
+    let other : sixth t b ≡ 0 → ⊥ = λ z. c .if1 .taken (c .before .number .ensures ∙ q ∙ z) in
+    rw q (refused-is t b other)
+
+take-create-requires : tie.Need-take-create-requires
+take-create-requires c κs =
+    let s = c .before .before .before .before .before .before .before .before .before .before .before .before .before .before .before in
+    let a = s .args in
+    let t = tablesOf (a .c) (now (a .records)) (now (a .objects)) (now (a .groups)) in
+    let b = now (a .rec) in
+    let v = c .before .before .before .before .before .before .before .survey in
+    let d = c .before .before .before .before .before .before .before .before .before .before .decode in
+    let r = c .before .before .before .before .before .before .refusal in
+    let q : numberOf (r .result) ≡ sixth t b
+    = r .ensures ∙ sixth-is t (s .pre) b (d .result) (d .ensures) (v .result) (v .ensures) in
+    let z : sixth t b ≡ 0 = sym q ∙ sym (c .before .before .before .before .before .number .ensures) ∙ c .before .before .before .before .if1 .left in
+    create-given t (s .pre) b (d .result) (d .ensures) z (eq-eqb (d .result .kind) createKind (c .before .before .if2 .taken))
+
+same-length-2 : tie.Need-same-length-2
+same-length-2 c = search needs
+
+same-length-3 : tie.Need-same-length-3
+same-length-3 c = search needs
+
+returns-2 : tie.Need-returns-2
+returns-2 c =
+    let s = c .before .before .before .before .before .before .before .before .before .before .before .before .before .before .before .before .before .before .before .before in
+    let a = s .args in
+    let t = tablesOf (a .c) (now (a .records)) (now (a .objects)) (now (a .groups)) in
+    let b = now (a .rec) in
+    let v = c .before .before .before .before .before .before .before .before .before .before .before .before .survey in
+    let d = c .before .before .before .before .before .before .before .before .before .before .before .before .before .before .before .decode in
+    let r = c .before .before .before .before .before .before .before .before .before .before .before .refusal in
+    let q : numberOf (r .result) ≡ sixth t b
+    = r .ensures ∙ sixth-is t (s .pre) b (d .result) (d .ensures) (v .result) (v .ensures) in
+    let z : sixth t b ≡ 0 = sym q ∙ sym (c .before .before .before .before .before .before .before .before .before .before .number .ensures) ∙ c .before .before .before .before .before .before .before .before .before .if1 .left in
+    let m = c .before .before .before .before .take-create in
+    rw (m .ensures .0, m .ensures .1, m .ensures .2)
+    (create-taken t (s .pre) b (d .result) (d .ensures) z (eq-eqb (d .result .kind) createKind (c .before .before .before .before .before .before .before .if2 .taken)))
+
+take-set-requires : tie.Need-take-set-requires
+take-set-requires c κs =
+    let s = c .before .before .before .before .before .before .before .before .before .before .before .before .before .before .before .before in
+    let a = s .args in
+    let t = tablesOf (a .c) (now (a .records)) (now (a .objects)) (now (a .groups)) in
+    let b = now (a .rec) in
+    let v = c .before .before .before .before .before .before .before .before .survey in
+    let d = c .before .before .before .before .before .before .before .before .before .before .before .decode in
+    let r = c .before .before .before .before .before .before .before .refusal in
+    let q : numberOf (r .result) ≡ sixth t b
+    = r .ensures ∙ sixth-is t (s .pre) b (d .result) (d .ensures) (v .result) (v .ensures) in
+    let z : sixth t b ≡ 0 = sym q ∙ sym (c .before .before .before .before .before .before .number .ensures) ∙ c .before .before .before .before .before .if1 .left in
+    set-ready t (s .pre) b (d .result) (d .ensures) z (v .result) (v .ensures)
+    (ne-eqb (d .result .kind) createKind (c .before .before .before .if2 .left))
+
+same-length-4 : tie.Need-same-length-4
+same-length-4 c = search needs
+
+same-length-5 : tie.Need-same-length-5
+same-length-5 c = search needs
+
+same-length-6 : tie.Need-same-length-6
+same-length-6 c = search needs
+
+returns-3 : tie.Need-returns-3
+returns-3 c = c .before .before .before .before .before .before .take-set .ensures
+
+pub accept-spec : {M : Type 1} → statement M
+accept-spec =
+    tie.close
+    (tie.spec
+    decode-requires
+    cast-survey
+    survey-requires
+    refusal-requires
+    number-requires
+    same-length
+    returns
+    take-create-requires
+    same-length-2
+    same-length-3
+    returns-2
+    take-set-requires
+    same-length-4
+    same-length-5
+    same-length-6
+    returns-3)
