@@ -12,7 +12,6 @@ pub mod KeptSet
 pub mod Keeps
 pub mod Faithful
 pub mod Answers
-pub mod Replayed
 pub mod Identifiers
 pub mod Values
 pub mod Outcomes

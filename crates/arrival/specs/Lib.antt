@@ -1,5 +1,4 @@
 pub mod Arrival
-pub mod Replay
 pub mod Truth
 pub mod Versions
 pub mod Code

@@ -66,7 +66,7 @@ pub struct Opened {
 }
 
 // Whether tables of these lengths are as long as they must be.
-fn lengths_right(records: usize, objects: usize, groups: usize) -> bool
+pub fn lengths_right(records: usize, objects: usize, groups: usize) -> bool
     ensures { λ r. ⌜ r ≡ (eqb records recordsLength && eqb objects objectsLength && eqb groups groupsLength) ⌝ }
 {
     (records == RECORDS * RECORD) & (objects == OBJECTS * ENTRY) & (groups == OBJECTS * GROUPS)
@@ -80,14 +80,14 @@ fn sites_right(n: u8) -> bool
 }
 
 // Whether the counters are within their limits.
-fn within_limits(c: Counters) -> bool
+pub fn within_limits(c: Counters) -> bool
     ensures { λ r. ⌜ r ≡ withinLimits c ⌝ }
 {
     sites_right(c.sites) & (c.records as usize <= RECORDS) & (c.objects as usize <= OBJECTS)
 }
 
 // Whether two lists of counts agree.
-fn counts_agree(given: [u16; SITES], counted: [u16; SITES]) -> bool
+pub fn counts_agree(given: [u16; SITES], counted: [u16; SITES]) -> bool
     ensures { λ r. ⌜ r ≡ all mostSites (λ s. eqb (getD given s 0) (getD counted s 0)) ⌝ }
 {
     let mut agree = true;

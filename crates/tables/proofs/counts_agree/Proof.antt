@@ -5,9 +5,9 @@ use native.Mathlib.Numerals.{add-one}
 use native.Mathlib.Omega.{arith}
 use lib.Dec.{eqb}
 use lib.ListN.{getD}
+use borrow.Author.Needs.{needs}
 use Rattle.ground.specs.Below.{all}
 use Rattle.record.specs.Layout.{mostSites}
-use borrow.Author.Needs.{needs}
 use Rattle.tables.proofs.counts_agree.Statement.{statement}
 use Rattle.tables.proofs.counts_agree.Tie as tie
 

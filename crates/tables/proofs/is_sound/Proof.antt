@@ -1,19 +1,14 @@
+-- `tables::is_sound` meets its contract. Assumes nothing.
+use mathlib.Core.Bool.{true}
+use mathlib.Core.Path.{_≡_, refl, sym, _∙_}
+use denote.Ref.{now}
+use borrow.Author.Tests.{not-true, not-false}
+use borrow.Author.Needs.{needs}
 use Rattle.tables.proofs.Sound.{few, few-sites, wrong-lengths, past-limits, not-passing, walk-passed}
 use Rattle.tables.specs.Sound.{withinLimits}
 use Rattle.tables.specs.Tables.{tablesOf}
-use borrow.Author.Tests.{not-true, not-false}
-use mathlib.Core.Bool.{true, false}
-use mathlib.Core.Path.{_≡_, refl, sym, _∙_}
-use denote.Ref.{now}
-use borrow.Author.Needs.{needs}
 use Rattle.tables.proofs.is_sound.Statement.{statement}
 use Rattle.tables.proofs.is_sound.Tie as tie
-use Rattle.tables.proofs.is_sound.Reads as reads
-use Rattle.tables.proofs.is_sound.Lts as lts
-use Rattle.history.proofs.walk.Reads as walk-reads
-use Rattle.tables.proofs.lengths_right.Reads as lengths-right-reads
-use Rattle.tables.proofs.rest_sound.Reads as rest-sound-reads
-use Rattle.tables.proofs.within_limits.Reads as within-limits-reads
 
 lengths-right-requires : tie.Need-lengths-right-requires
 lengths-right-requires c κs = search needs

@@ -2,9 +2,9 @@
 use mathlib.Core.Path.{sym, _∙_}
 use denote.Ref.{now}
 use borrow.Author.Tests.{not-true, not-false}
+use borrow.Author.Needs.{needs}
 use Rattle.tables.specs.Tables.{tablesOf}
 use Rattle.tables.proofs.Opening.{refused-lengths, refused-sites, opened}
-use borrow.Author.Needs.{needs}
 use Rattle.tables.proofs.open.Statement.{statement}
 use Rattle.tables.proofs.open.Tie as tie
 

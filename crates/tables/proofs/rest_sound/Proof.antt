@@ -1,8 +1,8 @@
 -- `tables::rest_sound` meets its contract. Assumes nothing.
 use denote.Ref.{now}
+use borrow.Author.Needs.{needs}
 use Rattle.tables.specs.Tables.{tablesOf}
 use Rattle.tables.proofs.Sound.{few, rest-is}
-use borrow.Author.Needs.{needs}
 use Rattle.tables.proofs.rest_sound.Statement.{statement}
 use Rattle.tables.proofs.rest_sound.Tie as tie
 

@@ -1,8 +1,8 @@
 -- `tables::objects::drawing_sound` meets its contract: the tallies by the index are the numbers of Sets. Assumes
 -- nothing.
 use denote.Ref.{now}
-use Rattle.tables.proofs.Tallies.{tallied}
 use borrow.Author.Needs.{needs}
+use Rattle.tables.proofs.Tallies.{tallied}
 use Rattle.tables.proofs.objects.drawing_sound.Statement.{statement}
 use Rattle.tables.proofs.objects.drawing_sound.Tie as tie
 

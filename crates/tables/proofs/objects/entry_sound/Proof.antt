@@ -5,12 +5,12 @@ use lib.Dec.{eqb, leb, ltb}
 use lib.ListN.{length}
 use denote.Ref.{now}
 use borrow.Author.Tests.{ltb-true}
+use borrow.Author.Needs.{needs}
 use Rattle.record.specs.Form.{isCreate}
 use Rattle.history.specs.History.{recordAt, editsOf, creates, setsOn}
 use Rattle.group.specs.Row.{mostSets}
 use Rattle.tables.specs.Sound.{entrySound}
 use Rattle.tables.proofs.Sound.{where-first}
-use borrow.Author.Needs.{needs}
 use Rattle.tables.proofs.objects.entry_sound.Statement.{statement}
 use Rattle.tables.proofs.objects.entry_sound.Tie as tie
 

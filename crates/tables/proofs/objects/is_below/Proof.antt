@@ -1,7 +1,7 @@
 -- `tables::objects::is_below` meets its contract: a group has no bit past its room. Assumes nothing.
 use native.Mathlib.Omega.{arith}
-use Rattle.tables.proofs.Groups.{no-bit-past, all-bits}
 use borrow.Author.Needs.{needs}
+use Rattle.tables.proofs.Groups.{no-bit-past, all-bits}
 use Rattle.tables.proofs.objects.is_below.Statement.{statement}
 use Rattle.tables.proofs.objects.is_below.Tie as tie
 

@@ -5,10 +5,10 @@ use Prim.Native.Nat.{_-_, _≤_}
 use native.Mathlib.Omega.{arith}
 use lib.ListN.{length, length-set}
 use denote.Ref.{now}
+use borrow.Author.Needs.{needs}
 use Rattle.history.specs.History.{editsOf, creates, mostRecords}
 use Rattle.tables.specs.Passes.{Numbered}
 use Rattle.tables.proofs.Counts.{creates-none, creates-more, creates-le, numbered-more}
-use borrow.Author.Needs.{needs}
 use Rattle.tables.proofs.objects.number_creates.Statement.{statement}
 use Rattle.tables.proofs.objects.number_creates.Tie as tie
 

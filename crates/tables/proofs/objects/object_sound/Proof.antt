@@ -1,6 +1,6 @@
 -- `tables::objects::object_sound` meets its contract. Assumes nothing.
-use Rattle.tables.specs.Sound.{objectSound}
 use borrow.Author.Needs.{needs}
+use Rattle.tables.specs.Sound.{objectSound}
 use Rattle.tables.proofs.objects.object_sound.Statement.{statement}
 use Rattle.tables.proofs.objects.object_sound.Tie as tie
 

@@ -3,9 +3,9 @@ use mathlib.Core.Path.{_≡_}
 use Prim.Native.Nat.{_-_, _≤_}
 use native.Mathlib.Numerals.{add-one}
 use native.Mathlib.Omega.{arith}
+use borrow.Author.Needs.{needs}
 use Rattle.ground.specs.Below.{all}
 use Rattle.tables.specs.Sound.{objectSound}
-use borrow.Author.Needs.{needs}
 use Rattle.tables.proofs.objects.objects_sound.Statement.{statement}
 use Rattle.tables.proofs.objects.objects_sound.Tie as tie
 

@@ -3,10 +3,10 @@ use mathlib.Core.Path.{_≡_}
 use Prim.Native.Nat.{_-_, _≤_}
 use native.Mathlib.Numerals.{add-one}
 use native.Mathlib.Omega.{arith}
+use borrow.Author.Needs.{needs}
 use Rattle.ground.specs.Below.{all}
 use Rattle.group.specs.Row.{mostGroups}
 use Rattle.tables.specs.Sound.{slotSound, rowSound}
-use borrow.Author.Needs.{needs}
 use Rattle.tables.proofs.objects.row_sound.Statement.{statement}
 use Rattle.tables.proofs.objects.row_sound.Tie as tie
 

@@ -6,10 +6,10 @@ use native.Mathlib.Omega.{arith}
 use lib.Seq.{set-out}
 use lib.ListN.{getD, set, length, length-set}
 use denote.Ref.{now}
+use borrow.Author.Needs.{needs}
 use Rattle.history.specs.History.{mostRecords}
 use Rattle.tables.specs.Passes.{Aimed}
 use Rattle.tables.proofs.Counts.{aimed-none, aimed-le, aimed-more}
-use borrow.Author.Needs.{needs}
 use Rattle.tables.proofs.objects.tally_sets.Statement.{statement}
 use Rattle.tables.proofs.objects.tally_sets.Tie as tie
 

@@ -54,13 +54,14 @@ sameTables t u =
     && sameList (t .objects) (u .objects)
     && sameList (t .groups) (u .groups)
 
-unfoldable pub isTrue : Tables → Bool
-isTrue t =
+-- no record is refused, and they give these very tables
+unfoldable pub givesBack : Tables → Bool
+givesBack t =
     let r = replayOf (t .counters .sites) (t .records) (t .counters .records) in
-    lengthsRight (t .records) (t .objects) (t .groups)
-    && withinLimits (t .counters)
-    && eqb (r .answer) 0
-    && sameTables t (r .after)
+    eqb (r .answer) 0 && sameTables t (r .after)
+
+unfoldable pub isTrue : Tables → Bool
+isTrue t = lengthsRight (t .records) (t .objects) (t .groups) && withinLimits (t .counters) && givesBack t
 
 unfoldable pub checkOf : Tables → ℕ
 checkOf t = cond (isTrue t) 0 8

@@ -7,8 +7,8 @@ use Prim.Native.Nat.{ℕ, zero, suc, _≤_}
 use lib.Dec.{eqb}
 use Rattle.record.specs.Layout.{mostSites}
 use Rattle.history.specs.History.{bytesAt}
-use Rattle.arrival.specs.Replay.{Replayed, replayOf, oneMore}
+use Rattle.replay.specs.Replay.{Replayed, replayOf, oneMore}
 use Rattle.arrival.proofs.Faithful.{Faithful, empty-faithful, acceptance-faithful}
 
 pub replay-faithful :
     (sites : ℕ) → 1 ≤ sites → sites ≤ mostSites → (rs : List ℕ) (n : ℕ) → Faithful (replayOf sites rs n .after)

@@ -1,0 +1,3 @@
+pub mod AnyRecords
+pub mod Going
+pub mod Same

@@ -1,0 +1,184 @@
+// Records taken one after another from an empty drawing, and the separate check of document 01, which holds tables
+// against what their records give.
+use group::{GROUPS, OBJECTS};
+use history::RECORDS;
+use record::{RECORD, SITES};
+use tables::{Answer, Counters, ENTRY};
+
+ghost use mathlib.Core.Path.{_≡_};
+ghost use mathlib.Core.Bool.{true};
+ghost use Prim.Native.Nat.{_*_, _≤_};
+ghost use lib.ListN.{length};
+ghost use Rattle.record.specs.Layout.{recordLength};
+ghost use Rattle.history.specs.History.{mostRecords};
+ghost use Rattle.tables.specs.Tables.{tablesOf, numberOf, emptyDrawing};
+ghost use Rattle.tables.specs.Sound.{lengthsRight, sitesRight, withinLimits};
+ghost use Rattle.replay.specs.Replay.{replayed, replayOf, sameList, sameCounters, givesBack, checkOf};
+
+// The answer to the first refused record and its index, or 0 and 0; and the counters after the records before it.
+pub struct Taken {
+    pub answer: Answer,
+    pub index: usize,
+    pub counters: Counters,
+}
+
+// Takes the first n records of recs, one after another, into an empty drawing.
+fn take_records(
+    empty: Counters,
+    records: &mut [u8],
+    objects: &mut [u16],
+    groups: &mut [u64],
+    recs: &[u8],
+    n: usize,
+) -> Taken
+    requires { ⌜ (tablesOf empty (now records) (now objects) (now groups) ≡ emptyDrawing (empty .sites))
+        × (sitesRight (empty .sites) ≡ true)
+        × (n ≤ mostRecords)
+        × (n * recordLength ≤ length (now recs)) ⌝ }
+    ensures { λ r. ⌜ replayed (numberOf (r .answer)) (r .index)
+        (tablesOf (r .counters) (now (records .exit)) (now (objects .exit)) (now (groups .exit)))
+        ≡ replayOf (empty .sites) (now (recs .entry)) n ⌝ }
+{
+    let mut c = empty;
+    let mut i: usize = 0;
+    while i < n {
+        let at = i * RECORD;
+        let end = at + RECORD;
+        let a = arrival::accept(c, records, objects, groups, &recs[at..end]);
+        let next = a.counters;
+        let answer = a.answer;
+        if tables::number(answer) != 0 {
+            return Taken {
+                answer,
+                index: i,
+                counters: next,
+            };
+        }
+        c = next;
+        i += 1;
+    }
+    Taken {
+        answer: Answer::Done,
+        index: 0,
+        counters: c,
+    }
+}
+
+// Opens a drawing of so many sites in the tables and takes the first n records of recs into it, one after another.
+pub fn replay(
+    sites: u8,
+    records: &mut [u8],
+    objects: &mut [u16],
+    groups: &mut [u64],
+    recs: &[u8],
+    n: usize,
+) -> Taken
+    requires { ⌜ (lengthsRight (now records) (now objects) (now groups) ≡ true)
+        × (sitesRight sites ≡ true)
+        × (n ≤ mostRecords)
+        × (n * recordLength ≤ length (now recs)) ⌝ }
+    ensures { λ r. ⌜ replayed (numberOf (r .answer)) (r .index)
+        (tablesOf (r .counters) (now (records .exit)) (now (objects .exit)) (now (groups .exit)))
+        ≡ replayOf sites (now (recs .entry)) n ⌝ }
+{
+    let held = [0u16; SITES];
+    let none = Counters {
+        sites,
+        records: 0,
+        objects: 0,
+        held,
+    };
+    let opened = tables::open(none, records, objects, groups, sites);
+    let empty = opened.counters;
+    take_records(empty, records, objects, groups, recs, n)
+}
+
+// Whether two tables of bytes are the same.
+fn is_same8(a: &[u8], b: &[u8]) -> bool
+    ensures { λ r. ⌜ r ≡ sameList (now (a .entry)) (now (b .entry)) ⌝ }
+{
+    if a.len() != b.len() {
+        return false;
+    }
+    let mut same = true;
+    let mut i: usize = 0;
+    while i < a.len() {
+        same = same & (a[i] == b[i]);
+        i += 1;
+    }
+    same
+}
+
+// Whether two tables of small numbers are the same.
+fn is_same16(a: &[u16], b: &[u16]) -> bool
+    ensures { λ r. ⌜ r ≡ sameList (now (a .entry)) (now (b .entry)) ⌝ }
+{
+    if a.len() != b.len() {
+        return false;
+    }
+    let mut same = true;
+    let mut i: usize = 0;
+    while i < a.len() {
+        same = same & (a[i] == b[i]);
+        i += 1;
+    }
+    same
+}
+
+// Whether two tables of groups are the same.
+fn is_same64(a: &[u64], b: &[u64]) -> bool
+    ensures { λ r. ⌜ r ≡ sameList (now (a .entry)) (now (b .entry)) ⌝ }
+{
+    if a.len() != b.len() {
+        return false;
+    }
+    let mut same = true;
+    let mut i: usize = 0;
+    while i < a.len() {
+        same = same & (a[i] == b[i]);
+        i += 1;
+    }
+    same
+}
+
+// Whether two sets of counters are the same.
+fn is_same_counters(c: Counters, d: Counters) -> bool
+    ensures { λ r. ⌜ r ≡ sameCounters c d ⌝ }
+{
+    let v = c.held;
+    let w = d.held;
+    (c.sites == d.sites) & (c.records == d.records) & (c.objects == d.objects) & tables::counts_agree(v, w)
+}
+
+// Whether no record is refused from an empty drawing, and they give these very tables.
+fn is_replayed(c: Counters, records: &[u8], objects: &[u16], groups: &[u64]) -> bool
+    requires { ⌜ (lengthsRight (now records) (now objects) (now groups) ≡ true) × (withinLimits c ≡ true) ⌝ }
+    ensures { λ r. ⌜ r ≡ givesBack (tablesOf c (now (records .entry)) (now (objects .entry)) (now (groups .entry))) ⌝ }
+{
+    let mut rs = [0u8; RECORDS * RECORD];
+    let mut os = [0u16; OBJECTS * ENTRY];
+    let mut gs = [0u64; OBJECTS * GROUPS];
+    let t = replay(c.sites, &mut rs, &mut os, &mut gs, records, c.records as usize);
+    let d = t.counters;
+    let answer = t.answer;
+    (tables::number(answer) == 0)
+        & (is_same_counters(c, d) & is_same8(records, &rs) & is_same16(objects, &os) & is_same64(groups, &gs))
+}
+
+// The separate check: done exactly when the tables are what their records give from an empty drawing, else unsound.
+pub fn check(c: Counters, records: &[u8], objects: &[u16], groups: &[u64]) -> Answer
+    ensures { λ r. ⌜ numberOf r
+        ≡ checkOf (tablesOf c (now (records .entry)) (now (objects .entry)) (now (groups .entry))) ⌝ }
+{
+    if !tables::lengths_right(records.len(), objects.len(), groups.len()) {
+        return Answer::Unsound;
+    }
+    if !tables::within_limits(c) {
+        return Answer::Unsound;
+    }
+    if is_replayed(c, records, objects, groups) {
+        Answer::Done
+    } else {
+        Answer::Unsound
+    }
+}
