@@ -1,0 +1,28 @@
+-- The two blocks that document 01 writes out, by computation. Assumes nothing.
+use mathlib.Core.Path.{_≡_, refl}
+use mathlib.Core.List.{List, [], _∷_, _++_}
+use Prim.Native.Nat.{ℕ}
+use lib.ListN.{replicate}
+use Rattle.ground.specs.Below.{some}
+use Rattle.ground.specs.Sorted.{any, filter}
+use Rattle.record.specs.Record.{counts, countBytes}
+use Rattle.record.specs.Form.{nonzeroPast, unfit, malformed}
+use Rattle.history.specs.History.{editsOf, countFrom}
+use Rattle.history.specs.Answers.{isRepeated, isEarly, isTorn, isAstray}
+use Rattle.tables.specs.Tables.{emptyDrawing}
+use Rattle.arrival.specs.Arrival.{isFull, isCrowded, firstOf, answerTo, withCreate, acceptanceOf}
+use Rattle.block.specs.Block.{trailerOf, blockOf}
+
+-- the record of the Create 0.1, which has seen nothing but itself
+abbrev create : List ℕ
+create = 1 ∷ 0 ∷ 1 ∷ 0 ∷ 1 ∷ 0 ∷ replicate 22 0
+
+-- for N = 3: with no edits, and with the one Create 0.1, which is accepted
+pub example-blocks :
+    (blockOf (emptyDrawing 3) ≡ 0 ∷ 0 ∷ 3 ∷ 0 ∷ 0 ∷ 0 ∷ 0 ∷ 0 ∷ [])
+    × (acceptanceOf (emptyDrawing 3) create .answer ≡ 0)
+    × (blockOf (acceptanceOf (emptyDrawing 3) create .after) ≡ create ++ (1 ∷ 0 ∷ 3 ∷ 0 ∷ 28 ∷ 0 ∷ 0 ∷ 0 ∷ []))
+unfolding blockOf trailerOf countBytes emptyDrawing withCreate acceptanceOf answerTo firstOf isFull isCrowded
+example-blocks =
+    unfold malformed unfit nonzeroPast isRepeated isEarly isTorn isAstray some any filter counts editsOf countFrom in
+    (refl, refl, refl)

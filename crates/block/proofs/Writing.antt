@@ -1,0 +1,84 @@
+-- What is written: a part that is lent from its start to the end of the output, the block in it, and the outcomes of
+-- writing. Assumes nothing.
+use mathlib.Core.Path.{_≡_, refl, sym, ap, _∙_}
+use mathlib.Core.Bool.{true, false}
+use mathlib.Core.List.{List, _++_, append-nil, append-assoc}
+use Prim.Native.Nat.{ℕ, _+_, _-_, _*_, _≤_}
+use native.Mathlib.Omega.{arith}
+use lib.ListN.{length, take, drop, length-append, length-drop, drop-of-length-le}
+use lib.Seq.{length-take-le, take-all, take-at, drop-at, drop-drop}
+use lib.Dec.{leb}
+use borrow.Rule.Slice.PartAt.{part-to-end}
+use borrow.Rule.Slice.PartMut.{midOf, putMid}
+use Rattle.record.specs.Layout.{recordLength}
+use Rattle.record.specs.Record.{countBytes}
+use Rattle.tables.specs.Tables.{Tables}
+use Rattle.tables.specs.Sound.{sound}
+use Rattle.tables.proofs.Facts.{sound-at}
+use Rattle.block.specs.Block.{trailerLength, trailerOf, recordBytes, blockOf}
+use Rattle.block.specs.Writing.{writing, writingOf}
+
+-- ---- a part that is lent to the end comes back with b in front, and is otherwise as it was
+
+pub lent-back :
+    (out : List ℕ) (start k : ℕ) (b : List ℕ) {r : List ℕ} → r ≡ b ++ drop k (midOf start (length out - start) out) →
+    putMid start (length out - start) out r ≡ take start out ++ (b ++ drop (start + k) out)
+lent-back out start k b e =
+    let none = drop-of-length-le (drop start out) {i = length out - start} (simp length-drop (omega arith)) in
+    rw (e, part-to-end out start, none, drop-drop k start out)
+    (ap (λ (x : List ℕ). take start out ++ x) (append-nil (b ++ drop (start + k) out)))
+
+-- ---- the block
+
+pub trailer-long : (n sites : ℕ) → length (trailerOf n sites) ≡ trailerLength
+unfolding trailerOf countBytes
+trailer-long n sites = refl
+
+pub block-long :
+    (t : Tables) → sound t ≡ true → length (blockOf t) ≡ t .counters .records * recordLength + trailerLength
+unfolding blockOf
+block-long t ok =
+    let s = sound-at t ok in
+    let n = t .counters .records in
+    length-append (recordBytes t) (trailerOf n (t .counters .sites))
+    ∙ rw (
+      length-take-le (n * recordLength) (t .records) (omega (arith, s .records-long, s .few-records)),
+      trailer-long n (t .counters .sites),
+    )
+
+-- e bytes of rs are copied first, then b behind them
+pub block-put :
+    (out rs b : List ℕ) (e k : ℕ) {o r : List ℕ} → e ≤ length rs → length b ≡ k → o ≡ take e rs ++ drop e out →
+    r ≡ take k b ++ drop k (midOf e (length o - e) o) →
+    putMid e (length o - e) o r ≡ (take e rs ++ b) ++ drop (e + k) out
+block-put out rs b e k {o} h whole p q =
+    let long = length-take-le e rs h in
+    let front : take e o ≡ take e rs = rw p (take-at (take e rs) (drop e out) e long) in
+    let behind : drop (e + k) o ≡ drop (e + k) out =
+    rw p
+    (sym (drop-drop k e (take e rs ++ drop e out))
+    ∙ ap (λ (x : List ℕ). drop k x) (drop-at (take e rs) (drop e out) e long) ∙ drop-drop k e out) in
+    lent-back o e k b (rw (take-all k b (omega arith)) at q)
+    ∙ rw (front, behind) (sym (append-assoc (take e rs) b (drop (e + k) out)))
+
+-- ---- the outcomes
+
+module _ (t : Tables) (out : List ℕ) (start : ℕ) where
+  pub unsound-refused : sound t ≡ false → writing 8 0 out ≡ writingOf t out start
+  unfolding writingOf
+  unsound-refused h = rw h
+
+  abbrev bytes : ℕ
+  bytes = t .counters .records * recordLength + trailerLength
+
+  module _ (ok : sound t ≡ true) where
+    pub no-room : leb (start + bytes) (length out) ≡ false → writing 11 0 out ≡ writingOf t out start
+    unfolding writingOf
+    no-room h = rw (ok, block-long t ok, h)
+
+    pub written :
+        {r : List ℕ} → leb (start + bytes) (length out) ≡ true →
+        r ≡ blockOf t ++ drop bytes (midOf start (length out - start) out) →
+        writing 0 bytes (putMid start (length out - start) out r) ≡ writingOf t out start
+    unfolding writingOf
+    written h e = rw (ok, block-long t ok, h, lent-back out start bytes (blockOf t) e)
