@@ -51,8 +51,7 @@ module _ (t : Tables) (h : sound t ≡ true) where
           × (getD (t .counters .held) (e .site .0) 0 < mostRecords)
       create-given k =
           let s = sound-at t h in
-          let a = admitted t b z in
-          (
+          let a = admitted t b z in (
             a .room,
             a .create-room (sym (ap isCreate de) ∙ k),
             s .records-long,

@@ -71,8 +71,7 @@ module _ (os : List ℕ) (m p k g : ℕ) where
       × (groupsAt (putEntry os m p k g) m ≡ g)
   entry-here l =
       let w = set os (m * entryLength) p in
-      let r : m * entryLength + entryLength ≤ length w = omega (arith, length-set os (m * entryLength) p) in
-      (
+      let r : m * entryLength + entryLength ≤ length w = omega (arith, length-set os (m * entryLength) p) in (
         counts-place w m k g r ∙ getD-set-same os (m * entryLength) p 0 (omega arith),
         counts-sets w m k g r,
         counts-groups w m k g r,
@@ -84,8 +83,7 @@ module _ (os : List ℕ) (m p k g : ℕ) where
       × (setsAt (putEntry os m p k g) o ≡ setsAt os o)
       × (groupsAt (putEntry os m p k g) o ≡ groupsAt os o)
   entry-other o d =
-      let w = set os (m * entryLength) p in
-      (
+      let w = set os (m * entryLength) p in (
         other-place w o m k g d ∙ getD-set-other os (m * entryLength) (o * entryLength) p 0 (λ q. d (omega arith)),
         other-sets w o m k g d ∙ getD-set-other os (m * entryLength) (o * entryLength + 1) p 0 (λ q. omega arith),
         other-groups w o m k g d ∙ getD-set-other os (m * entryLength) (o * entryLength + 2) p 0 (λ q. omega arith),

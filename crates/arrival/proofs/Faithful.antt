@@ -34,13 +34,28 @@ use Rattle.group.specs.Row.{mostGroups, row, putRow}
 use Rattle.tables.specs.Tables.{Tables, Outcome, outcomeOf, heldBy, placeAt, groupsAt, emptyDrawing, entryLength}
 use Rattle.tables.proofs.Facts.{Sound}
 use Rattle.arrival.specs.Arrival.{
-  matesOf, rowOf, groupsAfter, answerTo, putRecord, putEntry, putCounts, withCreate, withSet, taken, acceptanceOf,
+  matesOf,
+  rowOf,
+  groupsAfter,
+  answerTo,
+  putRecord,
+  putEntry,
+  putCounts,
+  withCreate,
+  withSet,
+  taken,
+  acceptanceOf,
 }
 use Rattle.arrival.specs.Truth.{noEdit, trueGroups}
 use Rattle.arrival.proofs.Admitted.{Accepted, accepted, admitted-target, set-or-create}
 use Rattle.arrival.proofs.Records.{put-before, put-here}
 use Rattle.arrival.proofs.Entries.{
-  counts-place, counts-groups, other-place, other-groups, entry-here, entry-other,
+  counts-place,
+  counts-groups,
+  other-place,
+  other-groups,
+  entry-here,
+  entry-other,
 }
 use Rattle.arrival.proofs.Rows.{row-back, row-other}
 use Rattle.arrival.proofs.Kept.{room, held-after}

@@ -32,7 +32,12 @@ use Rattle.tables.proofs.Facts.{Sound, Entry, ZeroFrom}
 use Rattle.arrival.specs.Arrival.{counted, putRecord}
 use Rattle.arrival.proofs.Admitted.{Admitted, admitted-passes}
 use Rattle.arrival.proofs.Records.{
-  put-long, put-behind, put-before, put-here, put-edits-before, put-edits,
+  put-long,
+  put-behind,
+  put-before,
+  put-here,
+  put-edits-before,
+  put-edits,
 }
 
 -- ---- counts over one edit more

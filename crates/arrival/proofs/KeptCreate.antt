@@ -30,7 +30,15 @@ use Rattle.arrival.proofs.Records.{put-here, put-edits-before}
 use Rattle.arrival.proofs.Objects.{same-parts, chosen-none}
 use Rattle.arrival.proofs.Entries.{object-of, entry-long, entry-past, entry-here, entry-other}
 use Rattle.arrival.proofs.Kept.{
-  creates-snoc, sets-snoc, room, held-after, records-long-after, counts-after, pass-after, records-zero-after, entry-kept,
+  creates-snoc,
+  sets-snoc,
+  room,
+  held-after,
+  records-long-after,
+  counts-after,
+  pass-after,
+  records-zero-after,
+  entry-kept,
 }
 
 pub create-not-set : (e : Edit) → isCreate e ≡ true → isSet e ≡ false

@@ -29,16 +29,42 @@ use Rattle.arrival.specs.Arrival.{matesOf, rowOf, groupsAfter, putCounts
 use Rattle.arrival.proofs.Admitted.{Accepted, admitted-target}
 use Rattle.arrival.proofs.Objects.{same-parts}
 use Rattle.arrival.proofs.Aimed.{
-  object-less, target, target-site, target-seq, sets-are, row-fits, after-ascending, after-below, after-some,
+  object-less,
+  target,
+  target-site,
+  target-seq,
+  sets-are,
+  row-fits,
+  after-ascending,
+  after-below,
+  after-some,
 }
 use Rattle.arrival.proofs.Entries.{
-  object-of, counts-long, counts-other, counts-place, counts-sets, counts-groups, other-place, other-sets, other-groups,
+  object-of,
+  counts-long,
+  counts-other,
+  counts-place,
+  counts-sets,
+  counts-groups,
+  other-place,
+  other-sets,
+  other-groups,
 }
 use Rattle.arrival.proofs.Rows.{
-  row-put-long, row-elsewhere, new-row, other-row,
+  row-put-long,
+  row-elsewhere,
+  new-row,
+  other-row,
 }
 use Rattle.arrival.proofs.Kept.{
-  creates-snoc, held-after, records-long-after, counts-after, pass-after, records-zero-after, entry-kept, entry-grown,
+  creates-snoc,
+  held-after,
+  records-long-after,
+  counts-after,
+  pass-after,
+  records-zero-after,
+  entry-kept,
+  entry-grown,
 }
 
 pub set-not-create : (e : Edit) → isSet e ≡ true → isCreate e ≡ false

@@ -22,7 +22,12 @@ use Rattle.record.specs.Form.{isCreate, isSet}
 use Rattle.causal.specs.Causal.{sameEdit}
 use Rattle.history.specs.History.{recordAt, editsOf, creates, isSetOn, setsOn, isTarget, indexOf, objectOf}
 use Rattle.history.proofs.History.{
-  Target, target-parts, any-edit-on, any-edit-at, chosen-more, chosen-grow,
+  Target,
+  target-parts,
+  any-edit-on,
+  any-edit-at,
+  chosen-more,
+  chosen-grow,
 }
 use Rattle.history.proofs.Passed.{target-before}
 use Rattle.group.specs.Row.{mostSets}
@@ -138,8 +143,7 @@ module _ (t : Tables) (s : Sound t) where
       let o = length (creates (editsOf rs p)) in
       let less : o < t .counters .objects = omega (arith, create-less rs p (t .counters .records) l h, s .objects) in
       let x = s .object o less .entry in
-      let q = placeAt (t .objects) o in
-      (
+      let q = placeAt (t .objects) o in (
         less,
         elim (decLt q p) [
           | yes m ↦ absurd (omega (arith, create-less rs q p m (x .create), x .number))

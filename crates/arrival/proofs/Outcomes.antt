@@ -19,7 +19,16 @@ use Rattle.group.specs.Row.{mostGroups, row, putRow, settled}
 use Rattle.tables.specs.Tables.{Tables, Outcome, outcomeOf, tablesOf, heldBy}
 use Rattle.tables.proofs.Facts.{Sound}
 use Rattle.arrival.specs.Arrival.{
-  matesOf, groupsAfter, isCrowded, answerTo, counted, putRecord, putCounts, withCreate, withSet, acceptanceOf,
+  matesOf,
+  groupsAfter,
+  isCrowded,
+  answerTo,
+  counted,
+  putRecord,
+  putCounts,
+  withCreate,
+  withSet,
+  acceptanceOf,
 }
 use Rattle.arrival.specs.Code.{sixth}
 use Rattle.arrival.proofs.Six.{answer-is}

@@ -18,7 +18,16 @@ use Rattle.history.specs.Code.{surveyOf}
 use Rattle.group.specs.Row.{mostObjects, mostSets, mostGroups, row, putRow, settled}
 use Rattle.tables.specs.declared.Counters.{Counters}
 use Rattle.tables.specs.Tables.{
-  Tables, Outcome, outcomeOf, tablesOf, heldBy, groupsAt, entryLength, recordsLength, objectsLength, groupsLength,
+  Tables,
+  Outcome,
+  outcomeOf,
+  tablesOf,
+  heldBy,
+  groupsAt,
+  entryLength,
+  recordsLength,
+  objectsLength,
+  groupsLength,
 }
 use Rattle.tables.proofs.Facts.{Sound, sound-at}
 use Rattle.arrival.specs.Arrival.{groupsAfter, counted, putRecord, putCounts, acceptanceOf}

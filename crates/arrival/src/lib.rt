@@ -1,8 +1,13 @@
 // What an arriving edit does to the tables: document 01, 'Numbers given back' and 'Conflict, groups, identifiers'.
 use history::Surveyed;
-use record::{CREATE, Edit, RECORD, SET, Site};
-use tables::{Answer, Counters, ENTRY};
-
+use record::CREATE;
+use record::Edit;
+use record::RECORD;
+use record::SET;
+use record::Site;
+use tables::Answer;
+use tables::Counters;
+use tables::ENTRY;
 ghost use mathlib.Core.Path.{_≡_};
 ghost use mathlib.Core.Bool.{true};
 ghost use mathlib.Core.List.{[], _∷_};
@@ -14,7 +19,13 @@ ghost use Rattle.group.specs.Row.{mostObjects};
 ghost use Rattle.tables.specs.Tables.{tablesOf, outcomeOf, numberOf, recordsLength, objectsLength};
 ghost use Rattle.tables.specs.Sound.{sound};
 ghost use Rattle.arrival.specs.Arrival.{
-  firstOf, counted, putRecord, putCounts, putEntry, acceptanceOf, arrivalOf
+  firstOf,
+  counted,
+  putRecord,
+  putCounts,
+  putEntry,
+  acceptanceOf,
+  arrivalOf,
 };
 ghost use Rattle.arrival.specs.Code.{fullWith, sixBy, Ready};
 
@@ -131,7 +142,13 @@ fn refusal(c: Counters, bytes: usize, e: Edit, v: Surveyed) -> Answer
 }
 
 // Takes a Create that passes 1 to 6: its record, its object's entry and the counters after it.
-fn take_create(c: Counters, records: &mut [u8], objects: &mut [u16], rec: &[u8], s: Site) -> Counters
+fn take_create(
+    c: Counters,
+    records: &mut [u8],
+    objects: &mut [u16],
+    rec: &[u8],
+    s: Site,
+) -> Counters
     requires { ⌜ (c .records < mostRecords)
         × (c .objects < mostObjects)
         × (length (now records) ≡ recordsLength)
@@ -208,7 +225,13 @@ fn take_set(
 }
 
 // An arrival at tables that are known to be sound, as those that an arrival left are.
-pub fn accept(c: Counters, records: &mut [u8], objects: &mut [u16], groups: &mut [u64], rec: &[u8]) -> Arrived
+pub fn accept(
+    c: Counters,
+    records: &mut [u8],
+    objects: &mut [u16],
+    groups: &mut [u64],
+    rec: &[u8],
+) -> Arrived
     requires { ⌜ sound (tablesOf c (now records) (now objects) (now groups)) ≡ true ⌝ }
     ensures { λ r. ⌜ outcomeOf (numberOf (r .answer))
         (tablesOf (r .counters) (now (records .exit)) (now (objects .exit)) (now (groups .exit)))
@@ -235,7 +258,13 @@ pub fn accept(c: Counters, records: &mut [u8], objects: &mut [u16], groups: &mut
 }
 
 // An arriving edit, any bytes, at any tables: 8, then 1 to 7 in turn, the first that applies; else the edit is taken.
-pub fn arrive(c: Counters, records: &mut [u8], objects: &mut [u16], groups: &mut [u64], rec: &[u8]) -> Arrived
+pub fn arrive(
+    c: Counters,
+    records: &mut [u8],
+    objects: &mut [u16],
+    groups: &mut [u64],
+    rec: &[u8],
+) -> Arrived
     ensures { λ r. ⌜ outcomeOf (numberOf (r .answer))
         (tablesOf (r .counters) (now (records .exit)) (now (objects .exit)) (now (groups .exit)))
         ≡ arrivalOf (tablesOf c (now (records .entry)) (now (objects .entry)) (now (groups .entry)))

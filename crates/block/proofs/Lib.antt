@@ -4,3 +4,4 @@ pub mod TrailerBytes
 pub mod Located
 pub mod Examples
 pub mod Reading
+pub mod RoundTrips

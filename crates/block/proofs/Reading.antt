@@ -64,8 +64,7 @@ module _ (t : Tables) (file : List ℕ) where
       ready-to-read =
           let x = accepted-at file (sym (ap (λ (f : Found). f .answer) h) ∙ z) in
           let es : s ≡ located file .trailer .sites = ap (λ (f : Found). f .sites) h in
-          let en : n ≡ located file .trailer .records = ap (λ (f : Found). f .records) h in
-          (
+          let en : n ≡ located file .trailer .records = ap (λ (f : Found). f .records) h in (
             and-on (leb 1 s) (leb s mostSites) (le-leb 1 s (omega (arith, x .some-sites)))
                 (le-leb s mostSites (omega (arith, x .few-sites))),
             rw en (x .few-records),

@@ -308,5 +308,12 @@ pub fn read_file(
         };
     }
     let stretch = locate(file);
-    read_records(f.sites, records, objects, groups, stretch, f.records as usize)
+    read_records(
+        f.sites,
+        records,
+        objects,
+        groups,
+        stretch,
+        f.records as usize,
+    )
 }

@@ -8,7 +8,15 @@ use native.Mathlib.Numerals.{add-one}
 use native.Mathlib.Omega.{arith}
 use lib.ListN.{length, getD, set, take, drop, length-drop, length-append, List·getD-append}
 use lib.Seq.{
-  length-take-le, take-suc, drop-cons, append-snoc, set-at, getD-take, getD-drop, drop-at, drop-drop,
+  length-take-le,
+  take-suc,
+  drop-cons,
+  append-snoc,
+  set-at,
+  getD-take,
+  getD-drop,
+  drop-at,
+  drop-drop,
 }
 
 abbrev pub put : List ℕ → ℕ → ℕ → List ℕ → List ℕ

@@ -74,8 +74,7 @@ ascending-on [] h = tt
 ascending-on (x ∷ []) h = ((λ y w. absurd (List·Memᴰ·not-nil w)), tt)
 ascending-on (x ∷ y ∷ l) h =
     let first : x < y = h zero (omega arith) in
-    let (above, rest) = ascending-on (y ∷ l) (λ i k. h (suc i) (omega arith)) in
-    (
+    let (above, rest) = ascending-on (y ∷ l) (λ i k. h (suc i) (omega arith)) in (
       (λ z w. elim (List·Memᴰ·cases-cons w) [ inl e ↦ rw e first | inr v ↦ omega (arith, above z v) ]),
       (above, rest),
     )
@@ -95,26 +94,23 @@ pub largest :
     (y : ℕ) × (elem y l ≡ true) × ((z : ℕ) → elem z l ≡ true → z ≤ y)
 unfolding any
 largest x [] h = clash h refl
-largest x (w ∷ []) h =
-    (
-      w,
-      or-left (eqb w w) false (eqb-self w),
-      λ z q. elim (either (eqb z w) false q) [ inl e ↦ omega (arith, eqb-true z w e) | inr e ↦ clash e refl ],
-    )
+largest x (w ∷ []) h = (
+  w,
+  or-left (eqb w w) false (eqb-self w),
+  λ z q. elim (either (eqb z w) false q) [ inl e ↦ omega (arith, eqb-true z w e) | inr e ↦ clash e refl ],
+)
 largest x (w ∷ v ∷ l) h =
     let (y, e, top) = largest v (v ∷ l) (or-left (eqb v v) (elem v l) (eqb-self v)) in
     elim (decLt w y) [
-      | yes m ↦
-          (
-            y,
-            or-right (eqb y w) (elem y (v ∷ l)) e,
-            λ z q. elim (either (eqb z w) (elem z (v ∷ l)) q) [ inl r ↦ omega (arith, eqb-true z w r) | inr r ↦ top z r ],
-          )
-      | no m ↦
-          (
-            w,
-            or-left (eqb w w) (elem w (v ∷ l)) (eqb-self w),
-            λ z q. elim (either (eqb z w) (elem z (v ∷ l)) q)
-                [ inl r ↦ omega (arith, eqb-true z w r) | inr r ↦ omega (arith, top z r) ],
-          )
+      | yes m ↦ (
+        y,
+        or-right (eqb y w) (elem y (v ∷ l)) e,
+        λ z q. elim (either (eqb z w) (elem z (v ∷ l)) q) [ inl r ↦ omega (arith, eqb-true z w r) | inr r ↦ top z r ],
+      )
+      | no m ↦ (
+        w,
+        or-left (eqb w w) (elem w (v ∷ l)) (eqb-self w),
+        λ z q. elim (either (eqb z w) (elem z (v ∷ l)) q)
+            [ inl r ↦ omega (arith, eqb-true z w r) | inr r ↦ omega (arith, top z r) ],
+      )
     ]

@@ -96,8 +96,12 @@ module _ (sites : ℕ) (few : sites ≤ mostSites) (rs : List ℕ) (n : ℕ) (pa
               let d : a .seq .0 ≡ b .seq .0 → ⊥ = apart e in
               omega arith)
           | no d ↦
-              omega (arith, other p q lp lq d, next-at sites rs n pass q lq,
-              count-grows (b .site .0) rs p q (omega (arith, stands-before)))
+              omega (
+                arith,
+                other p q lp lq d,
+                next-at sites rs n pass q lq,
+                count-grows (b .site .0) rs p q (omega (arith, stands-before)),
+              )
         ]
 
     pub before-ranks : ranksBefore a b ≡ true

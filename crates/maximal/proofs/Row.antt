@@ -139,8 +139,7 @@ module _ (m k : ℕ) (gs : List ℕ) (low : (x : ℕ) → elem x gs ≡ true →
   -- the largest of what the row offers is not dropped
   pub step-some : (g : ℕ) → elem g gs ≡ true → (x : ℕ) × (elem x (step m k gs) ≡ true)
   step-some g e =
-      let (x, r, top) = largest (candidate m k g) (row m k gs) (candidate-on m k gs g e) in
-      (
+      let (x, r, top) = largest (candidate m k g) (row m k gs) (candidate-on m k gs g e) in (
         x,
         step-on m k gs x r (off (dropped k (row m k gs) x) (λ h.
             let (b, y, ey, by, p) = dropped-at k (row m k gs) x h in

@@ -1,3 +1,4 @@
 pub mod AnyRecords
 pub mod Going
 pub mod Same
+pub mod Own

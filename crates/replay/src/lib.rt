@@ -1,10 +1,13 @@
 // Records taken one after another from an empty drawing, and the separate check of document 01, which holds tables
 // against what their records give.
-use group::{GROUPS, OBJECTS};
+use group::GROUPS;
+use group::OBJECTS;
 use history::RECORDS;
-use record::{RECORD, SITES};
-use tables::{Answer, Counters, ENTRY};
-
+use record::RECORD;
+use record::SITES;
+use tables::Answer;
+use tables::Counters;
+use tables::ENTRY;
 ghost use mathlib.Core.Path.{_≡_};
 ghost use mathlib.Core.Bool.{true};
 ghost use Prim.Native.Nat.{_*_, _≤_};
@@ -147,7 +150,10 @@ fn is_same_counters(c: Counters, d: Counters) -> bool
 {
     let v = c.held;
     let w = d.held;
-    (c.sites == d.sites) & (c.records == d.records) & (c.objects == d.objects) & tables::counts_agree(v, w)
+    (c.sites == d.sites)
+        & (c.records == d.records)
+        & (c.objects == d.objects)
+        & tables::counts_agree(v, w)
 }
 
 // Whether no record is refused from an empty drawing, and they give these very tables.
@@ -158,11 +164,21 @@ fn is_replayed(c: Counters, records: &[u8], objects: &[u16], groups: &[u64]) -> 
     let mut rs = [0u8; RECORDS * RECORD];
     let mut os = [0u16; OBJECTS * ENTRY];
     let mut gs = [0u64; OBJECTS * GROUPS];
-    let t = replay(c.sites, &mut rs, &mut os, &mut gs, records, c.records as usize);
+    let t = replay(
+        c.sites,
+        &mut rs,
+        &mut os,
+        &mut gs,
+        records,
+        c.records as usize,
+    );
     let d = t.counters;
     let answer = t.answer;
     (tables::number(answer) == 0)
-        & (is_same_counters(c, d) & is_same8(records, &rs) & is_same16(objects, &os) & is_same64(groups, &gs))
+        & (is_same_counters(c, d)
+            & is_same8(records, &rs)
+            & is_same16(objects, &os)
+            & is_same64(groups, &gs))
 }
 
 // The separate check: done exactly when the tables are what their records give from an empty drawing, else unsound.

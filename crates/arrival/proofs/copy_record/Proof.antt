@@ -38,8 +38,7 @@ loop-again c =
     let l = c .before .before .loop in
     let a = c .before .before .before .args in
     let d = now (a .d) in
-    let s = now (a .src) in
-    (
+    let s = now (a .src) in (
       omega arith,
       simp length-set (l .inv .1),
       rw (l .inv .2) (copy-more d s (l .i) (omega arith) (omega arith)),

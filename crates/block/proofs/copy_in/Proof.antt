@@ -4,8 +4,8 @@ use mathlib.Core.List.{_++_}
 use Prim.Native.Nat.{_-_, _≤_}
 use native.Mathlib.Omega.{arith}
 use lib.ListN.{length, take, drop, length-set}
-use Rattle.ground.proofs.Parts.{copy-more}
 use borrow.Author.Needs.{needs}
+use Rattle.ground.proofs.Parts.{copy-more}
 use Rattle.block.proofs.copy_in.Statement.{statement}
 use Rattle.block.proofs.copy_in.Tie as tie
 

@@ -1,6 +1,6 @@
 -- `block::is_unfit` meets its contract: the tests are the definition's, in its order. Assumes nothing.
-use Rattle.block.specs.Block.{unfitTrailer}
 use borrow.Author.Needs.{needs}
+use Rattle.block.specs.Block.{unfitTrailer}
 use Rattle.block.proofs.is_unfit.Statement.{statement}
 use Rattle.block.proofs.is_unfit.Tie as tie
 

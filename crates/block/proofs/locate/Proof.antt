@@ -1,8 +1,8 @@
 -- `block::locate` meets its contract: the stretch ends where the trailer starts, or is empty at the file's start.
 -- Assumes nothing.
 use denote.Ref.{now}
-use Rattle.block.proofs.Outcomes.{stretch-before-end, end-inside, start-is, stretch-is}
 use borrow.Author.Needs.{needs}
+use Rattle.block.proofs.Outcomes.{stretch-before-end, end-inside, start-is, stretch-is}
 use Rattle.block.proofs.locate.Statement.{statement}
 use Rattle.block.proofs.locate.Tie as tie
 

@@ -1,18 +1,12 @@
-use Rattle.block.proofs.Reading.{wrong-lengths, file-refused, ready-to-read, file-read}
-use Rattle.tables.specs.Tables.{tablesOf, numberOf}
-use borrow.Author.Tests.{not-true, not-false}
+-- `block::read_file` meets its contract. Assumes nothing.
 use mathlib.Core.Path.{sym, _∙_}
 use denote.Ref.{now}
+use borrow.Author.Tests.{not-true, not-false}
 use borrow.Author.Needs.{needs}
+use Rattle.tables.specs.Tables.{tablesOf, numberOf}
+use Rattle.block.proofs.Reading.{wrong-lengths, file-refused, ready-to-read, file-read}
 use Rattle.block.proofs.read_file.Statement.{statement}
 use Rattle.block.proofs.read_file.Tie as tie
-use Rattle.block.proofs.read_file.Reads as reads
-use Rattle.block.proofs.read_file.Lts as lts
-use Rattle.block.proofs.locate.Reads as locate-reads
-use Rattle.block.proofs.read_records.Reads as read-records-reads
-use Rattle.block.proofs.read_trailer.Reads as read-trailer-reads
-use Rattle.tables.proofs.lengths_right.Reads as lengths-right-reads
-use Rattle.tables.proofs.number.Reads as number-reads
 
 lengths-right-requires : tie.Need-lengths-right-requires
 lengths-right-requires c κs = search needs

@@ -1,16 +1,12 @@
-use Rattle.block.proofs.Reading.{all-taken, one-refused, lengths-stay}
-use Rattle.replay.proofs.Going.{opened}
-use Rattle.tables.specs.Tables.{numberOf}
+-- `block::read_records` meets its contract. Assumes nothing.
 use mathlib.Core.Path.{_≡_, sym, _∙_}
 use denote.Ref.{now}
 use borrow.Author.Needs.{needs}
+use Rattle.replay.proofs.Going.{opened}
+use Rattle.tables.specs.Tables.{numberOf}
+use Rattle.block.proofs.Reading.{all-taken, one-refused, lengths-stay}
 use Rattle.block.proofs.read_records.Statement.{statement}
 use Rattle.block.proofs.read_records.Tie as tie
-use Rattle.block.proofs.read_records.Reads as reads
-use Rattle.block.proofs.read_records.Lts as lts
-use Rattle.replay.proofs.replay.Reads as replay-reads
-use Rattle.tables.proofs.number.Reads as number-reads
-use Rattle.tables.proofs.open.Reads as open-reads
 
 replay-requires : tie.Need-replay-requires
 replay-requires c κs = search needs

@@ -3,10 +3,10 @@ use mathlib.Core.Path.{_≡_, sym, _∙_}
 use mathlib.Core.Bool.{true}
 use denote.Ref.{now}
 use borrow.Author.Tests.{not-true, not-false}
+use borrow.Author.Needs.{needs}
 use Rattle.tables.specs.Sound.{sitesRight}
 use Rattle.block.specs.Block.{sitesIn}
 use Rattle.block.proofs.Outcomes.{over-limit, unfit-refused, sites-refused, accepted}
-use borrow.Author.Needs.{needs}
 use Rattle.block.proofs.read_trailer.Statement.{statement}
 use Rattle.block.proofs.read_trailer.Tie as tie
 

@@ -1,8 +1,8 @@
 -- `block::trailer_bytes` meets its contract: the bytes are those of the definition, one by one. Assumes nothing.
 use mathlib.Core.Path.{refl}
+use borrow.Author.Needs.{needs}
 use Rattle.record.specs.Record.{countBytes}
 use Rattle.block.specs.Block.{trailerOf}
-use borrow.Author.Needs.{needs}
 use Rattle.block.proofs.trailer_bytes.Statement.{statement}
 use Rattle.block.proofs.trailer_bytes.Tie as tie
 

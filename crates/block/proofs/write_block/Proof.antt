@@ -3,10 +3,10 @@
 use mathlib.Core.Path.{ap, _∙_}
 use Prim.Native.Nat.{_*_}
 use lib.ListN.{length}
+use borrow.Author.Needs.{needs}
 use Rattle.record.specs.Layout.{recordLength}
 use Rattle.block.specs.Block.{trailerLength}
 use Rattle.block.proofs.Writing.{trailer-long, block-put}
-use borrow.Author.Needs.{needs}
 use Rattle.block.proofs.write_block.Statement.{statement}
 use Rattle.block.proofs.write_block.Tie as tie
 

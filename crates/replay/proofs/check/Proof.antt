@@ -29,8 +29,7 @@ returns-2 c =
 is-replayed-requires : tie.Need-is-replayed-requires
 is-replayed-requires c κs =
     let l = c .before .before .before .lengths-right in
-    let w = c .before .within-limits in
-    (
+    let w = c .before .within-limits in (
       sym (l .ensures) ∙ not-false (l .result) (c .before .before .if1 .left),
       sym (w .ensures) ∙ not-false (w .result) (c .if2 .left),
     )

@@ -23,8 +23,7 @@ replay-requires : tie.Need-replay-requires
 replay-requires c κs =
     let s = c .before .before .before .before .before .before .before in
     let a = s .args in
-    let l = limits-give (a .c) (s .pre .1) in
-    (
+    let l = limits-give (a .c) (s .pre .1) in (
       refl,
       l .0,
       l .1,

@@ -118,12 +118,11 @@ loop-again c =
     let l = c .before .before .before .before .before .before .before .before .before .before .before .before .before .before .before .loop in
     let m = c .before .before .before .before .before .before .before .before .before .accept in
     let rs = now (s .args .recs) in
-    let z : numberOf (m .result .answer) ≡ 0 = sym (c .before .number .ensures) ∙ c .if1 .left in
-    (
+    let z : numberOf (m .result .answer) ≡ 0 = sym (c .before .number .ensures) ∙ c .if1 .left in (
       omega (arith, c .before .before .before .before .before .before .before .before .before .before .before .before .before .before .loop-test .taken),
       rw (add-one (l .i))
-      (going-on (s .args .empty .sites) rs (s .pre .1) (l .i) _ (l .inv .1) _
-      (rw (z, lent-is rs (l .i)) at (m .ensures))),
+          (going-on (s .args .empty .sites) rs (s .pre .1) (l .i) _ (l .inv .1) _
+          (rw (z, lent-is rs (l .i)) at (m .ensures))),
     )
 
 same-length-4 : tie.Need-same-length-4 Inv-loop μ-loop
