@@ -1,0 +1,14 @@
+pub mod Members
+pub mod Rearranged
+pub mod Pairs
+pub mod Identity
+pub mod Fine
+pub mod Counts
+pub mod Accepted
+pub mod Accepting
+pub mod Rearranging
+pub mod OverList
+pub mod Replayed
+pub mod AnyOrder
+pub mod SameGroups
+pub mod SameDrawings

@@ -1,0 +1,86 @@
+-- The answer at a faithful drawing is the answer over the list of the edits that it holds, and after an accepted edit
+-- it holds that one too. Assumes nothing.
+use mathlib.Core.Path.{_≡_, refl, ap, _∙_}
+use mathlib.Core.Logic.{inl, inr}
+use mathlib.Core.Bool.{Bool, true, false, not, cond}
+use mathlib.Core.List.{List, [], _∷_, _++_}
+use Prim.Native.Nat.{ℕ}
+use lib.ListN.{length}
+use lib.Dec.{ltb}
+use borrow.Author.Tests.{eq-eqb, not-false}
+use Rattle.ground.specs.Sorted.{any}
+use Rattle.ground.proofs.Bools.{decide}
+use Rattle.record.specs.declared.Edit.{Edit}
+use Rattle.record.specs.Layout.{recordLength}
+use Rattle.record.specs.Record.{decodeOf}
+use Rattle.record.specs.Form.{isCreate, isSet, unfit, malformed}
+use Rattle.history.specs.History.{recordAt, isTarget, objectOf}
+use Rattle.history.specs.Answers.{isRepeated, isEarly, isTorn, isAstray}
+use Rattle.history.proofs.History.{edits-length}
+use Rattle.group.specs.Row.{mostGroups}
+use Rattle.tables.specs.Tables.{Tables, heldBy, placeAt}
+use Rattle.arrival.specs.Arrival.{isFull, isCrowded, firstOf, answerTo, withCreate, withSet, taken}
+use Rattle.arrival.proofs.Admitted.{accepted, then-off}
+use Rattle.arrival.proofs.Kept.{held-after}
+use Rattle.arrival.proofs.Aimed.{target-site, target-seq}
+use Rattle.arrival.proofs.Faithful.{Faithful}
+use Rattle.arrival.proofs.Answers.{crowded-exactly}
+use Rattle.order.specs.Settled.{named, fullOver, crowdedOver, listAnswer}
+use Rattle.order.proofs.Identity.{one-object}
+
+-- 7 is looked at only where 5 does not apply
+first-same :
+    (a b c d e f g a′ f′ g′ : Bool) → a ≡ a′ → f ≡ f′ → (e ≡ false → g ≡ g′) →
+    firstOf 1 (a ∷ b ∷ c ∷ d ∷ e ∷ f ∷ g ∷ []) ≡ firstOf 1 (a′ ∷ b ∷ c ∷ d ∷ e ∷ f′ ∷ g′ ∷ [])
+unfolding firstOf
+first-same a b c d true f g a′ f′ g′ p q r = rw p
+first-same a b c d false f g a′ f′ g′ p q r = rw (p, q, r refl)
+
+module _ (t : Tables) (f : Faithful t) where
+  -- ---- the answer
+
+  full-over : (e : Edit) → isFull t e ≡ fullOver (heldBy t) e
+  unfolding isFull fullOver
+  full-over e = rw (edits-length (t .records) (t .counters .records), f .kept .isSound .objects)
+
+  crowded-over : (e : Edit) → isAstray (heldBy t) e ≡ false → isCrowded t e ≡ crowdedOver (heldBy t) e
+  unfolding isAstray
+  crowded-over e h = elim (decide (isSet e)) [
+    | inl k ↦
+        (let held? = any (isTarget e) (heldBy t) in
+        let aim = not-false held? (then-off (isSet e) (not held?) k h) in
+        let s = f .kept .isSound in
+        let c = recordAt (t .records) (placeAt (t .objects) (objectOf e (heldBy t))) in
+        crowded-exactly t f e k aim
+        ∙ ap (λ (gs : List ℕ). ltb mostGroups (length gs))
+        (one-object (heldBy t ++ (e ∷ [])) c (named e) (target-site t s e aim) (target-seq t s e aim))
+        ∙ (unfold crowdedOver in rw k))
+    | inr k ↦ (unfold isCrowded crowdedOver in rw k)
+  ]
+
+  pub answer-over-list :
+      (b : List ℕ) → length b ≡ recordLength → answerTo t b ≡ listAnswer (t .counters .sites) (heldBy t) (decodeOf b)
+  unfolding answerTo listAnswer
+  answer-over-list b w =
+      let e = decodeOf b in
+      let es = heldBy t in
+      let n = t .counters .sites in
+      first-same (malformed n b) (isRepeated es e) (isEarly es e) (isTorn es e) (isAstray es e) (isFull t e)
+      (isCrowded t e) (unfit n e) (fullOver es e) (crowdedOver es e)
+      (unfold malformed in rw (eq-eqb (length b) recordLength w)) (full-over e) (crowded-over e)
+
+  -- ---- after an accepted edit
+
+  pub taken-holds : (b : List ℕ) → answerTo t b ≡ 0 → heldBy (taken t b) ≡ heldBy t ++ (decodeOf b ∷ [])
+  taken-holds b h = go (isCreate (decodeOf b))
+    where
+      go : (x : Bool) → heldBy (cond x (withCreate t b) (withSet t b)) ≡ heldBy t ++ (decodeOf b ∷ [])
+      go true = unfold withCreate in held-after t b (f .kept .isSound) (f .kept .wide) (accepted t b h .admitted)
+      go false = unfold withSet in held-after t b (f .kept .isSound) (f .kept .wide) (accepted t b h .admitted)
+
+pub taken-sites : (t : Tables) (b : List ℕ) → taken t b .counters .sites ≡ t .counters .sites
+taken-sites t b = go (isCreate (decodeOf b))
+  where
+    go : (x : Bool) → cond x (withCreate t b) (withSet t b) .counters .sites ≡ t .counters .sites
+    go true = unfold withCreate in refl
+    go false = unfold withSet in refl
