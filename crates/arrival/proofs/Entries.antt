@@ -12,7 +12,8 @@ use Rattle.arrival.specs.Arrival.{putCounts, putEntry}
 
 -- an object that is as its entry says
 pub object-of :
-    (rs : List ℕ) (n : ℕ) (os gs : List ℕ) (o : ℕ) {p k g : ℕ} → placeAt os o ≡ p → setsAt os o ≡ k → groupsAt os o ≡ g →
+    (rs : List ℕ) (n : ℕ) (os gs : List ℕ) (o : ℕ) {p k g : ℕ} → placeAt os o ≡ p → setsAt os o ≡ k → groupsAt os o ≡
+    g →
     Entry rs n o p k → Row gs o k g → Object rs n os gs o
 object-of rs n os gs o ep ek eg x y = record { entry = rw (ep, ek) x; row = rw (ek, eg) y }
 
@@ -23,7 +24,8 @@ module _ (os : List ℕ) (m k g : ℕ) where
 
   -- any place but the two that are written
   pub counts-other :
-      (i : ℕ) → (i ≡ m * entryLength + 1 → ⊥) → (i ≡ m * entryLength + 2 → ⊥) → getD (putCounts os m k g) i 0 ≡ getD os i 0
+      (i : ℕ) → (i ≡ m * entryLength + 1 → ⊥) → (i ≡ m * entryLength + 2 → ⊥) → getD (putCounts os m k g) i 0 ≡ getD
+      os i 0
   counts-other i d f =
       getD-set-other (set os (m * entryLength + 1) k) (m * entryLength + 2) i g 0 f
       ∙ getD-set-other os (m * entryLength + 1) i k 0 d
@@ -34,7 +36,8 @@ module _ (os : List ℕ) (m k g : ℕ) where
 
     pub counts-sets : setsAt (putCounts os m k g) m ≡ k
     counts-sets =
-        getD-set-other (set os (m * entryLength + 1) k) (m * entryLength + 2) (m * entryLength + 1) g 0 (λ q. omega arith)
+        getD-set-other (set os (m * entryLength + 1) k) (m * entryLength + 2) (m * entryLength + 1) g 0
+        (λ q. omega arith)
         ∙ getD-set-same os (m * entryLength + 1) k 0 (omega arith)
 
     pub counts-groups : groupsAt (putCounts os m k g) m ≡ g

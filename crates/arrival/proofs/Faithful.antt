@@ -77,7 +77,8 @@ pub record Faithful (t : Tables) : Type 0 where
 -- ---- the groups of an object, one edit more
 
 groups-same :
-    (es : List Edit) (c e : Edit) → isSetOn (c .site) (c .seq) e ≡ false → trueGroups (es ++ (e ∷ [])) c ≡ trueGroups es c
+    (es : List Edit) (c e : Edit) → isSetOn (c .site) (c .seq) e ≡ false → trueGroups (es ++ (e ∷ [])) c ≡ trueGroups
+    es c
 unfolding trueGroups setsOn
 groups-same es c e d =
     ap (groupsOf noEdit doConflict)
@@ -164,7 +165,8 @@ module _ (t : Tables) (b : List ℕ) (f : Faithful t) (a : Accepted t b) where
   groups-in : (p : ℕ) → p < n →
       trueGroups (editsOf rs′ (n + 1)) (recordAt rs′ p) ≡ trueGroups (heldBy t ++ (e ∷ [])) (recordAt rs p)
   groups-in p l =
-      ap₂ trueGroups (held-after t b s wide (a .admitted)) (put-before rs n b (a .admitted .whole) (room t b s wide (a .admitted)) p l)
+      ap₂ trueGroups (held-after t b s wide (a .admitted))
+      (put-before rs n b (a .admitted .whole) (room t b s wide (a .admitted)) p l)
 
   module _ (k : isCreate e ≡ true) where
     abbrev m : ℕ
@@ -193,12 +195,14 @@ module _ (t : Tables) (b : List ℕ) (f : Faithful t) (a : Accepted t b) where
     create-new :
         take (groupsAt os′ m) (row m (t .groups)) ≡ trueGroups (editsOf rs′ (n + 1)) (recordAt rs′ (placeAt os′ m))
     create-new =
-        let (ep, ek, eg) = entry-here (t .objects) m n 0 1 (omega (arith, s .objects-long, a .admitted .create-room k)) in
+        let (ep, ek, eg) = entry-here (t .objects) m n 0 1
+        (omega (arith, s .objects-long, a .admitted .create-room k)) in
         ap (λ (g : ℕ). take g (row m (t .groups))) eg
         ∙ first-row
         ∙ sym (groups-same (heldBy t) e e (rw (create-not-set e k))
         ∙ groups-first (heldBy t) e (no-set-held t b s wide (a .admitted)))
-        ∙ sym (ap₂ trueGroups (held-after t b s wide (a .admitted)) (put-here rs n b (a .admitted .whole) (room t b s wide (a .admitted))))
+        ∙ sym (ap₂ trueGroups (held-after t b s wide (a .admitted))
+        (put-here rs n b (a .admitted .whole) (room t b s wide (a .admitted))))
         ∙ ap (λ (q : ℕ). trueGroups (editsOf rs′ (n + 1)) (recordAt rs′ q)) (sym ep)
 
     pub create-keeps-true : RowsTrue (withCreate t b)
@@ -244,7 +248,8 @@ module _ (t : Tables) (b : List ℕ) (f : Faithful t) (a : Accepted t b) where
     set-other o l d =
         let p = placeAt (t .objects) o in
         ap₂ take (other-groups (t .objects) o x sets (length after) d)
-        (row-other (t .groups) x after (a .few k) (row-fits t s e aim) o d (omega (arith, s .groups-long, s .few-objects)))
+        (row-other (t .groups) x after (a .few k) (row-fits t s e aim) o d
+        (omega (arith, s .groups-long, s .few-objects)))
         ∙ f .rows o l
         ∙ sym (groups-same (heldBy t) (recordAt rs p) e (not-on t b s a k wide o l d))
         ∙ sym (groups-in p (s .object o l .entry .place))

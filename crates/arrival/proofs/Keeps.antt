@@ -82,7 +82,8 @@ module _ (t : Tables) (b : List ℕ) (k : Kept t) where
       go false c =
           record {
             isSound =
-                set-keeps-sound t b (k .isSound) (accepted t b h) (set-or-create t b (accepted t b h .admitted) c) (k .wide);
+                set-keeps-sound t b (k .isSound) (accepted t b h) (set-or-create t b (accepted t b h .admitted) c)
+                (k .wide);
             wide = unfold withSet in bumped count;
           }
 

@@ -61,7 +61,8 @@ sets-snoc s q es e = filter-length-snoc (isSetOn s q) es e
 
 -- ---- the tables with one record more
 
-module _ (t : Tables) (b : List ℕ) (s : Sound t) (wide : length (t .counters .held) ≡ mostSites) (a : Admitted t b) where
+module _ (t : Tables) (b : List ℕ) (s : Sound t) (wide : length (t .counters .held) ≡ mostSites)
+    (a : Admitted t b) where
   abbrev e : Edit
   e = decodeOf b
 
@@ -139,7 +140,8 @@ module _ (t : Tables) (b : List ℕ) (s : Sound t) (wide : length (t .counters .
     create-after = ap isCreate same
 
     pub number-after : length (creates (editsOf rs′ p)) ≡ length (creates (editsOf rs p))
-    number-after = ap (λ (es : List Edit). length (creates es)) (put-edits-before rs n b (a .whole) room p (omega arith))
+    number-after =
+        ap (λ (es : List Edit). length (creates es)) (put-edits-before rs n b (a .whole) room p (omega arith))
 
     -- the Sets on the Create in it are those before and the edit, if it is one
     pub sets-after :

@@ -46,7 +46,8 @@ create-not-set e h =
     let k : e .kind ≡ createKind = eqb-true (e .kind) createKind h in
     ne-eqb (e .kind) setKind (λ q. omega arith)
 
-module _ (t : Tables) (b : List ℕ) (s : Sound t) (wide : length (t .counters .held) ≡ mostSites) (a : Admitted t b) where
+module _ (t : Tables) (b : List ℕ) (s : Sound t) (wide : length (t .counters .held) ≡ mostSites)
+    (a : Admitted t b) where
   abbrev e : Edit
   e = decodeOf b
 
@@ -65,7 +66,8 @@ module _ (t : Tables) (b : List ℕ) (s : Sound t) (wide : length (t .counters .
       let one : _≡_ {A = ℕ} (cond (eqb (recordAt rs p .site .0) x) 1 0) 1 = rw (eq-eqb x x refl) in
       let here : countFrom x (editsOf rs (suc p)) ≡ countFrom x (editsOf rs p) + 1 = count-more x rs p ∙ rw one in
       let more : countFrom x (editsOf rs (suc p)) ≤ countFrom x (heldBy t) = count-grows x rs (suc p) n l in
-      let same : countFrom x (heldBy t) ≡ countFrom (e .site .0) (heldBy t) = ap (λ (y : ℕ). countFrom y (heldBy t)) hs in
+      let same : countFrom x (heldBy t) ≡ countFrom (e .site .0) (heldBy t) = ap (λ (y : ℕ). countFrom y (heldBy t))
+      hs in
       omega (arith, next-at (t .counters .sites) rs n (s .pass) p l)
 
   -- so no Set held is on it
@@ -110,7 +112,8 @@ module _ (t : Tables) (b : List ℕ) (s : Sound t) (wide : length (t .counters .
           place = omega arith;
           create = ap isCreate here ∙ k;
           number =
-              ap (λ (es : List Edit). length (creates es)) (put-edits-before rs n b (a .whole) (room t b s wide a) n (omega arith))
+              ap (λ (es : List Edit). length (creates es))
+              (put-edits-before rs n b (a .whole) (room t b s wide a) n (omega arith))
               ∙ sym (s .objects);
           sets =
               sym (ap (λ (r : Edit). length (setsOn (r .site) (r .seq) (editsOf rs′ (n + 1)))) here
@@ -150,7 +153,8 @@ module _ (t : Tables) (b : List ℕ) (s : Sound t) (wide : length (t .counters .
           held = counts-after t b s wide a;
           objects =
               ap (λ (x : ℕ). x + 1) (s .objects)
-              ∙ sym (ap (λ (es : List Edit). length (creates es)) (held-after t b s wide a) ∙ creates-snoc (heldBy t) e ∙ rw k);
+              ∙ sym (ap (λ (es : List Edit). length (creates es)) (held-after t b s wide a) ∙ creates-snoc (heldBy t)
+              e ∙ rw k);
           pass = pass-after t b s wide a;
           object =
               λ o l.

@@ -96,7 +96,8 @@ module _ (t : Tables) (b : List ℕ) (s : Sound t) (a : Accepted t b) (k : isSet
   row-after : Row gs′ o (length (matesOf t e) + 1) (length after)
   row-after =
       rw (add-one (length (matesOf t e)))
-      (new-row (t .groups) o after (a .few k) (row-fits t s e aim) (suc (length (matesOf t e))) (after-ascending t s e aim) (after-below t s e aim) (after-some t s e aim))
+      (new-row (t .groups) o after (a .few k) (row-fits t s e aim) (suc (length (matesOf t e)))
+      (after-ascending t s e aim) (after-below t s e aim) (after-some t s e aim))
 
   -- ---- the tables after it
 
@@ -121,10 +122,12 @@ module _ (t : Tables) (b : List ℕ) (s : Sound t) (a : Accepted t b) (k : isSet
         let x = s .object o (object-less t s e aim) .entry in
         let r = recordAt rs p in
         let on : isSetOn (r .site) (r .seq) e ≡ true
-        = ap₂ (λ (y : Site) (z : Seq). isSet e && sameEdit (e .tsite) (e .tseq) y z) (target-site t s e aim) (target-seq t s e aim)
+        = ap₂ (λ (y : Site) (z : Seq). isSet e && sameEdit (e .tsite) (e .tseq) y z) (target-site t s e aim)
+        (target-seq t s e aim)
         ∙ rw (k, same-reflexive (e .tsite) (e .tseq)) in
         let grown : Entry rs′ (n + 1) o p (setsAt (t .objects) o + 1)
-        = entry-grown t b s wide (a .admitted) o p (setsAt (t .objects) o) x on (omega (arith, (sets-are t s e aim), a .admitted .set-room k)) in
+        = entry-grown t b s wide (a .admitted) o p (setsAt (t .objects) o) x on
+        (omega (arith, (sets-are t s e aim), a .admitted .set-room k)) in
         object-of rs′ (n + 1) os′ gs′ o (counts-place (t .objects) o (length (matesOf t e) + 1) (length after) fits)
         (counts-sets (t .objects) o (length (matesOf t e) + 1) (length after) fits)
         (counts-groups (t .objects) o (length (matesOf t e) + 1) (length after) fits)
@@ -143,7 +146,8 @@ module _ (t : Tables) (b : List ℕ) (s : Sound t) (a : Accepted t b) (k : isSet
         let (hs, hq) = same-parts (e .tsite) (e .tseq) (r .site) (r .seq) eq in
         let places : placeAt (t .objects) q ≡ p
         = one-place (t .counters .sites) rs n (s .pass) (placeAt (t .objects) q) p (x .place) (y .place)
-        (ap (λ (z : Site). z .0) (sym hs) ∙ sym (target t s e aim .site)) (ap (λ (z : Seq). z .0) (sym hq) ∙ sym (target t s e aim .seq)) in
+        (ap (λ (z : Site). z .0) (sym hs) ∙ sym (target t s e aim .site))
+        (ap (λ (z : Seq). z .0) (sym hq) ∙ sym (target t s e aim .seq)) in
         d (sym (x .number) ∙ ap (λ (i : ℕ). length (creates (editsOf rs i))) places ∙ y .number))
 
     other-object : (q : ℕ) → q < t .counters .objects → (q ≡ o → ⊥) → Object rs′ (n + 1) os′ gs′ q
@@ -153,8 +157,10 @@ module _ (t : Tables) (b : List ℕ) (s : Sound t) (a : Accepted t b) (k : isSet
         object-of rs′ (n + 1) os′ gs′ q (other-place (t .objects) q o m (length after) d)
         (other-sets (t .objects) q o m (length after) d)
         (other-groups (t .objects) q o m (length after) d)
-        (entry-kept t b s wide (a .admitted) q (placeAt (t .objects) q) (setsAt (t .objects) q) (x .entry) (not-on q l d))
-        (other-row (t .groups) o after (a .few k) (row-fits t s e aim) q (setsAt (t .objects) q) (groupsAt (t .objects) q) d (x .row))
+        (entry-kept t b s wide (a .admitted) q (placeAt (t .objects) q) (setsAt (t .objects) q) (x .entry)
+        (not-on q l d))
+        (other-row (t .groups) o after (a .few k) (row-fits t s e aim) q (setsAt (t .objects) q)
+        (groupsAt (t .objects) q) d (x .row))
 
     pub set-keeps-sound : Sound (withSet t b)
     unfolding withSet
@@ -183,10 +189,13 @@ module _ (t : Tables) (b : List ℕ) (s : Sound t) (a : Accepted t b) (k : isSet
           records-zero = records-zero-after t b s wide (a .admitted);
           objects-zero =
               λ i l j.
-              counts-other (t .objects) o m (length after) i (λ q. omega (arith, (object-less t s e aim))) (λ q. omega (arith, (object-less t s e aim)))
+              counts-other (t .objects) o m (length after) i (λ q. omega (arith, (object-less t s e aim)))
+              (λ q. omega (arith, (object-less t s e aim)))
               ∙ s .objects-zero i (omega arith) (omega arith);
           groups-zero =
               λ i l j.
-              row-elsewhere (t .groups) o after (a .few k) (row-fits t s e aim) i (omega (arith, (object-less t s e aim)))
-              ∙ s .groups-zero i (omega arith) (omega (arith, row-put-long (t .groups) o after (a .few k) (row-fits t s e aim)));
+              row-elsewhere (t .groups) o after (a .few k) (row-fits t s e aim) i
+              (omega (arith, (object-less t s e aim)))
+              ∙ s .groups-zero i (omega arith) (omega
+              (arith, row-put-long (t .groups) o after (a .few k) (row-fits t s e aim)));
         }

@@ -78,7 +78,8 @@ pub create-at :
 create-at d rs zero p l h = absurd (omega arith)
 create-at d rs (suc n) p l h = go (last l) (create-at d rs n p)
   where
-    grown : creates (editsOf rs (suc n)) ≡ creates (editsOf rs n) ++ cond (isCreate (recordAt rs n)) (recordAt rs n ∷ []) []
+    grown :
+        creates (editsOf rs (suc n)) ≡ creates (editsOf rs n) ++ cond (isCreate (recordAt rs n)) (recordAt rs n ∷ []) []
     grown = unfold creates editsOf in filter-snoc isCreate (editsOf rs n) (recordAt rs n)
 
     go : (p < n) ⊎ (p ≡ n) →

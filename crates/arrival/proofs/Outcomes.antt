@@ -107,7 +107,8 @@ module _ (t : Tables) (b : List ℕ) where
 
 -- ---- the count of the edit's site has room
 
-pub count-room : (t : Tables) (b : List ℕ) → Sound t → Admitted t b → getD (t .counters .held) (decodeOf b .site .0) 0 < mostRecords
+pub count-room :
+    (t : Tables) (b : List ℕ) → Sound t → Admitted t b → getD (t .counters .held) (decodeOf b .site .0) 0 < mostRecords
 count-room t b s a =
     let x = decodeOf b .site .0 in
     omega (

@@ -30,7 +30,11 @@ first-present n (true ∷ bs) zero f = omega arith
 first-present n (false ∷ bs) zero f = clash (f .present) refl
 first-present n (true ∷ bs) (suc i) f = clash refl (f .none-before 0 (omega arith))
 first-present n (false ∷ bs) (suc i) f =
-    first-present (suc n) bs i (record { present = f .present; none-before = λ j l. f .none-before (suc j) (omega arith) })
+    first-present (suc n) bs i (record {
+      present = f .present;
+      none-before = λ j l. f .none-before (suc j)
+          (omega arith);
+    })
     ∙ omega arith
 
 -- an answer other than 0 is the number of a reason that is present

@@ -5,7 +5,17 @@ use mathlib.Core.List.{List, [], _∷_, _++_}
 use Prim.Native.Nat.{ℕ, zero, suc, _+_, _-_, _*_, _≤_, _<_}
 use native.Mathlib.Omega.{arith}
 use lib.ListN.{length, getD, take, drop, length-take, length-drop, length-append, List·getD-append}
-use lib.Seq.{getD-take, getD-drop, drop-at, drop-drop, length-take-le, ext-getD, take-at, drop-append-le, take-append-le}
+use lib.Seq.{
+  getD-take,
+  getD-drop,
+  drop-at,
+  drop-drop,
+  length-take-le,
+  ext-getD,
+  take-at,
+  drop-append-le,
+  take-append-le,
+}
 use Rattle.record.specs.Layout.{recordLength}
 use Rattle.record.specs.Record.{decodeOf}
 use Rattle.record.proofs.Agree.{Agree, agree-append, decode-agree}
@@ -43,7 +53,8 @@ module _ (rs : List ℕ) (n : ℕ) (b : List ℕ) (whole : length b ≡ recordLe
 
   pub put-at : drop (n * recordLength) after ≡ b ++ drop (n * recordLength + recordLength) rs
   put-at =
-      drop-at (take (n * recordLength) rs) (b ++ drop (n * recordLength + recordLength) rs) (n * recordLength) front-long
+      drop-at (take (n * recordLength) rs) (b ++ drop (n * recordLength + recordLength) rs) (n * recordLength)
+      front-long
 
   -- and so are those behind it
   pub put-behind : drop (n * recordLength + recordLength) after ≡ drop (n * recordLength + recordLength) rs

@@ -5,7 +5,18 @@ use mathlib.Core.List.{List, _++_}
 use Prim.Native.Nat.{ℕ, suc, _+_, _-_, _*_, _^_, _≤_, _<_}
 use native.Mathlib.Omega.{arith}
 use native.Mathlib.Decide.{decLt}
-use lib.ListN.{length, getD, take, drop, replicate, length-drop, length-append, length-replicate, getD-replicate, List·getD-append}
+use lib.ListN.{
+  length,
+  getD,
+  take,
+  drop,
+  replicate,
+  length-drop,
+  length-append,
+  length-replicate,
+  getD-replicate,
+  List·getD-append,
+}
 use lib.Seq.{length-take-le, getD-take, getD-drop, getD-append-add, take-append-le, take-all, ext-getD}
 use Rattle.ground.specs.Sorted.{elem, Ascending}
 use Rattle.ground.proofs.Places.{elem-place, place-elem, ascending-on, ascending-at}
@@ -82,7 +93,9 @@ module _ (gs : List ℕ) (o : ℕ) (l : List ℕ) (few : length l ≤ mostGroups
   pub row-elsewhere : (i : ℕ) → o * mostGroups + mostGroups ≤ i → getD gs′ i 0 ≡ getD gs i 0
   row-elsewhere i m = put-after gs (o * mostGroups) mostGroups filled filled-long fits i m
 
-  other-at : (p : ℕ) → (p ≡ o → ⊥) → (i : ℕ) → i < mostGroups → getD gs′ (p * mostGroups + i) 0 ≡ getD gs (p * mostGroups + i) 0
+  other-at :
+      (p : ℕ) → (p ≡ o → ⊥) → (i : ℕ) → i < mostGroups → getD gs′ (p * mostGroups + i) 0 ≡ getD gs
+      (p * mostGroups + i) 0
   other-at p d i m =
       elim (decLt p o) [
         | yes q ↦ put-before gs (o * mostGroups) mostGroups filled filled-long fits (p * mostGroups + i) (omega arith)
@@ -100,7 +113,14 @@ module _ (gs : List ℕ) (o : ℕ) (l : List ℕ) (few : length l ≤ mostGroups
         rising =
             λ i m.
             let e : o * mostGroups + i + 1 ≡ o * mostGroups + suc i = omega arith in
-            rw (e, row-at i (omega arith), row-at (suc i) (omega arith), filled-at i (omega arith), filled-at (suc i) (omega arith))
+            rw (
+              e,
+              row-at i (omega arith),
+              row-at (suc i) (omega arith),
+              filled-at i (omega arith),
+              filled-at (suc i)
+                  (omega arith),
+            )
             (ascending-at l asc i (omega arith));
         rest = λ i m n. rw (row-at i m) (filled-rest i m n);
       }

@@ -1,5 +1,5 @@
--- What the code that takes a Set is given, and what it leaves: a Set that passes 1 to 6 at sound tables, with the survey
--- of the records. Assumes nothing.
+-- What the code that takes a Set is given, and what it leaves: a Set that passes 1 to 6 at sound tables, with the
+-- survey of the records. Assumes nothing.
 use mathlib.Core.Path.{_≡_, refl, sym, ap, subst, _∙_}
 use mathlib.Core.Bool.{Bool, true}
 use mathlib.Core.List.{List}

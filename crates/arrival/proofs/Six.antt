@@ -73,5 +73,6 @@ unfolding answerTo sixth
 answer-is t b =
     let e = decodeOf b in
     let es = heldBy t in
-    or-seven (malformed (t .counters .sites) b) (isRepeated es e) (isEarly es e) (isTorn es e) (isAstray es e) (isFull t e)
+    or-seven (malformed (t .counters .sites) b) (isRepeated es e) (isEarly es e) (isTorn es e) (isAstray es e)
+    (isFull t e)
     (isCrowded t e)

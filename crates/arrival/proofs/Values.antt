@@ -102,9 +102,12 @@ module _ (t : Tables) (s : Sound t) (c : Edit) (g : ℕ) (e : elem g (trueGroups
     same-value h =
         let (hs, hq) = same-parts (at i .site) (at i .seq) (at j .site) (at j .seq) h in
         let places : x .place ≡ y .place
-        = one-place (t .counters .sites) (t .records) (t .counters .records) (s .pass) (x .place) (y .place) (x .low) (y .low)
-        (ap (λ (a : Edit). a .site .0) (x .same) ∙ ap (λ (z : Site). z .0) hs ∙ sym (ap (λ (a : Edit). a .site .0) (y .same)))
-        (ap (λ (a : Edit). a .seq .0) (x .same) ∙ ap (λ (z : Seq). z .0) hq ∙ sym (ap (λ (a : Edit). a .seq .0) (y .same))) in
+        = one-place (t .counters .sites) (t .records) (t .counters .records) (s .pass) (x .place) (y .place) (x .low)
+        (y .low)
+        (ap (λ (a : Edit). a .site .0) (x .same) ∙ ap (λ (z : Site). z .0) hs ∙ sym
+        (ap (λ (a : Edit). a .site .0) (y .same)))
+        (ap (λ (a : Edit). a .seq .0) (x .same) ∙ ap (λ (z : Seq). z .0) hq ∙ sym
+        (ap (λ (a : Edit). a .seq .0) (y .same))) in
         ap (λ (a : Edit). a .value) (sym (x .same) ∙ ap (recordAt (t .records)) places ∙ y .same)
 
     -- members of a group do not conflict
@@ -152,6 +155,7 @@ module _ (t : Tables) (s : Sound t) (c : Edit) (g : ℕ) (e : elem g (trueGroups
       off (comesBefore (at i) (at j)) (λ h.
       clash
       (ap₂ ranksBefore (sym (x .same)) (sym (y .same))
-      ∙ before-ranks (t .counters .sites) (s .few-sites) (t .records) (t .counters .records) (s .pass) (x .place) (y .place)
+      ∙ before-ranks (t .counters .sites) (s .few-sites) (t .records) (t .counters .records) (s .pass) (x .place)
+      (y .place)
       (x .low) (y .low) (ap₂ comesBefore (x .same) (y .same) ∙ h))
       (last j mj))

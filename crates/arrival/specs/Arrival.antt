@@ -1,5 +1,5 @@
--- What an arriving edit does: 8, then 1 to 7 in turn, the first that applies; else the tables with the Create or the Set
--- in. Assumes nothing.
+-- What an arriving edit does: 8, then 1 to 7 in turn, the first that applies; else the tables with the Create or the
+-- Set in. Assumes nothing.
 use Prim.Native.Nat.{ℕ, zero, suc, _+_, _-_, _*_}
 use mathlib.Core.List.{List, [], _∷_, _++_}
 use mathlib.Core.Bool.{Bool, _&&_, _||_, cond}

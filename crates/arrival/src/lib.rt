@@ -164,7 +164,8 @@ fn take_create(
     counted_with(c, s, 1)
 }
 
-// Stores a Set on object o, which now has k Sets and g groups: its record, the entry's counts and the counters after it.
+// Stores a Set on object o, which now has k Sets and g groups: its record, the entry's counts and the counters after
+// it.
 fn store_set(
     c: Counters,
     records: &mut [u8],

@@ -53,7 +53,8 @@ written-and-read-back sites rs right n t g ahead room u lengths =
 read-is :
     (u : Tables) (file : List ℕ) → readingOf u file .answer ≡ 0 →
     (located file .trailer .answer ≡ 0)
-    × Going (located file .trailer .sites) (located file .stretch) (located file .trailer .records) (readingOf u file .after)
+    × Going (located file .trailer .sites) (located file .stretch) (located file .trailer .records)
+    (readingOf u file .after)
 unfolding readingOf recordsRead
 read-is u file h = go (lengthsRight (u .records) (u .objects) (u .groups)) h
   where
@@ -78,7 +79,8 @@ read-is u file h = go (lengthsRight (u .records) (u .objects) (u .groups)) h
     inner false e h = absurd (eqb-false (f .answer) 0 e h)
 
     go : (x : Bool) →
-        cond x (cond (eqb (f .answer) 0) (orEmpty (f .sites) r) (replayed (f .answer) 0 u)) (replayed 8 0 u) .answer ≡ 0 →
+        cond x (cond (eqb (f .answer) 0) (orEmpty (f .sites) r) (replayed (f .answer) 0 u)) (replayed 8 0 u) .answer ≡
+        0 →
         (f .answer ≡ 0)
         × Going (f .sites) (located file .stretch) (f .records)
         (cond x (cond (eqb (f .answer) 0) (orEmpty (f .sites) r) (replayed (f .answer) 0 u)) (replayed 8 0 u) .after)

@@ -40,7 +40,8 @@ module _ (sites : ℕ) (few : sites ≤ mostSites) (rs : List ℕ) (n : ℕ) (pa
   module _ (h : comesBefore a b ≡ true) where
     apart : (a .site .0 ≡ b .site .0) → (a .seq .0 ≡ b .seq .0) → ⊥
     apart e f =
-        let (d, _) = both (not (sameEdit (a .site) (a .seq) (b .site) (b .seq))) (hasSeen (b .vector) (a .site) (a .seq)) h in
+        let (d, _) = both (not (sameEdit (a .site) (a .seq) (b .site) (b .seq)))
+        (hasSeen (b .vector) (a .site) (a .seq)) h in
         let same : sameEdit (a .site) (a .seq) (b .site) (b .seq) ≡ true
         = rw (eq-eqb (a .site .0) (b .site .0) e, eq-eqb (a .seq .0) (b .seq .0) f) in
         clash same (not-true (sameEdit (a .site) (a .seq) (b .site) (b .seq)) d)
@@ -106,4 +107,5 @@ module _ (sites : ℕ) (few : sites ≤ mostSites) (rs : List ℕ) (n : ℕ) (pa
 
     pub before-ranks : ranksBefore a b ≡ true
     before-ranks =
-        larger-ranks-later a b nowhere-above (b .site .0) (omega (arith, formed-at sites rs n pass q lq .site)) below-own
+        larger-ranks-later a b nowhere-above (b .site .0) (omega (arith, formed-at sites rs n pass q lq .site))
+        below-own

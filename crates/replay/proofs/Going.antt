@@ -1,5 +1,5 @@
--- A replay as it goes: while no record is refused the tables are the replay's, sound and of the stated lengths; the next
--- record is taken, or refused, and then the replay ends there. Assumes nothing.
+-- A replay as it goes: while no record is refused the tables are the replay's, sound and of the stated lengths; the
+-- next record is taken, or refused, and then the replay ends there. Assumes nothing.
 use mathlib.Core.Path.{_≡_, refl, sym, ap, subst, _∙_}
 use mathlib.Core.Logic.{_⊎_, inl, inr}
 use mathlib.Core.Bool.{Bool, true, false, _&&_, cond}
@@ -29,7 +29,8 @@ Going sites rs i t = replayed 0 0 t ≡ replayOf sites rs i
 -- ---- the start
 
 pub opened :
-    (t t′ : Tables) (a sites : ℕ) → lengthsRight (t .records) (t .objects) (t .groups) ≡ true → sitesRight sites ≡ true →
+    (t t′ : Tables) (a sites : ℕ) → lengthsRight (t .records) (t .objects) (t .groups) ≡ true → sitesRight sites ≡
+    true →
     outcomeOf a t′ ≡ openingOf t sites → t′ ≡ emptyDrawing sites
 unfolding openingOf
 opened t t′ a sites l s h = ap (λ (o : Outcome). o .after) (rw (l, s) at h)
@@ -101,7 +102,9 @@ module _ (sites : ℕ) (rs : List ℕ) (right : sitesRight sites ≡ true) (i : 
 
 -- ---- the record that is lent
 
-pub lent-is : (rs : List ℕ) (i : ℕ) → take ((i * recordLength + recordLength) - i * recordLength) (drop (i * recordLength) rs) ≡ bytesAt rs i
+pub lent-is :
+    (rs : List ℕ) (i : ℕ) → take ((i * recordLength + recordLength) - i * recordLength) (drop (i * recordLength) rs) ≡
+    bytesAt rs i
 lent-is rs i =
     let e : (i * recordLength + recordLength) - i * recordLength ≡ recordLength = omega arith in
     ap (λ (k : ℕ). take k (drop (i * recordLength) rs)) e

@@ -1,5 +1,5 @@
--- A drawing made from records holds those records: its table has their bytes in their places, and replayed they give the
--- same drawing. Assumes nothing.
+-- A drawing made from records holds those records: its table has their bytes in their places, and replayed they give
+-- the same drawing. Assumes nothing.
 use mathlib.Core.Path.{_≡_, refl, sym, ap, ap₂, subst, _∙_}
 use mathlib.Core.Logic.{_⊎_, inl, inr}
 use mathlib.Core.Bool.{Bool, true, false, cond}
@@ -59,7 +59,8 @@ index-none sites rs (suc n) h = go (eqb (r .answer) 0) refl h (index-none sites 
     go true e h ih = rw (eq-eqb (acceptanceOf (r .after) (bytesAt rs n) .answer) 0 h)
     go false e h ih = ih h
 
-pub going-of : (sites : ℕ) (rs : List ℕ) (n : ℕ) → replayOf sites rs n .answer ≡ 0 → Going sites rs n (replayOf sites rs n .after)
+pub going-of :
+    (sites : ℕ) (rs : List ℕ) (n : ℕ) → replayOf sites rs n .answer ≡ 0 → Going sites rs n (replayOf sites rs n .after)
 going-of sites rs n h =
     ap₂ (λ (a i : ℕ). replayed a i (replayOf sites rs n .after)) (sym h) (sym (index-none sites rs n h))
 

@@ -1,5 +1,5 @@
--- Records taken one after another from an empty drawing: what reading a file does, and what the separate check holds the
--- tables against. Assumes nothing.
+-- Records taken one after another from an empty drawing: what reading a file does, and what the separate check holds
+-- the tables against. Assumes nothing.
 use Prim.Native.Nat.{ℕ, zero, suc}
 use mathlib.Core.List.{List}
 use mathlib.Core.Bool.{Bool, _&&_, cond}

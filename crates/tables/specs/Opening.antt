@@ -1,5 +1,5 @@
--- Opening an empty drawing: lengths (8), then 9; then every entry is zero except N. What stood in the tables before does
--- not matter. Assumes nothing.
+-- Opening an empty drawing: lengths (8), then 9; then every entry is zero except N. What stood in the tables before
+-- does not matter. Assumes nothing.
 use Prim.Native.Nat.{ℕ}
 use mathlib.Core.Bool.{cond}
 use Rattle.tables.specs.Tables.{Tables, Outcome, outcomeOf, emptyDrawing}

@@ -13,7 +13,17 @@ use Rattle.history.specs.History.{recordAt, editsOf, countFrom, creates, setsOn
 use Rattle.history.specs.Answers.{recordsPass}
 use Rattle.group.specs.Row.{mostObjects, mostSets, mostGroups}
 use Rattle.tables.specs.declared.Counters.{Counters}
-use Rattle.tables.specs.Tables.{Tables, entryLength, placeAt, setsAt, groupsAt, heldBy, recordsLength, objectsLength, groupsLength}
+use Rattle.tables.specs.Tables.{
+  Tables,
+  entryLength,
+  placeAt,
+  setsAt,
+  groupsAt,
+  heldBy,
+  recordsLength,
+  objectsLength,
+  groupsLength,
+}
 
 -- ---- lengths and limits
 
@@ -36,8 +46,8 @@ countsAgree c rs =
 
 -- ---- the objects
 
--- place i of object o's row, which has g groups of k Sets: a group with no bit at or past k, below the next one; 0 where
--- unused
+-- place i of object o's row, which has g groups of k Sets: a group with no bit at or past k, below the next one; 0
+-- where unused
 abbrev pub slotSound : List ℕ → ℕ → ℕ → ℕ → ℕ → Bool
 slotSound gs o k g i =
     leb g i && eqb (getD gs (o * mostGroups + i) 0) 0

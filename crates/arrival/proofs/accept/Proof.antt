@@ -19,8 +19,10 @@ cast-survey c = search needs
 
 survey-requires : tie.Need-survey-requires
 survey-requires c κs =
-    let a = c .before .before .before .before .before .before .before .args in
-    surveyable (tablesOf (a .c) (now (a .records)) (now (a .objects)) (now (a .groups))) (c .before .before .before .before .before .before .before .pre) (c .before .before .decode .result)
+    let s7 = c .before .before .before .before .before .before .before in
+    let a = s7 .args in
+    surveyable (tablesOf (a .c) (now (a .records)) (now (a .objects)) (now (a .groups))) (s7 .pre)
+    (c .before .before .decode .result)
 
 refusal-requires : tie.Need-refusal-requires
 refusal-requires c κs = search needs
@@ -47,17 +49,23 @@ returns c =
 
 take-create-requires : tie.Need-take-create-requires
 take-create-requires c κs =
-    let s = c .before .before .before .before .before .before .before .before .before .before .before .before .before .before .before in
+    let s5 = c .before .before .before .before .before in
+    let s6 = s5 .before in
+    let s7 = s6 .before in
+    let s10 = s7 .before .before .before in
+    let s15 = s10 .before .before .before .before .before in
+    let s = s15 in
     let a = s .args in
     let t = tablesOf (a .c) (now (a .records)) (now (a .objects)) (now (a .groups)) in
     let b = now (a .rec) in
-    let v = c .before .before .before .before .before .before .before .survey in
-    let d = c .before .before .before .before .before .before .before .before .before .before .decode in
-    let r = c .before .before .before .before .before .before .refusal in
+    let v = s7 .survey in
+    let d = s10 .decode in
+    let r = s6 .refusal in
     let q : numberOf (r .result) ≡ sixth t b
     = r .ensures ∙ sixth-is t (s .pre) b (d .result) (d .ensures) (v .result) (v .ensures) in
-    let z : sixth t b ≡ 0 = sym q ∙ sym (c .before .before .before .before .before .number .ensures) ∙ c .before .before .before .before .if1 .left in
-    create-given t (s .pre) b (d .result) (d .ensures) z (eq-eqb (d .result .kind) createKind (c .before .before .if2 .taken))
+    let z : sixth t b ≡ 0 = sym q ∙ sym (s5 .number .ensures) ∙ c .before .before .before .before .if1 .left in
+    create-given t (s .pre) b (d .result) (d .ensures) z
+    (eq-eqb (d .result .kind) createKind (c .before .before .if2 .taken))
 
 same-length-2 : tie.Need-same-length-2
 same-length-2 c = search needs
@@ -67,32 +75,45 @@ same-length-3 c = search needs
 
 returns-2 : tie.Need-returns-2
 returns-2 c =
-    let s = c .before .before .before .before .before .before .before .before .before .before .before .before .before .before .before .before .before .before .before .before in
+    let s7 = c .before .before .before .before .before .before .before in
+    let s9 = s7 .before .before in
+    let s10 = s9 .before in
+    let s11 = s10 .before in
+    let s12 = s11 .before in
+    let s15 = s12 .before .before .before in
+    let s20 = s15 .before .before .before .before .before in
+    let s = s20 in
     let a = s .args in
     let t = tablesOf (a .c) (now (a .records)) (now (a .objects)) (now (a .groups)) in
     let b = now (a .rec) in
-    let v = c .before .before .before .before .before .before .before .before .before .before .before .before .survey in
-    let d = c .before .before .before .before .before .before .before .before .before .before .before .before .before .before .before .decode in
-    let r = c .before .before .before .before .before .before .before .before .before .before .before .refusal in
+    let v = s12 .survey in
+    let d = s15 .decode in
+    let r = s11 .refusal in
     let q : numberOf (r .result) ≡ sixth t b
     = r .ensures ∙ sixth-is t (s .pre) b (d .result) (d .ensures) (v .result) (v .ensures) in
-    let z : sixth t b ≡ 0 = sym q ∙ sym (c .before .before .before .before .before .before .before .before .before .before .number .ensures) ∙ c .before .before .before .before .before .before .before .before .before .if1 .left in
+    let z : sixth t b ≡ 0 = sym q ∙ sym (s10 .number .ensures) ∙ s9 .if1 .left in
     let m = c .before .before .before .before .take-create in
     rw (m .ensures .0, m .ensures .1, m .ensures .2)
-    (create-taken t (s .pre) b (d .result) (d .ensures) z (eq-eqb (d .result .kind) createKind (c .before .before .before .before .before .before .before .if2 .taken)))
+    (create-taken t (s .pre) b (d .result) (d .ensures) z (eq-eqb (d .result .kind) createKind (s7 .if2 .taken)))
 
 take-set-requires : tie.Need-take-set-requires
 take-set-requires c κs =
-    let s = c .before .before .before .before .before .before .before .before .before .before .before .before .before .before .before .before in
+    let s5 = c .before .before .before .before .before in
+    let s6 = s5 .before in
+    let s7 = s6 .before in
+    let s8 = s7 .before in
+    let s11 = s8 .before .before .before in
+    let s16 = s11 .before .before .before .before .before in
+    let s = s16 in
     let a = s .args in
     let t = tablesOf (a .c) (now (a .records)) (now (a .objects)) (now (a .groups)) in
     let b = now (a .rec) in
-    let v = c .before .before .before .before .before .before .before .before .survey in
-    let d = c .before .before .before .before .before .before .before .before .before .before .before .decode in
-    let r = c .before .before .before .before .before .before .before .refusal in
+    let v = s8 .survey in
+    let d = s11 .decode in
+    let r = s7 .refusal in
     let q : numberOf (r .result) ≡ sixth t b
     = r .ensures ∙ sixth-is t (s .pre) b (d .result) (d .ensures) (v .result) (v .ensures) in
-    let z : sixth t b ≡ 0 = sym q ∙ sym (c .before .before .before .before .before .before .number .ensures) ∙ c .before .before .before .before .before .if1 .left in
+    let z : sixth t b ≡ 0 = sym q ∙ sym (s6 .number .ensures) ∙ s5 .if1 .left in
     set-ready t (s .pre) b (d .result) (d .ensures) z (v .result) (v .ensures)
     (ne-eqb (d .result .kind) createKind (c .before .before .before .if2 .left))
 

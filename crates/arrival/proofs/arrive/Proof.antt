@@ -25,9 +25,11 @@ same-length-3 c = search needs
 returns : tie.Need-returns
 unfolding arrivalOf
 returns c =
-    let a = c .before .before .before .before .before .before .before .before .before .args in
+    let s9 = c .before .before .before .before .before .before .before .before .before in
+    let a = s9 .args in
     let s = c .before .is-sound in
-    let no : sound (tablesOf (a .c) (now (a .records)) (now (a .objects)) (now (a .groups))) ≡ false = sym (s .ensures) ∙ not-true (s .result) (c .if1 .taken) in
+    let no : sound (tablesOf (a .c) (now (a .records)) (now (a .objects)) (now (a .groups))) ≡ false = sym
+    (s .ensures) ∙ not-true (s .result) (c .if1 .taken) in
     rw no
 
 accept-requires : tie.Need-accept-requires
@@ -47,10 +49,15 @@ same-length-6 c = search needs
 returns-2 : tie.Need-returns-2
 unfolding arrivalOf
 returns-2 c =
-    let a = c .before .before .before .before .before .before .before .before .before .before .before .before .before .before .before .before .before .before .before .args in
-    let s = c .before .before .before .before .before .before .before .before .before .before .before .is-sound in
-    let yes : sound (tablesOf (a .c) (now (a .records)) (now (a .objects)) (now (a .groups))) ≡ true = sym (s .ensures) ∙ not-false (s .result) (c .before .before .before .before .before .before .before .before .before .before .if1 .left) in
-    rw yes (c .before .before .before .before .before .before .accept .ensures)
+    let s6 = c .before .before .before .before .before .before in
+    let s10 = s6 .before .before .before .before in
+    let s11 = s10 .before in
+    let s19 = s11 .before .before .before .before .before .before .before .before in
+    let a = s19 .args in
+    let s = s11 .is-sound in
+    let yes : sound (tablesOf (a .c) (now (a .records)) (now (a .objects)) (now (a .groups))) ≡ true = sym
+    (s .ensures) ∙ not-false (s .result) (s10 .if1 .left) in
+    rw yes (s6 .accept .ensures)
 
 pub arrive-spec : {M : Type 1} → statement M
 arrive-spec =

@@ -51,7 +51,13 @@ returns : tie.Need-returns Inv-loop μ-loop
 returns c =
     let a = c .before .before .args in
     let k : c .before .loop .i ≡ recordLength = omega arith in
-    rw (c .before .loop .inv .2, k, take-all recordLength (now (a .src)) (omega arith), drop-of-length-le (now (a .d)) {i = recordLength} (omega arith))
+    rw (
+      c .before .loop .inv .2,
+      k,
+      take-all recordLength (now (a .src)) (omega arith),
+      drop-of-length-le (now (a .d))
+          {i = recordLength} (omega arith),
+    )
     (append-nil (now (a .src)))
 
 pub copy-record-spec : {M : Type 1} → statement M

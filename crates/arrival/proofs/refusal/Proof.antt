@@ -22,7 +22,12 @@ returns : tie.Need-returns
 returns c =
     let f = c .before in
     let e = f .before .before .before in
-    rw (f .is-full .ensures, e .is-early .ensures, e .before .is-repeated .ensures, e .before .before .is-unfit .ensures) at
+    rw (
+      f .is-full .ensures,
+      e .is-early .ensures,
+      e .before .is-repeated .ensures,
+      e .before .before .is-unfit .ensures,
+    ) at
     (c .first-reason .ensures)
 
 pub refusal-spec : {M : Type 1} → statement M

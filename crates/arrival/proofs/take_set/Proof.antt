@@ -12,7 +12,8 @@ use Rattle.arrival.proofs.take_set.Tie as tie
 
 facts :
     (c : tie.Start) →
-    Given (tablesOf (c .args .c) (now (c .args .records)) (now (c .args .objects)) (now (c .args .groups))) (now (c .args .rec))
+    Given (tablesOf (c .args .c) (now (c .args .records)) (now (c .args .objects)) (now (c .args .groups)))
+    (now (c .args .rec))
     (c .args .e) (c .args .v)
 facts c =
     set-given (tablesOf (c .args .c) (now (c .args .records)) (now (c .args .objects)) (now (c .args .groups)))
@@ -51,13 +52,22 @@ returns c =
     rw (m .ensures .1) (set-refused t (now (a .rec)) (a .e) (a .v) (s .pre) many)
 
 cast-store-set : tie.Need-cast-store-set
-cast-store-set c = let p = facts (c .before .before .before .before .before .before .before .before .before .before .before .before) in omega arith
+cast-store-set c =
+    let s12a = c .before .before .before .before .before .before in
+    let s12 = s12a .before .before .before .before .before .before in
+    let p = facts s12 in omega arith
 
 add-store-set : tie.Need-add-store-set
-add-store-set c = let p = facts (c .before .before .before .before .before .before .before .before .before .before .before .before) in omega arith
+add-store-set c =
+    let s12a = c .before .before .before .before .before .before in
+    let s12 = s12a .before .before .before .before .before .before in
+    let p = facts s12 in omega arith
 
 cast-store-set-2 : tie.Need-cast-store-set-2
-cast-store-set-2 c = let p = facts (c .before .before .before .before .before .before .before .before .before .before .before .before) in omega arith
+cast-store-set-2 c =
+    let s12a = c .before .before .before .before .before .before in
+    let s12 = s12a .before .before .before .before .before .before in
+    let p = facts s12 in omega arith
 
 store-set-requires : tie.Need-store-set-requires
 store-set-requires c κs =
@@ -75,12 +85,15 @@ same-length-4 c = search needs
 
 returns-2 : tie.Need-returns-2
 returns-2 c =
-    let s = c .before .before .before .before .before .before .before .before .before .before .before .before .before .before .before .before .before in
+    let s7 = c .before .before .before .before .before .before .before in
+    let s10 = s7 .before .before .before in
+    let s17 = s10 .before .before .before .before .before .before .before in
+    let s = s17 in
     let a = s .args in
     let t = tablesOf (a .c) (now (a .records)) (now (a .objects)) (now (a .groups)) in
-    let m = c .before .before .before .before .before .before .before .before .before .before .step-at in
+    let m = s10 .step-at in
     let d = c .before .before .before .before .store-set in
-    let few : length (stepBy t (a .v)) ≤ mostGroups = rw (m .ensures .0) at (c .before .before .before .before .before .before .before .if1 .left) in
+    let few : length (stepBy t (a .v)) ≤ mostGroups = rw (m .ensures .0) at (s7 .if1 .left) in
     rw (d .ensures .0, d .ensures .1, d .ensures .2, m .ensures .1, m .ensures .0)
     (set-stored t (now (a .rec)) (a .e) (a .v) (s .pre) few)
 

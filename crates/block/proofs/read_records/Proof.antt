@@ -25,8 +25,10 @@ same-length-3 c = search needs
 
 returns : tie.Need-returns
 returns c =
-    let a = c .before .before .before .before .before .before .before .before .before .before .before .before .before .before .before .before .before .args in
-    let m = c .before .before .before .before .before .before .before .before .before .replay in
+    let s9 = c .before .before .before .before .before .before .before .before .before in
+    let s17 = s9 .before .before .before .before .before .before .before .before in
+    let a = s17 .args in
+    let m = s9 .replay in
     let z : numberOf (m .result .answer) ≡ 0 = sym (c .before .number .ensures) ∙ c .if1 .taken in
     all-taken (a .sites) (now (a .stretch)) (a .n) (numberOf (m .result .answer)) (m .result .index) _ (m .ensures) z
 
@@ -44,15 +46,20 @@ same-length-6 c = search needs
 
 returns-2 : tie.Need-returns-2
 returns-2 c =
-    let s = c .before .before .before .before .before .before .before .before .before .before .before .before .before .before .before .before .before .before .before .before .before .before .before .before .before .before .before .before in
+    let s7 = c .before .before .before .before .before .before .before in
+    let s11 = s7 .before .before .before .before in
+    let s12 = s11 .before in
+    let s20 = s12 .before .before .before .before .before .before .before .before in
+    let s28 = s20 .before .before .before .before .before .before .before .before in
+    let s = s28 in
     let a = s .args in
-    let m = c .before .before .before .before .before .before .before .before .before .before .before .before .before .before .before .before .before .before .before .before .replay in
+    let m = s20 .replay in
     let k = numberOf (m .result .answer) in
     let rs = now (a .stretch) in
-    let other : k ≡ 0 → ⊥ = λ z. c .before .before .before .before .before .before .before .before .before .before .before .if1 .left (c .before .before .before .before .before .before .before .before .before .before .before .before .number .ensures ∙ z) in
+    let other : k ≡ 0 → ⊥ = λ z. s11 .if1 .left (s12 .number .ensures ∙ z) in
     let right = lengths-stay (a .sites) rs (a .n) k (m .result .index) _ (m .ensures) (s .pre .1) in
     one-refused (a .sites) rs (a .n) k (m .result .index) _ (m .ensures) other _
-    (opened _ _ _ (a .sites) right (s .pre .1) (c .before .before .before .before .before .before .before .«open» .ensures))
+    (opened _ _ _ (a .sites) right (s .pre .1) (s7 .«open» .ensures))
 
 pub read-records-spec : {M : Type 1} → statement M
 read-records-spec =

@@ -1,4 +1,5 @@
--- `causal::vector_sum` meets its contract: the total is the sum of the first i entries, each below 65,536. Assumes nothing.
+-- `causal::vector_sum` meets its contract: the total is the sum of the first i entries, each below 65,536. Assumes
+-- nothing.
 use mathlib.Core.Path.{_≡_}
 use Prim.Native.Nat.{_≤_, _-_, _*_}
 use native.Mathlib.Numerals.{add-one}

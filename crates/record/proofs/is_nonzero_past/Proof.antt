@@ -1,4 +1,5 @@
--- `record::is_nonzero_past` meets its contract: `found` is what the definition says of the first i entries. Assumes nothing.
+-- `record::is_nonzero_past` meets its contract: `found` is what the definition says of the first i entries. Assumes
+-- nothing.
 use mathlib.Core.Bool.{not, _&&_}
 use mathlib.Core.Path.{_≡_}
 use Prim.Native.Nat.{_≤_, _-_}

@@ -1,4 +1,5 @@
--- `record::two_at` meets its contract. The file is here so that an edit of the byte order is refused at `returns`. Assumes nothing.
+-- `record::two_at` meets its contract. The file is here so that an edit of the byte order is refused at `returns`.
+-- Assumes nothing.
 use borrow.Author.Needs.{needs}
 use Rattle.record.proofs.two_at.Statement.{statement}
 use Rattle.record.proofs.two_at.Tie as tie

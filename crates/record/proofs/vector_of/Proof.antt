@@ -1,4 +1,5 @@
--- `record::vector_of` meets its contract: the first i entries written are the first i counts of the record. Assumes nothing.
+-- `record::vector_of` meets its contract: the first i entries written are the first i counts of the record. Assumes
+-- nothing.
 use mathlib.Core.Path.{_≡_, sym, _∙_}
 use Prim.Native.Nat.{_≤_, _<_, _-_, _*_}
 use native.Mathlib.Numerals.{add-one}
@@ -50,10 +51,12 @@ loop-again c =
     let i = c .before .before .loop .i in
     let s = now (c .before .before .before .before .args .rec) in
     let l : i < length v = omega arith in
-    let e : c .two-at .result ≡ two (drop vectorAt s) (2 * i) = c .two-at .ensures ∙ sym (two-drop vectorAt s (2 * i)) in (
+    let e : c .two-at .result ≡ two (drop vectorAt s) (2 * i) = c .two-at .ensures ∙ sym
+    (two-drop vectorAt s (2 * i)) in (
       omega arith,
       simp length-set (c .before .before .loop .inv .1),
-      rw (add-one, take-suc-set v i (c .two-at .result) l, c .before .before .loop .inv .2, e) (sym (counts-more i (drop vectorAt s))),
+      rw (add-one, take-suc-set v i (c .two-at .result) l, c .before .before .loop .inv .2, e)
+          (sym (counts-more i (drop vectorAt s))),
     )
 
 returns : tie.Need-returns Inv-loop μ-loop

@@ -13,18 +13,22 @@ lengths-right-requires c κs = search needs
 
 returns : tie.Need-returns
 returns c =
-    let a = c .before .before .before .before .before .args in
+    let s5 = c .before .before .before .before .before in
+    let a = s5 .args in
     let l = c .before .lengths-right in
-    wrong-lengths (tablesOf (a .c) (now (a .records)) (now (a .objects)) (now (a .groups))) (sym (l .ensures) ∙ not-true (l .result) (c .if1 .taken))
+    wrong-lengths (tablesOf (a .c) (now (a .records)) (now (a .objects)) (now (a .groups)))
+    (sym (l .ensures) ∙ not-true (l .result) (c .if1 .taken))
 
 within-limits-requires : tie.Need-within-limits-requires
 within-limits-requires c κs = search needs
 
 returns-2 : tie.Need-returns-2
 returns-2 c =
-    let a = c .before .before .before .before .before .before .before .args in
+    let s7 = c .before .before .before .before .before .before .before in
+    let a = s7 .args in
     let w = c .before .within-limits in
-    past-limits (tablesOf (a .c) (now (a .records)) (now (a .objects)) (now (a .groups))) (sym (w .ensures) ∙ not-true (w .result) (c .if2 .taken))
+    past-limits (tablesOf (a .c) (now (a .records)) (now (a .objects)) (now (a .groups)))
+    (sym (w .ensures) ∙ not-true (w .result) (c .if2 .taken))
 
 is-replayed-requires : tie.Need-is-replayed-requires
 is-replayed-requires c κs =
@@ -36,17 +40,22 @@ is-replayed-requires c κs =
 
 returns-3 : tie.Need-returns-3
 returns-3 c =
-    let a = c .before .before .before .before .before .before .before .before .before .args in
-    let l = c .before .before .before .before .before .lengths-right in
+    let s5 = c .before .before .before .before .before in
+    let s9 = s5 .before .before .before .before in
+    let a = s9 .args in
+    let l = s5 .lengths-right in
     let w = c .before .before .before .within-limits in
-    given-back (tablesOf (a .c) (now (a .records)) (now (a .objects)) (now (a .groups))) (sym (l .ensures) ∙ not-false (l .result) (c .before .before .before .before .if1 .left))
+    given-back (tablesOf (a .c) (now (a .records)) (now (a .objects)) (now (a .groups)))
+    (sym (l .ensures) ∙ not-false (l .result) (c .before .before .before .before .if1 .left))
     (sym (w .ensures) ∙ not-false (w .result) (c .before .before .if2 .left))
     (sym (c .before .is-replayed .ensures) ∙ c .if3 .taken)
 
 returns-4 : tie.Need-returns-4
 returns-4 c =
-    let a = c .before .before .before .before .before .before .before .before .before .args in
-    not-given-back (tablesOf (a .c) (now (a .records)) (now (a .objects)) (now (a .groups))) (sym (c .before .is-replayed .ensures) ∙ c .if3 .left)
+    let s9 = c .before .before .before .before .before .before .before .before .before in
+    let a = s9 .args in
+    not-given-back (tablesOf (a .c) (now (a .records)) (now (a .objects)) (now (a .groups)))
+    (sym (c .before .is-replayed .ensures) ∙ c .if3 .left)
 
 pub check-spec : {M : Type 1} → statement M
 check-spec =

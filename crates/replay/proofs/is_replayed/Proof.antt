@@ -57,10 +57,13 @@ is-same64-requires c κs = search needs
 returns : tie.Need-returns
 unfolding givesBack
 returns c =
+    let s6 = c .before .before .before .before .before .before in
+    let s7 = s6 .before in
+    let s12 = s7 .before .before .before .before .before in
     rw (
-      ← (c .before .before .before .before .before .before .before .before .before .before .before .before .replay .ensures),
-      c .before .before .before .before .before .before .before .number .ensures,
-      c .before .before .before .before .before .before .is-same-counters .ensures,
+      ← (s12 .replay .ensures),
+      s7 .number .ensures,
+      s6 .is-same-counters .ensures,
       c .before .before .before .before .is-same8 .ensures,
       c .before .before .is-same16 .ensures,
       c .is-same64 .ensures,

@@ -51,7 +51,8 @@ returns-2 : tie.Need-returns-2 Inv-loop μ-loop
 returns-2 c =
     let a = c .before .before .before .args in
     let k : c .before .loop .i ≡ length (now (a .a)) = omega arith in
-    rw (eq-eqb (length (now (a .a))) (length (now (a .b))) (c .before .before .if1 .left)) (rw k at (c .before .loop .inv .1))
+    rw (eq-eqb (length (now (a .a))) (length (now (a .b))) (c .before .before .if1 .left))
+    (rw k at (c .before .loop .inv .1))
 
 pub is-same64-spec : {M : Type 1} → statement M
 is-same64-spec =

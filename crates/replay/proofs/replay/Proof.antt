@@ -14,10 +14,13 @@ open-requires c κs = search needs
 
 take-records-requires : tie.Need-take-records-requires
 take-records-requires c κs =
-    let s = c .before .before .before .before .before .before .before .before .before .before .before .before .before .before .before .before .before .before in
+    let s10 = c .before .before .before .before .before .before .before .before .before .before in
+    let s18 = s10 .before .before .before .before .before .before .before .before in
+    let s = s18 in
     let a = s .args in
-    let o = c .before .before .before .before .before .before .before .before .before .before .«open» in
-    let e = opened (tablesOf _ (now (a .records)) (now (a .objects)) (now (a .groups))) _ _ (a .sites) (s .pre .0) (s .pre .1)
+    let o = s10 .«open» in
+    let e = opened (tablesOf _ (now (a .records)) (now (a .objects)) (now (a .groups))) _ _ (a .sites) (s .pre .0)
+    (s .pre .1)
     (o .ensures) in
     let n = opened-sites _ (a .sites) e in
     (e ∙ ap emptyDrawing (sym n), rw n (s .pre .1), s .pre .2, s .pre .3)
@@ -33,13 +36,17 @@ same-length-3 c = search needs
 
 returns : tie.Need-returns
 returns c =
-    let s = c .before .before .before .before .before .before .before .before .before .before .before .before .before .before .before .before .before .before .before .before .before .before .before .before .before in
+    let s6 = c .before .before .before .before .before .before in
+    let s17 = s6 .before .before .before .before .before .before .before .before .before .before .before in
+    let s25 = s17 .before .before .before .before .before .before .before .before in
+    let s = s25 in
     let a = s .args in
-    let o = c .before .before .before .before .before .before .before .before .before .before .before .before .before .before .before .before .before .«open» in
-    let e = opened (tablesOf _ (now (a .records)) (now (a .objects)) (now (a .groups))) _ _ (a .sites) (s .pre .0) (s .pre .1)
+    let o = s17 .«open» in
+    let e = opened (tablesOf _ (now (a .records)) (now (a .objects)) (now (a .groups))) _ _ (a .sites) (s .pre .0)
+    (s .pre .1)
     (o .ensures) in
     let n = opened-sites _ (a .sites) e in
-    c .before .before .before .before .before .before .take-records .ensures ∙ ap (λ (k : ℕ). replayOf k (now (a .recs)) (a .n)) n
+    s6 .take-records .ensures ∙ ap (λ (k : ℕ). replayOf k (now (a .recs)) (a .n)) n
 
 pub replay-spec : {M : Type 1} → statement M
 replay-spec =

@@ -7,7 +7,16 @@ use lib.ListN.{length}
 use denote.Ref.{now}
 use borrow.Author.Needs.{needs}
 use Rattle.tables.specs.Tables.{tablesOf, numberOf, recordsLength, objectsLength, groupsLength}
-use Rattle.replay.proofs.Going.{Going, going-start, going-sound, going-on, going-ends, going-long, next-long, lent-is}
+use Rattle.replay.proofs.Going.{
+  Going,
+  going-start,
+  going-sound,
+  going-on,
+  going-ends,
+  going-long,
+  next-long,
+  lent-is,
+}
 use Rattle.replay.proofs.take_records.Statement.{statement}
 use Rattle.replay.proofs.take_records.Tie as tie
 
@@ -66,9 +75,12 @@ number-requires c κs = search needs
 
 same-length : tie.Need-same-length Inv-loop μ-loop
 same-length c =
-    let s = c .before .before .before .before .before .before .before .before .before .before .before .before .before .before .before .before .before .before .before .before in
-    let l = c .before .before .before .before .before .before .before .before .before .before .before .before .before .before .before .loop in
-    let m = c .before .before .before .before .before .before .before .before .before .accept in
+    let s9 = c .before .before .before .before .before .before .before .before .before in
+    let s15 = s9 .before .before .before .before .before .before in
+    let s20 = s15 .before .before .before .before .before in
+    let s = s20 in
+    let l = s15 .loop in
+    let m = s9 .accept in
     let rs = now (s .args .recs) in
     next-long (s .args .empty .sites) rs (s .pre .1) (l .i) _ (l .inv .1) (numberOf (m .result .answer)) _
     (rw (lent-is rs (l .i)) at (m .ensures)) .0
@@ -76,9 +88,12 @@ same-length c =
 
 same-length-2 : tie.Need-same-length-2 Inv-loop μ-loop
 same-length-2 c =
-    let s = c .before .before .before .before .before .before .before .before .before .before .before .before .before .before .before .before .before .before .before .before in
-    let l = c .before .before .before .before .before .before .before .before .before .before .before .before .before .before .before .loop in
-    let m = c .before .before .before .before .before .before .before .before .before .accept in
+    let s9 = c .before .before .before .before .before .before .before .before .before in
+    let s15 = s9 .before .before .before .before .before .before in
+    let s20 = s15 .before .before .before .before .before in
+    let s = s20 in
+    let l = s15 .loop in
+    let m = s9 .accept in
     let rs = now (s .args .recs) in
     next-long (s .args .empty .sites) rs (s .pre .1) (l .i) _ (l .inv .1) (numberOf (m .result .answer)) _
     (rw (lent-is rs (l .i)) at (m .ensures)) .1
@@ -86,9 +101,12 @@ same-length-2 c =
 
 same-length-3 : tie.Need-same-length-3 Inv-loop μ-loop
 same-length-3 c =
-    let s = c .before .before .before .before .before .before .before .before .before .before .before .before .before .before .before .before .before .before .before .before in
-    let l = c .before .before .before .before .before .before .before .before .before .before .before .before .before .before .before .loop in
-    let m = c .before .before .before .before .before .before .before .before .before .accept in
+    let s9 = c .before .before .before .before .before .before .before .before .before in
+    let s15 = s9 .before .before .before .before .before .before in
+    let s20 = s15 .before .before .before .before .before in
+    let s = s20 in
+    let l = s15 .loop in
+    let m = s9 .accept in
     let rs = now (s .args .recs) in
     next-long (s .args .empty .sites) rs (s .pre .1) (l .i) _ (l .inv .1) (numberOf (m .result .answer)) _
     (rw (lent-is rs (l .i)) at (m .ensures)) .2
@@ -96,30 +114,44 @@ same-length-3 c =
 
 returns : tie.Need-returns Inv-loop μ-loop
 returns c =
-    let s = c .before .before .before .before .before .before .before .before .before .before .before .before .before .before .before .before .before .before .before .before in
-    let l = c .before .before .before .before .before .before .before .before .before .before .before .before .before .before .before .loop in
-    let m = c .before .before .before .before .before .before .before .before .before .accept in
+    let s9 = c .before .before .before .before .before .before .before .before .before in
+    let s14 = s9 .before .before .before .before .before in
+    let s15 = s14 .before in
+    let s20 = s15 .before .before .before .before .before in
+    let s = s20 in
+    let l = s15 .loop in
+    let m = s9 .accept in
     let rs = now (s .args .recs) in
     going-ends (s .args .empty .sites) rs (s .pre .1) (l .i) _ (l .inv .1) (numberOf (m .result .answer)) _
     (rw (lent-is rs (l .i)) at (m .ensures))
     (λ z. c .if1 .taken (c .before .number .ensures ∙ z))
     (s .args .n)
-    (c .before .before .before .before .before .before .before .before .before .before .before .before .before .before .loop-test .taken)
+    (s14 .loop-test .taken)
 
 add-i : tie.Need-add-i Inv-loop μ-loop
-add-i c = omega (arith, c .before .before .before .before .before .before .before .before .before .before .before .before .before .before .loop-test .taken)
+add-i c =
+    let s14a = c .before .before .before .before .before .before .before in
+    let s14 = s14a .before .before .before .before .before .before .before in
+    omega (arith, s14 .loop-test .taken)
 
 loop-less : tie.Need-loop-less Inv-loop μ-loop
-loop-less c = omega (arith, c .before .before .before .before .before .before .before .before .before .before .before .before .before .before .loop-test .taken)
+loop-less c =
+    let s14a = c .before .before .before .before .before .before .before in
+    let s14 = s14a .before .before .before .before .before .before .before in
+    omega (arith, s14 .loop-test .taken)
 
 loop-again : tie.Need-loop-again Inv-loop μ-loop
 loop-again c =
-    let s = c .before .before .before .before .before .before .before .before .before .before .before .before .before .before .before .before .before .before .before .before in
-    let l = c .before .before .before .before .before .before .before .before .before .before .before .before .before .before .before .loop in
-    let m = c .before .before .before .before .before .before .before .before .before .accept in
+    let s9 = c .before .before .before .before .before .before .before .before .before in
+    let s14 = s9 .before .before .before .before .before in
+    let s15 = s14 .before in
+    let s20 = s15 .before .before .before .before .before in
+    let s = s20 in
+    let l = s15 .loop in
+    let m = s9 .accept in
     let rs = now (s .args .recs) in
     let z : numberOf (m .result .answer) ≡ 0 = sym (c .before .number .ensures) ∙ c .if1 .left in (
-      omega (arith, c .before .before .before .before .before .before .before .before .before .before .before .before .before .before .loop-test .taken),
+      omega (arith, s14 .loop-test .taken),
       rw (add-one (l .i))
           (going-on (s .args .empty .sites) rs (s .pre .1) (l .i) _ (l .inv .1) _
           (rw (z, lent-is rs (l .i)) at (m .ensures))),

@@ -45,7 +45,8 @@ walk-requires c κs =
 
 returns-3 : tie.Need-returns-3
 returns-3 c =
-    let a = c .before .before .before .before .before .before .before .before .before .before .before .before .before .args in
+    let s7 = c .before .before .before .before .before .before .before in
+    let a = s7 .before .before .before .before .before .before .args in
     let w = c .before .before .before .walk in
     sym (not-passing (tablesOf (a .c) (now (a .records)) (now (a .objects)) (now (a .groups)))
     (sym (w .ensures .ok) ∙ not-true (w .result .ok) (c .if3 .taken)))
