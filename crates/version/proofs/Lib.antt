@@ -1,0 +1,10 @@
+pub mod Turns
+pub mod Members
+pub mod Last
+pub mod Stamps
+pub mod Tags
+pub mod Names
+pub mod Unshared
+pub mod Sorted
+pub mod Ranks
+pub mod Shown

@@ -1,0 +1,4 @@
+pub mod Version
+pub mod Order
+pub mod Line
+pub mod Code

@@ -1,0 +1,77 @@
+// An object's Sets by their places in the table of records: the edit in a place, and the tag of each Set, which is its
+// name if it conflicts with some Set of the object, and 0 if with none.
+use super::SEQ_NUMBERS;
+use causal::is_conflict;
+use record::Edit;
+ghost use mathlib.Core.Path.{_≡_};
+ghost use Prim.Native.Nat.{_≤_, _<_};
+ghost use lib.ListN.{length, getD, take};
+ghost use Rattle.group.specs.Row.{mostSets};
+ghost use Rattle.history.specs.History.{recordAt};
+ghost use Rattle.maximal.specs.Groups.{bit};
+ghost use Rattle.arrival.specs.Versions.{isDisputed};
+ghost use Rattle.version.specs.Version.{setsAt, nameOf};
+ghost use Rattle.version.specs.Code.{tagOf, tagsOf};
+
+// The edit in the i-th of the places.
+pub fn edit_in(recs: &[u8], places: &[u16], i: usize) -> Edit
+    requires { ⌜ i < length (now places) ⌝ }
+    ensures { λ r. ⌜ r ≡ recordAt (now (recs .entry)) (getD (now (places .entry)) i 0) ⌝ }
+{
+    history::decode_at(recs, places[i] as usize)
+}
+
+// Whether the i-th Set is a member of the group g.
+pub fn is_member(g: u64, i: usize) -> bool
+    requires { ⌜ i < mostSets ⌝ }
+    ensures { λ r. ⌜ r ≡ bit g i ⌝ }
+{
+    (g >> i) % 2 == 1
+}
+
+// Site and sequence number as one number.
+fn name(e: Edit) -> u64
+    ensures { λ r. ⌜ r ≡ nameOf e ⌝ }
+{
+    e.site.0 as u64 * SEQ_NUMBERS + e.seq.0 as u64
+}
+
+// Whether e conflicts with one of the t Sets.
+fn is_disputed(recs: &[u8], places: &[u16], t: usize, e: Edit) -> bool
+    requires { ⌜ t ≤ length (now places) ⌝ }
+    ensures { λ r. ⌜ r ≡ isDisputed (setsAt (now (recs .entry)) (take t (now (places .entry)))) e ⌝ }
+{
+    let mut found = false;
+    let mut i: usize = 0;
+    while i < t {
+        let a = edit_in(recs, places, i);
+        found = found | is_conflict(e, a);
+        i += 1;
+    }
+    found
+}
+
+// The tag of e among the t Sets.
+fn tag(recs: &[u8], places: &[u16], t: usize, e: Edit) -> u64
+    requires { ⌜ t ≤ length (now places) ⌝ }
+    ensures { λ r. ⌜ r ≡ tagOf (setsAt (now (recs .entry)) (take t (now (places .entry)))) e ⌝ }
+{
+    if is_disputed(recs, places, t, e) {
+        name(e)
+    } else {
+        0
+    }
+}
+
+// Puts the tags of the t Sets at the front of out.
+pub fn put_tags(out: &mut [u64], recs: &[u8], places: &[u16], t: usize)
+    requires { ⌜ (t ≤ length (now places)) × (t ≤ length (now out)) ⌝ }
+    ensures { λ r. ⌜ take t (now (out .exit)) ≡ tagsOf (setsAt (now (recs .entry)) (take t (now (places .entry)))) ⌝ }
+{
+    let mut i: usize = 0;
+    while i < t {
+        let e = edit_in(recs, places, i);
+        out[i] = tag(recs, places, t, e);
+        i += 1;
+    }
+}
