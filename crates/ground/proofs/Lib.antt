@@ -5,4 +5,5 @@ pub mod Lists
 pub mod Sorted
 pub mod Places
 pub mod Snoc
+pub mod Gathered
 pub mod Parts

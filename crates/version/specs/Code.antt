@@ -7,7 +7,7 @@ use Prim.Native.Nat.{ℕ, _+_, _-_, _*_, _%_, _<_, max}
 use lib.Dec.{eqb, ltb}
 use lib.ListN.{length, getD, set}
 use Rattle.ground.specs.Below.{keep}
-use Rattle.ground.specs.Sorted.{ascending}
+use Rattle.ground.specs.Sorted.{gatherBy, ascending}
 use Rattle.record.specs.declared.Edit.{Edit}
 use Rattle.record.specs.Layout.{keys}
 use Rattle.causal.specs.Causal.{vectorSum}
@@ -15,7 +15,7 @@ use Rattle.maximal.specs.Groups.{bit}
 use Rattle.arrival.specs.Versions.{isDisputed}
 use Rattle.text.specs.Words.{space, equated}
 use Rattle.version.specs.Version.{siteNumbers, nameOf, lastWith}
-use Rattle.version.specs.Order.{lex, gatherBy}
+use Rattle.version.specs.Order.{lex}
 
 -- ---- identifiers from tags
 
