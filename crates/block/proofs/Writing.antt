@@ -1,5 +1,4 @@
--- What is written: a part that is lent from its start to the end of the output, the block in it, and the outcomes of
--- writing. Assumes nothing.
+-- What is written: the block in a part that is lent, and the outcomes of writing. Assumes nothing.
 use mathlib.Core.Path.{_≡_, refl, sym, ap, _∙_}
 use mathlib.Core.Bool.{true, false}
 use mathlib.Core.List.{List, _++_, append-nil, append-assoc}
@@ -16,17 +15,9 @@ use Rattle.tables.specs.Tables.{Tables}
 use Rattle.tables.specs.Sound.{sound}
 use Rattle.tables.proofs.Facts.{sound-at}
 use Rattle.block.specs.Block.{trailerLength, trailerOf, recordBytes, blockOf}
-use Rattle.block.specs.Writing.{writing, writingOf}
-
--- ---- a part that is lent to the end comes back with b in front, and is otherwise as it was
-
-pub lent-back :
-    (out : List ℕ) (start k : ℕ) (b : List ℕ) {r : List ℕ} → r ≡ b ++ drop k (midOf start (length out - start) out) →
-    putMid start (length out - start) out r ≡ take start out ++ (b ++ drop (start + k) out)
-lent-back out start k b e =
-    let none = drop-of-length-le (drop start out) {i = length out - start} (simp length-drop (omega arith)) in
-    rw (e, part-to-end out start, none, drop-drop k start out)
-    (ap (λ (x : List ℕ). take start out ++ x) (append-nil (b ++ drop (start + k) out)))
+use Rattle.output.specs.Output.{writing}
+use Rattle.output.proofs.Lent.{lent-back, not-put, put-whole}
+use Rattle.block.specs.Writing.{writingOf}
 
 -- ---- the block
 
@@ -74,11 +65,11 @@ module _ (t : Tables) (out : List ℕ) (start : ℕ) where
   module _ (ok : sound t ≡ true) where
     pub no-room : leb (start + bytes) (length out) ≡ false → writing 11 0 out ≡ writingOf t out start
     unfolding writingOf
-    no-room h = rw (ok, block-long t ok, h)
+    no-room h = rw ok (not-put out (blockOf t) start bytes (block-long t ok) h)
 
     pub written :
         {r : List ℕ} → leb (start + bytes) (length out) ≡ true →
         r ≡ blockOf t ++ drop bytes (midOf start (length out - start) out) →
         writing 0 bytes (putMid start (length out - start) out r) ≡ writingOf t out start
     unfolding writingOf
-    written h e = rw (ok, block-long t ok, h, lent-back out start bytes (blockOf t) e)
+    written h e = rw ok (put-whole out (blockOf t) start bytes (block-long t ok) h e)

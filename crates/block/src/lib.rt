@@ -1,5 +1,8 @@
 // The stored block of document 01: its trailer, locating it in a file, writing it, and reading a file.
 use history::RECORDS;
+use output::Written;
+use output::copy_in;
+use output::has_room;
 use record::RECORD;
 use record::SITES;
 use tables::Answer;
@@ -25,7 +28,8 @@ ghost use Rattle.block.specs.Block.{
   further,
   located,
 };
-ghost use Rattle.block.specs.Writing.{writing, writingOf};
+ghost use Rattle.output.specs.Output.{writing};
+ghost use Rattle.block.specs.Writing.{writingOf};
 ghost use Rattle.block.specs.Reading.{recordsRead, readingOf};
 
 // The bytes of a trailer.
@@ -46,12 +50,6 @@ pub struct Trailer {
     pub answer: Answer,
     pub sites: u8,
     pub records: u16,
-}
-
-// An answer to a call that writes, and the number of bytes written.
-pub struct Written {
-    pub answer: Answer,
-    pub bytes: usize,
 }
 
 // Where the trailer starts in a file of n bytes.
@@ -167,18 +165,6 @@ fn trailer_bytes(n: u16, sites: u8) -> [u8; TRAILER]
     [a, b, sites, 0, c, d, e, f]
 }
 
-// The first n bytes of src at the start of out.
-fn copy_in(out: &mut [u8], src: &[u8], n: usize)
-    requires { ⌜ (n ≤ length (now out)) × (n ≤ length (now src)) ⌝ }
-    ensures { λ r. ⌜ now (out .exit) ≡ take n (now (src .entry)) ++ drop n (now (out .entry)) ⌝ }
-{
-    let mut i: usize = 0;
-    while i < n {
-        out[i] = src[i];
-        i += 1;
-    }
-}
-
 // The block of n records of a drawing of so many sites at the start of out.
 fn write_block(out: &mut [u8], records: &[u8], n: u16, sites: u8)
     requires { ⌜ (n ≤ mostRecords) × (n * recordLength ≤ length (now records))
@@ -190,16 +176,6 @@ fn write_block(out: &mut [u8], records: &[u8], n: u16, sites: u8)
     copy_in(out, records, end);
     let bytes = trailer_bytes(n, sites);
     copy_in(&mut out[end..], &bytes, TRAILER);
-}
-
-// Whether so many bytes have room from the start on in an output of n bytes.
-fn has_room(n: usize, start: usize, bytes: usize) -> bool
-    ensures { λ r. ⌜ r ≡ leb (start + bytes) n ⌝ }
-{
-    if n < start {
-        return false;
-    }
-    bytes <= n - start
 }
 
 // Writes the block of the tables into out from the start on; refused, everything stays as it was.

@@ -1,4 +1,4 @@
--- `block::copy_in` meets its contract: what is copied stands in front, and the rest is as it was. Assumes nothing.
+-- `output::copy_in` meets its contract: what is copied stands in front, and the rest is as it was. Assumes nothing.
 use mathlib.Core.Path.{_≡_, refl, _∙_}
 use mathlib.Core.List.{_++_}
 use Prim.Native.Nat.{_-_, _≤_}
@@ -6,8 +6,8 @@ use native.Mathlib.Omega.{arith}
 use lib.ListN.{length, take, drop, length-set}
 use borrow.Author.Needs.{needs}
 use Rattle.ground.proofs.Parts.{copy-more}
-use Rattle.block.proofs.copy_in.Statement.{statement}
-use Rattle.block.proofs.copy_in.Tie as tie
+use Rattle.output.proofs.copy_in.Statement.{statement}
+use Rattle.output.proofs.copy_in.Tie as tie
 
 abbrev Inv-loop : tie.InvT-loop
 Inv-loop out₀ src n i₀ out i = (i ≤ n) × (length out ≡ length out₀) × (out ≡ take i src ++ drop i out₀)

@@ -1,12 +1,12 @@
--- `block::has_room` meets its contract: the sum that might wrap is not formed. Assumes nothing.
+-- `output::has_room` meets its contract: the sum that might wrap is not formed. Assumes nothing.
 use mathlib.Core.Path.{sym}
 use Prim.Native.Nat.{_+_, _-_}
 use native.Mathlib.Omega.{arith}
 use lib.Dec.{leb}
 use borrow.Author.Tests.{leb-true, le-leb, lt-leb}
 use Rattle.ground.proofs.Bools.{same-test}
-use Rattle.block.proofs.has_room.Statement.{statement}
-use Rattle.block.proofs.has_room.Tie as tie
+use Rattle.output.proofs.has_room.Statement.{statement}
+use Rattle.output.proofs.has_room.Tie as tie
 
 returns : tie.Need-returns
 returns c = sym (lt-leb (c .before .args .start + c .before .args .bytes) (c .before .args .n) (omega arith))
