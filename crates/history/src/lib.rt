@@ -4,6 +4,8 @@ use causal::has_seen;
 use causal::is_conflict;
 use causal::is_same;
 use record::AT_KIND;
+use record::AT_TARGET;
+use record::AT_TARGET_SEQ;
 use record::AT_VECTOR;
 use record::CREATE;
 use record::Edit;
@@ -57,6 +59,14 @@ pub fn decode_at(recs: &[u8], p: usize) -> Edit
     } else {
         record::decode(&recs[..0])
     }
+}
+
+// The kind of the edit in place p, read where it stands.
+pub fn kind_at(recs: &[u8], p: usize) -> u8
+    requires { ⌜ p < 65536 ⌝ }
+    ensures { λ r. ⌜ r ≡ recordAt (now (recs .entry)) p .kind ⌝ }
+{
+    record::byte_at(recs, p * RECORD + AT_KIND)
 }
 
 // The counts with one edit more of the site s.
@@ -204,6 +214,18 @@ fn place_at(places: &[u16], s: Site, q: Seq) -> u16
     if at < places.len() { places[at] } else { 0 }
 }
 
+// The place, by the index, of the target of the edit in place p; that edit's bytes are read where they stand.
+pub fn target_place(recs: &[u8], places: &[u16], p: usize) -> u16
+    requires { ⌜ p < 65536 ⌝ }
+    ensures { λ r. ⌜ r ≡ placeOf (now (places .entry)) (recordAt (now (recs .entry)) p .tsite .0)
+        (recordAt (now (recs .entry)) p .tseq .0) ⌝ }
+{
+    let at = p * RECORD;
+    let site = record::byte_at(recs, at + AT_TARGET);
+    let seq = record::two_at(recs, at + AT_TARGET_SEQ);
+    place_at(places, Site(site), Seq(seq))
+}
+
 // The latest edit of site s that e has seen, e itself left out; 0 is none.
 fn latest_seen(e: Edit, s: Site) -> Seq
     ensures { λ r. ⌜ r .0 ≡ latestSeen e (s .0) ⌝ }
@@ -262,7 +284,7 @@ fn is_target_held(held: [u16; SITES], recs: &[u8], places: &[u16], e: Edit) -> b
     let seen = record::entry(w, e.tsite);
     let have = record::entry(held, e.tsite);
     let p = place_at(places, e.tsite, e.tseq);
-    let kind = record::byte_at(recs, p as usize * RECORD + AT_KIND);
+    let kind = kind_at(recs, p as usize);
     (0 < e.tseq.0) & (e.tseq.0 <= seen.0) & (e.tseq.0 <= have.0) & (kind == CREATE)
 }
 

@@ -25,11 +25,11 @@ const AT_SEQ: usize = 2;
 
 pub const AT_VECTOR: usize = 4;
 
-const AT_TARGET: usize = AT_VECTOR + 2 * SITES;
+pub const AT_TARGET: usize = AT_VECTOR + 2 * SITES;
 
 const AT_KEY: usize = AT_TARGET + 1;
 
-const AT_TARGET_SEQ: usize = AT_TARGET + 2;
+pub const AT_TARGET_SEQ: usize = AT_TARGET + 2;
 
 const AT_VALUE: usize = AT_TARGET + 4;
 

@@ -76,9 +76,9 @@ fn number_creates(recs: &[u8], n: usize) -> Creates
     let mut count: u16 = 0;
     let mut i: usize = 0;
     while i < n {
-        let e = history::decode_at(recs, i);
+        let kind = history::kind_at(recs, i);
         earlier[i] = count;
-        count = count + one_if(e.kind == CREATE);
+        count = count + one_if(kind == CREATE);
         i += 1;
     }
     Creates { count, earlier }
@@ -92,9 +92,9 @@ fn tally_sets(recs: &[u8], n: usize, places: &[u16]) -> [u16; RECORDS]
     let mut tallies = [0u16; RECORDS];
     let mut i: usize = 0;
     while i < n {
-        let e = history::decode_at(recs, i);
-        let p = at16(places, e.tsite.0 as usize * RECORDS + e.tseq.0 as usize) as usize;
-        let more = one_if(e.kind == SET);
+        let kind = history::kind_at(recs, i);
+        let p = history::target_place(recs, places, i) as usize;
+        let more = one_if(kind == SET);
         if p < RECORDS {
             tallies[p] = tallies[p] + more;
         }
@@ -116,10 +116,10 @@ fn entry_sound(
     requires { ⌜ (p < 65536) × Numbered (now recs) n (now numbers) × Tallied (now recs) n (now tallies) ⌝ }
     ensures { λ r. ⌜ r ≡ entrySound (now (recs .entry)) n o p k ⌝ }
 {
-    let e = history::decode_at(recs, p);
+    let kind = history::kind_at(recs, p);
     let number = at16(numbers, p);
     let tally = at16(tallies, p);
-    (p < n) & (e.kind == CREATE) & (number as usize == o) & (k == tally as usize) & (k <= SETS)
+    (p < n) & (kind == CREATE) & (number as usize == o) & (k == tally as usize) & (k <= SETS)
 }
 
 // Whether object o is sound: its entry and its row.

@@ -14,8 +14,8 @@ use Rattle.tables.proofs.Sound.{where-first}
 use Rattle.tables.proofs.objects.entry_sound.Statement.{statement}
 use Rattle.tables.proofs.objects.entry_sound.Tie as tie
 
-decode-at-requires : tie.Need-decode-at-requires
-decode-at-requires c κs = search needs
+kind-at-requires : tie.Need-kind-at-requires
+kind-at-requires c κs = search needs
 
 at16-requires : tie.Need-at16-requires
 at16-requires c κs = search needs
@@ -32,18 +32,18 @@ cast-result-2 c = search needs
 returns : tie.Need-returns
 unfolding entrySound
 returns c =
-    let s = c .before .before .before .before .before .before .before in
+    let s = c .before .before .before .before .before .before in
     let a = s .args in
     let rs = now (a .recs) in
     let e = recordAt rs (a .p) in
-    rw (c .before .before .before .decode-at .ensures)
-    (where-first (ltb (a .p) (a .n)) (isCreate e) (eqb (c .before .before .at16 .result) (a .o))
-    (eqb (a .k) (c .before .at162 .result)) (eqb (length (creates (editsOf rs (a .p)))) (a .o))
+    rw (c .before .before .kind-at .ensures)
+    (where-first (ltb (a .p) (a .n)) (isCreate e) (eqb (c .before .at16 .result) (a .o))
+    (eqb (a .k) (c .at162 .result)) (eqb (length (creates (editsOf rs (a .p)))) (a .o))
     (eqb (a .k) (length (setsOn (e .site) (e .seq) (editsOf rs (a .n))))) (leb (a .k) mostSets)
-    (λ h. rw (c .before .before .at16 .ensures ∙ s .pre .1 (a .p) (ltb-true (a .p) (a .n) h)))
-    (λ h. rw (c .before .at162 .ensures ∙ s .pre .2 (a .p) (ltb-true (a .p) (a .n) h))))
+    (λ h. rw (c .before .at16 .ensures ∙ s .pre .1 (a .p) (ltb-true (a .p) (a .n) h)))
+    (λ h. rw (c .at162 .ensures ∙ s .pre .2 (a .p) (ltb-true (a .p) (a .n) h))))
 
 pub entry-sound-spec : {M : Type 1} → statement M
 entry-sound-spec =
     tie.close
-    (tie.spec decode-at-requires at16-requires at16-requires-2 cast-result cast-result-2 returns)
+    (tie.spec kind-at-requires at16-requires at16-requires-2 cast-result cast-result-2 returns)

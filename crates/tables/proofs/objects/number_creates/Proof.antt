@@ -22,8 +22,8 @@ abbrev μ-loop : tie.MeasureT-loop
 loop-holds : tie.Need-loop-holds Inv-loop μ-loop
 loop-holds c = (omega arith, search needs, creates-none (now (c .before .args .recs)), λ p l. absurd (omega arith))
 
-decode-at-requires : tie.Need-decode-at-requires Inv-loop μ-loop
-decode-at-requires c κs = search needs
+kind-at-requires : tie.Need-kind-at-requires Inv-loop μ-loop
+kind-at-requires c κs = search needs
 
 mul-earlier : tie.Need-mul-earlier Inv-loop μ-loop
 mul-earlier c = search needs
@@ -36,8 +36,8 @@ one-if-requires c κs = search needs
 
 add-count : tie.Need-add-count Inv-loop μ-loop
 add-count c =
-    let l = c .before .before .before .before .loop in
-    let h = creates-le (now (c .before .before .before .before .before .before .args .recs)) (l .i) in
+    let l = c .before .before .before .loop in
+    let h = creates-le (now (c .before .before .before .before .before .args .recs)) (l .i) in
     omega (arith, l .inv .2, c .one-if .ensures .1)
 
 add-i : tie.Need-add-i Inv-loop μ-loop
@@ -48,11 +48,11 @@ loop-less c = search needs
 
 loop-again : tie.Need-loop-again Inv-loop μ-loop
 loop-again c =
-    let rs = now (c .before .before .before .before .before .before .args .recs) in
-    let l = c .before .before .before .before .loop in (
+    let rs = now (c .before .before .before .before .before .args .recs) in
+    let l = c .before .before .before .loop in (
       omega arith,
       simp length-set (l .inv .1),
-      rw (l .inv .2, c .one-if .ensures .0, c .before .before .decode-at .ensures) (creates-more rs (l .i)),
+      rw (l .inv .2, c .one-if .ensures .0, c .before .kind-at .ensures) (creates-more rs (l .i)),
       numbered-more rs (l .earlier) (l .i) (l .count) (l .inv .3) (l .inv .2) (omega arith),
     )
 
@@ -68,7 +68,7 @@ number-creates-spec =
     Inv-loop
     μ-loop
     loop-holds
-    decode-at-requires
+    kind-at-requires
     mul-earlier
     array-write-earlier
     one-if-requires

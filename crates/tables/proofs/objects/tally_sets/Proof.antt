@@ -25,23 +25,11 @@ loop-holds c =
     let a = c .before .before .args in
     (omega arith, search needs, aimed-none (now (a .recs)) (now (a .places)))
 
-decode-at-requires : tie.Need-decode-at-requires Inv-loop μ-loop
-decode-at-requires c κs = search needs
+kind-at-requires : tie.Need-kind-at-requires Inv-loop μ-loop
+kind-at-requires c κs = search needs
 
-cast-at16 : tie.Need-cast-at16 Inv-loop μ-loop
-cast-at16 c = search needs
-
-mul-at16 : tie.Need-mul-at16 Inv-loop μ-loop
-mul-at16 c = search needs
-
-cast-at16-2 : tie.Need-cast-at16-2 Inv-loop μ-loop
-cast-at16-2 c = search needs
-
-add-at16 : tie.Need-add-at16 Inv-loop μ-loop
-add-at16 c = search needs
-
-at16-requires : tie.Need-at16-requires Inv-loop μ-loop
-at16-requires c κs = search needs
+target-place-requires : tie.Need-target-place-requires Inv-loop μ-loop
+target-place-requires c κs = search needs
 
 cast-p : tie.Need-cast-p Inv-loop μ-loop
 cast-p c = search needs
@@ -57,10 +45,10 @@ array-read-tallies c = search needs
 
 add-tallies : tie.Need-add-tallies Inv-loop μ-loop
 add-tallies c =
-    let s = c .before .before .before in
-    let l = s .before .before .before .before .before .loop in
-    let a = s .before .before .before .before .before .before .before .before .args in
-    let p = s .at16 .result in
+    let s = c .before .before in
+    let l = s .before .before .before .loop in
+    let a = s .before .before .before .before .before .before .args in
+    let p = s .target-place .result in
     let h = aimed-le (now (a .recs)) (now (a .places)) (l .tallies) (l .i) p (l .inv .2) (omega arith) in
     omega (arith, c .before .one-if .ensures .1)
 
@@ -78,16 +66,16 @@ loop-less c = search needs
 
 loop-again : tie.Need-loop-again Inv-loop μ-loop
 loop-again c =
-    let s = c .before .before .before in
-    let l = s .before .before .before .before .before .loop in
-    let a = s .before .before .before .before .before .before .before .before .args in
-    let p = s .at16 .result in
+    let s = c .before .before in
+    let l = s .before .before .before .loop in
+    let a = s .before .before .before .before .before .before .args in
+    let p = s .target-place .result in
     let t = getD (l .tallies) p 0 + c .before .one-if .result in
     let e : c .if1 .tallies ≡ set (l .tallies) p t
     = ⊎-elim (λ w. w .1) (λ w. w .1 ∙ sym (set-out (l .tallies) p t (omega arith))) (c .if1 .came) in (
       omega arith,
       rw e (simp length-set (l .inv .1)),
-      rw (e, c .before .one-if .ensures .0, s .at16 .ensures, s .before .before .before .decode-at .ensures)
+      rw (e, c .before .one-if .ensures .0, s .target-place .ensures, s .before .kind-at .ensures)
           (aimed-more (now (a .recs)) (now (a .places)) (l .tallies) (l .i) (l .inv .1) (l .inv .2)),
     )
 
@@ -103,12 +91,8 @@ tally-sets-spec =
     Inv-loop
     μ-loop
     loop-holds
-    decode-at-requires
-    cast-at16
-    mul-at16
-    cast-at16-2
-    add-at16
-    at16-requires
+    kind-at-requires
+    target-place-requires
     cast-p
     one-if-requires
     mul-tallies
