@@ -1,11 +1,11 @@
 -- The tests of soundness put together. Assumes nothing.
 use mathlib.Core.Path.{_≡_, refl, sym, ap, _∙_}
-use mathlib.Core.Bool.{Bool, true, false, _&&_, and-assoc, and-true, and-false}
+use mathlib.Core.Bool.{Bool, true, false, _&&_, _||_, and-assoc, and-true, and-false, or-false}
 use mathlib.Core.List.{List}
-use Prim.Native.Nat.{ℕ, _*_, _≤_}
-use lib.Dec.{eqb, leb}
+use Prim.Native.Nat.{ℕ, _*_, _≤_, _<_}
+use lib.Dec.{eqb, leb, ltb}
 use lib.ListN.{getD, length}
-use borrow.Author.Tests.{leb-true}
+use borrow.Author.Tests.{leb-true, lt-ltb, le-ltb, le-leb, lt-leb}
 use Rattle.ground.specs.Below.{all}
 use Rattle.ground.proofs.Bools.{both}
 use Rattle.ground.proofs.Below.{all-same}
@@ -40,6 +40,14 @@ pub where-first :
     (a && b && x && y && z) ≡ (a && b && v && w && z)
 where-first true b x y v w z p q = rw (p refl, q refl)
 where-first false b x y v w z p q = refl
+
+-- ---- a place of a row of g groups
+
+pub unused-place : (g i : ℕ) (z a b : Bool) → g ≤ i → (leb g i && z || ltb i g && a && b) ≡ z
+unused-place g i z a b l = rw (le-leb g i l, le-ltb i g l) (or-false z)
+
+pub used-place : (g i : ℕ) (z a b : Bool) → i < g → (leb g i && z || ltb i g && a && b) ≡ (a && b)
+used-place g i z a b l = rw (lt-leb g i l, lt-ltb i g l)
 
 -- ---- the limits
 

@@ -40,16 +40,20 @@ fn is_below(g: u64, k: u64) -> bool
     if k < SETS as u64 { g >> k == 0 } else { true }
 }
 
-// Whether place i of the row of object o, which has g groups of k Sets, is sound.
+// Whether place i of the row of object o, which has g groups of k Sets, is sound. Most places of a row are unused, and
+// of those only the group itself is read.
 fn slot_sound(groups: &[u64], o: usize, k: u64, g: usize, i: usize) -> bool
     requires { ⌜ (o < mostObjects) × (i < mostGroups) ⌝ }
     ensures { λ r. ⌜ r ≡ slotSound (now (groups .entry)) o k g i ⌝ }
 {
     let at = o * GROUPS + i;
     let here = at64(groups, at);
+    if g <= i {
+        return here == 0;
+    }
     let next = at64(groups, at + 1);
     let below = is_below(here, k);
-    ((g <= i) & (here == 0)) | ((i < g) & below & ((g <= i + 1) | (here < next)))
+    below & ((g <= i + 1) | (here < next))
 }
 
 // Whether the row of object o, which has g groups of k Sets, is sound.
