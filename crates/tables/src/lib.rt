@@ -1,5 +1,5 @@
 // The lent tables of document 01, what makes them sound, and opening.
-mod entries;
+pub mod entries;
 mod objects;
 
 use group::GROUPS;
