@@ -1,3 +1,4 @@
-pub mod InPlace
+pub mod Behind
 pub mod Turns
 pub mod Gathering
+pub mod Joined

@@ -2,7 +2,7 @@
 -- is no such line, then 11. All lines ask for room for the longest list, so that nothing is written in part.
 -- Assumes nothing.
 use mathlib.Core.Bool.{cond}
-use mathlib.Core.List.{List, [], flatMap}
+use mathlib.Core.List.{List, [], _∷_, _++_}
 use Prim.Native.Nat.{ℕ, _+_, _*_}
 use lib.ListN.{length, getD}
 use lib.Dec.{leb, ltb}
@@ -10,7 +10,6 @@ use Rattle.group.specs.Row.{mostObjects, mostGroups}
 use Rattle.tables.specs.Tables.{Tables}
 use Rattle.tables.specs.Sound.{sound}
 use Rattle.output.specs.Output.{Writing, writing, placed, writtenAt}
-use Rattle.text.specs.Words.{headLength}
 use Rattle.version.specs.Line.{lineLength}
 use Rattle.list.specs.Listing.{linesOf}
 
@@ -25,12 +24,16 @@ lineOf t k out start =
 -- ---- all lines
 
 -- one after another
-unfoldable pub listOf : Tables → List ℕ
-listOf t = flatMap (λ (line : List ℕ). line) (linesOf t)
+unfoldable pub joined : List (List ℕ) → List ℕ
+joined [] = []
+joined (line ∷ lines) = line ++ joined lines
 
--- the bytes that a list has at most
+unfoldable pub listOf : Tables → List ℕ
+listOf t = joined (linesOf t)
+
+-- the bytes that a list has at most: line 0 is no longer than another line may be
 abbrev pub listLength : ℕ
-listLength = headLength + mostObjects * mostGroups * lineLength
+listLength = (1 + mostObjects * mostGroups) * lineLength
 
 unfoldable pub listingOf : Tables → List ℕ → ℕ → Writing
 listingOf t out start =

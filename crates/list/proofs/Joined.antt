@@ -1,0 +1,114 @@
+-- The lines of the list from what the code gathers: those of an object, the objects' numbers, and all lines joined.
+-- Assumes nothing.
+use mathlib.Core.Path.{_≡_, refl, ap, ap₂, _∙_}
+use mathlib.Core.Bool.{true, false}
+use mathlib.Core.List.{List, [], _∷_, _++_, map, flatMap}
+use Prim.Native.Nat.{ℕ, zero, suc, _+_, _-_, _<_}
+use native.Mathlib.Numerals.{add-one}
+use native.Mathlib.Omega.{arith}
+use native.Mathlib.Decide.{decLt}
+use borrow.Author.Tests.{le-leb, lt-leb}
+use lib.Dec.{leb}
+use lib.ListN.{length, getD, take, length-append}
+use lib.Seq.{getD-take}
+use Rattle.ground.specs.Below.{keep}
+use Rattle.ground.specs.Sorted.{any}
+use Rattle.ground.proofs.Bools.{clash}
+use Rattle.ground.proofs.Below.{keep-at}
+use Rattle.ground.proofs.Lists.{any-off}
+use Rattle.ground.proofs.Places.{any-place-on}
+use Rattle.ground.proofs.Gathered.{any-gathered, gathered-length}
+use Rattle.record.specs.declared.Edit.{Edit}
+use Rattle.tables.specs.Tables.{Tables}
+use Rattle.arrival.specs.Arrival.{rowOf}
+use Rattle.tables.specs.Sound.{sound}
+use Rattle.output.specs.Output.{writing}
+use Rattle.version.specs.Order.{versionsOf}
+use Rattle.version.specs.Line.{versionLine, objectLines}
+use Rattle.list.specs.declared.objects.Gathered.{Gathered}
+use Rattle.list.specs.Listing.{setsFor, linesFor, createdBefore, objectsOf, versionTotal, linesOf}
+use Rattle.list.specs.Printing.{joined, listOf, listLength, listingOf}
+use Rattle.list.specs.Code.{GatheredOf, Ready, lineIn, headOf, allLines, Behind}
+use Rattle.list.proofs.Behind.{joined-append}
+
+-- ---- what is gathered of an object
+
+module _ (t : Tables) (o : ℕ) (g : Gathered) (f : GatheredOf t o g) where
+  pub gathered-ready : Ready (t .records) g
+  gathered-ready =
+      record {
+        few = f .few-sets;
+        places-long = f .places-long;
+        tags-long = f .tags-long;
+        versions-long = f .versions-long;
+        tagged = rw (f .places) (f .tags);
+      }
+
+  pub gathered-lines : map (lineIn (t .records) g) (take (g .count) (g .versions)) ≡ linesFor t o
+  unfolding linesFor objectLines
+  gathered-lines =
+      ap (map (lineIn (t .records) g)) (f .versions)
+      ∙ ap₂ (λ (c : Edit) (ms : List Edit). map (versionLine c ms) (versionsOf (setsFor t o) (rowOf t o)))
+      (f .create) (f .places)
+
+-- ---- the objects in their order are the numbers below their count, each once
+
+count-all : (n : ℕ) → length (keep n (λ o. true)) ≡ n
+unfolding keep
+count-all zero = refl
+count-all (suc n) = length-append (keep n (λ o. true)) (n ∷ []) ∙ rw (count-all n) (add-one n)
+
+none-above : (n : ℕ) → any (leb n) (keep n (λ o. true)) ≡ false
+none-above n = any-off (leb n) (keep n (λ o. true)) (λ x m. lt-leb n x (keep-at n (λ o. true) x m .0))
+
+module _ (t : Tables) where
+  abbrev n : ℕ
+  n = t .counters .objects
+
+  pub objects-length : length (objectsOf t) ≡ n
+  unfolding objectsOf
+  objects-length = gathered-length (createdBefore t) [] (keep n (λ o. true)) ∙ omega (arith, count-all n)
+
+  pub object-low : (i : ℕ) → i < n → getD (objectsOf t) i 0 < n
+  unfolding objectsOf any
+  object-low i l = go (decLt (getD (objectsOf t) i 0) n)
+    where
+      none : any (leb n) (objectsOf t) ≡ false
+      none = any-gathered (createdBefore t) (leb n) [] (keep n (λ o. true)) ∙ none-above n
+
+      go : Dec (getD (objectsOf t) i 0 < n) → getD (objectsOf t) i 0 < n
+      go (yes h) = h
+      go (no h) =
+          clash
+          (any-place-on (leb n) 0 (objectsOf t) i (omega (arith, objects-length))
+          (le-leb n (getD (objectsOf t) i 0) (omega arith)))
+          none
+
+  -- `order` has them at its front
+  module _ (order : List ℕ) (e : take n order ≡ objectsOf t) where
+    pub sorted-low : (i : ℕ) → i < n → getD order i 0 < n
+    sorted-low i l = rw (← getD-take n order i 0 l, e) (object-low i l)
+
+    pub sorted-lines : (i : ℕ) → i ≡ n → joined (map (λ o. joined (linesFor t o)) (take i order)) ≡ allLines t
+    unfolding allLines
+    sorted-lines i h = rw (h, e)
+
+-- ---- all lines joined
+
+joined-each : (f : ℕ → List (List ℕ)) (os : List ℕ) → joined (flatMap f os) ≡ joined (map (λ o. joined (f o)) os)
+unfolding joined flatMap
+joined-each f [] = refl
+joined-each f (o ∷ os) = joined-append (f o) (flatMap f os) ∙ rw (joined-each f os)
+
+pub list-split : (t : Tables) → listOf t ≡ headOf (t .counters) (t .objects) ++ allLines t
+unfolding listOf linesOf versionTotal joined allLines
+list-split t = rw (joined-each (linesFor t) (objectsOf t))
+
+pub list-put :
+    (t : Tables) (out : List ℕ) (start k : ℕ) {o : List ℕ} {r : ℕ} → sound t ≡ true →
+    leb (start + listLength) (length out) ≡ true → Behind out start (listOf t) k o r →
+    writing 0 (r - start) o ≡ listingOf t out start
+unfolding listingOf
+list-put t out start k {o} {r} ok room b =
+    let bytes : r - start ≡ length (listOf t) = omega (arith, b .end) in
+    rw (ok, room, b .put, bytes)

@@ -1,0 +1,75 @@
+-- `list::lines::put_versions` meets its contract: each turn puts one line behind those before it. Assumes nothing.
+use native.Mathlib.Omega.{arith}
+use denote.Ref.{now}
+use Rattle.list.proofs.Behind.{no-piece, piece-behind}
+use mathlib.Core.Path.{_≡_, refl, _∙_}
+use mathlib.Core.List.{map}
+use Prim.Native.Nat.{_-_, _*_, _≤_}
+use lib.ListN.{length, take}
+use Rattle.version.specs.Line.{lineLength}
+use Rattle.list.specs.Printing.{joined}
+use Rattle.list.specs.Code.{lineIn, Behind}
+use borrow.Author.Needs.{needs}
+use Rattle.list.proofs.lines.put_versions.Statement.{statement}
+use Rattle.list.proofs.lines.put_versions.Tie as tie
+
+abbrev Inv-loop : tie.InvT-loop
+Inv-loop out₀ n recs g w₀ v₀ out w v =
+    (v ≤ g .count) × (length out ≡ length out₀)
+    × Behind out₀ n (joined (map (lineIn recs g) (take v (g .versions)))) (v * lineLength) out w
+
+abbrev μ-loop : tie.MeasureT-loop
+μ-loop out₀ n recs g w₀ v₀ out w v = g .count - v
+
+loop-holds : tie.Need-loop-holds Inv-loop μ-loop
+loop-holds c =
+    let a = c .before .before .args in
+    (search needs, refl, no-piece (lineIn (now (a .recs)) (a .g)) lineLength (now (a .out)) (a .g .versions) (a .n))
+
+put-behind-requires : tie.Need-put-behind-requires Inv-loop μ-loop
+put-behind-requires c κs =
+    let l = c .before .before .before .loop in
+    let p = c .before .before .before .before .before .before .pre in
+    (p .0, omega (arith, p .1), omega (arith, p .1, p .2, l .inv .1, l .inv .2 .end, l .inv .2 .few))
+
+add-v : tie.Need-add-v Inv-loop μ-loop
+add-v c = search needs
+
+loop-less : tie.Need-loop-less Inv-loop μ-loop
+loop-less c = omega arith
+
+loop-again : tie.Need-loop-again Inv-loop μ-loop
+loop-again c =
+    let b = c .before .before in
+    let l = b .before .before .before .before .loop in
+    let s = b .before .before .before .before .before .before .before in
+    let a = s .args in (
+      omega arith,
+      b .put-behind .kept .0 ∙ l .inv .1,
+      piece-behind (lineIn (now (a .recs)) (a .g)) lineLength (now (a .out)) (a .g .versions) (a .n) (l .v)
+          (omega (arith, s .pre .0 .versions-long, s .pre .1)) (omega (arith, s .pre .1, s .pre .2)) (l .inv .2)
+          (b .put-behind .ensures),
+    )
+
+same-length : tie.Need-same-length Inv-loop μ-loop
+same-length c = c .before .before .loop .inv .1
+
+returns : tie.Need-returns Inv-loop μ-loop
+returns c =
+    let l = c .before .before .loop in
+    let e : l .v ≡ c .before .before .before .before .before .args .g .count = omega arith in
+    rw (← e) (l .inv .2)
+
+pub put-versions-spec : {M : Type 1} → statement M
+put-versions-spec =
+    tie.close
+    (tie.spec
+    Inv-loop
+    μ-loop
+    loop-holds
+    put-behind-requires
+    add-v
+    loop-less
+    loop-again
+    same-length
+    returns)

@@ -1,0 +1,138 @@
+-- `list::whole::put_objects` meets its contract: each turn puts the lines of one object behind those before it. Assumes
+-- nothing.
+use Rattle.list.proofs.Joined.{sorted-low, sorted-lines}
+use mathlib.Core.Path.{_≡_, refl, _∙_}
+use mathlib.Core.List.{map}
+use Prim.Native.Nat.{_-_, _*_, _≤_}
+use native.Mathlib.Omega.{arith}
+use denote.Ref.{now}
+use lib.ListN.{length, take}
+use Rattle.group.specs.Row.{mostGroups}
+use Rattle.tables.specs.Tables.{tablesOf}
+use Rattle.tables.proofs.Facts.{sound-at}
+use Rattle.version.specs.Line.{lineLength}
+use Rattle.list.specs.Listing.{linesFor, objectsOf}
+use Rattle.list.specs.Printing.{joined}
+use Rattle.list.specs.Code.{Behind}
+use Rattle.list.proofs.Behind.{fewer-behind, no-piece, piece-behind}
+use borrow.Author.Needs.{needs}
+use Rattle.list.proofs.whole.put_objects.Statement.{statement}
+use Rattle.list.proofs.whole.put_objects.Tie as tie
+
+abbrev Inv-loop : tie.InvT-loop
+Inv-loop out₀ n c records objects groups m order w₀ i₀ out w i =
+    (i ≤ m) × (length out ≡ length out₀)
+    × Behind out₀ n (joined (map (λ o. joined (linesFor (tablesOf c records objects groups) o)) (take i order)))
+    (i * (mostGroups * lineLength)) out w
+
+abbrev μ-loop : tie.MeasureT-loop
+μ-loop out₀ n c records objects groups m order w₀ i₀ out w i = m - i
+
+cast-m : tie.Need-cast-m Inv-loop μ-loop
+cast-m c = search needs
+
+slice-aggregate-sort-objects : tie.Need-slice-aggregate-sort-objects Inv-loop μ-loop
+slice-aggregate-sort-objects c = search needs
+
+sort-objects-requires : tie.Need-sort-objects-requires Inv-loop μ-loop
+sort-objects-requires c κs =
+    let s = c .before .before .before .before .before .before in
+    let a = s .args in
+    let t = tablesOf (a .c) (now (a .records)) (now (a .objects)) (now (a .groups)) in
+    let few = sound-at t (s .pre .0) .few-objects in
+    (few, omega (arith, few))
+
+loop-holds : tie.Need-loop-holds Inv-loop μ-loop
+loop-holds c =
+    let a = c .before .before .before .before .before .before .before .before .args in
+    let t = tablesOf (a .c) (now (a .records)) (now (a .objects)) (now (a .groups)) in
+    let order = c .before .sort-objects .last .0 in
+    (search needs, refl, no-piece (λ o. joined (linesFor t o)) (mostGroups * lineLength) (now (a .out)) order (a .n))
+
+mul-put-object : tie.Need-mul-put-object Inv-loop μ-loop
+mul-put-object c = search needs
+
+array-read-put-object : tie.Need-array-read-put-object Inv-loop μ-loop
+array-read-put-object c =
+    let s = c .before .before .before .before .before .before .before .before .before .before .before in
+    let a = s .args in
+    let t = tablesOf (a .c) (now (a .records)) (now (a .objects)) (now (a .groups)) in
+    let few = sound-at t (s .pre .0) .few-objects in
+    omega (arith, few)
+
+cast-put-object : tie.Need-cast-put-object Inv-loop μ-loop
+unfolding objectsOf
+cast-put-object c =
+    let s = c .before .before .before .before .before .before .before .before .before .before .before in
+    let a = s .args in
+    let t = tablesOf (a .c) (now (a .records)) (now (a .objects)) (now (a .groups)) in
+    let low = sorted-low t _ (c .before .before .before .before .sort-objects .ensures) (c .before .before .loop .i) (omega arith) in
+    search (needs, low)
+
+put-object-requires : tie.Need-put-object-requires Inv-loop μ-loop
+unfolding objectsOf
+put-object-requires c κs =
+    let l = c .before .before .loop in
+    let s = c .before .before .before .before .before .before .before .before .before .before .before in
+    let a = s .args in
+    let t = tablesOf (a .c) (now (a .records)) (now (a .objects)) (now (a .groups)) in
+    let few = sound-at t (s .pre .0) .few-objects in (
+      s .pre .0,
+      sorted-low t _ (c .before .before .before .before .sort-objects .ensures) (l .i) (omega arith),
+      omega (arith, few, s .pre .1, l .inv .1, l .inv .2 .end, l .inv .2 .few),
+    )
+
+add-i : tie.Need-add-i Inv-loop μ-loop
+add-i c = search needs
+
+loop-less : tie.Need-loop-less Inv-loop μ-loop
+loop-less c = omega arith
+
+loop-again : tie.Need-loop-again Inv-loop μ-loop
+loop-again c =
+    let p = c .before .before in
+    let l = p .before .before .before .loop in
+    let o = p .before .before .before .before .before .sort-objects in
+    let s = p .before .before .before .before .before .before .before .before .before .before .before .before in
+    let a = s .args in
+    let t = tablesOf (a .c) (now (a .records)) (now (a .objects)) (now (a .groups)) in
+    let few = sound-at t (s .pre .0) .few-objects in (
+      omega arith,
+      p .put-object .kept .0 ∙ l .inv .1,
+      piece-behind (λ o. joined (linesFor t o)) (mostGroups * lineLength) (now (a .out)) _ (a .n) (l .i)
+          (omega (arith, few, o .kept .0)) (omega (arith, few, s .pre .1)) (l .inv .2) (p .put-object .ensures),
+    )
+
+same-length : tie.Need-same-length Inv-loop μ-loop
+same-length c = c .before .loop .inv .1
+
+returns : tie.Need-returns Inv-loop μ-loop
+unfolding objectsOf
+returns c =
+    let l = c .before .loop in
+    let s = c .before .before .before .before .before .before .before .before .before .before in
+    let a = s .args in
+    let t = tablesOf (a .c) (now (a .records)) (now (a .objects)) (now (a .groups)) in
+    let few = sound-at t (s .pre .0) .few-objects in
+    rw (← sorted-lines t _ (c .before .before .before .sort-objects .ensures) (l .i) (omega arith))
+    (fewer-behind (now (a .out)) (a .n) (omega (arith, few)) (l .inv .2))
+
+pub put-objects-spec : {M : Type 1} → statement M
+put-objects-spec =
+    tie.close
+    (tie.spec
+    Inv-loop
+    μ-loop
+    cast-m
+    slice-aggregate-sort-objects
+    sort-objects-requires
+    loop-holds
+    mul-put-object
+    array-read-put-object
+    cast-put-object
+    put-object-requires
+    add-i
+    loop-less
+    loop-again
+    same-length
+    returns)

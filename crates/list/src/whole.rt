@@ -1,0 +1,98 @@
+// All lines, put into the output one behind another.
+use super::head;
+use super::lines::put_versions;
+use super::objects::gather;
+use super::objects::sort_objects;
+use group::OBJECTS;
+use output::copy_in;
+use tables::Counters;
+use version::LINE;
+ghost use mathlib.Core.Path.{_≡_};
+ghost use mathlib.Core.Bool.{true};
+ghost use Prim.Native.Nat.{_+_, _*_, _≤_, _<_};
+ghost use lib.ListN.{length};
+ghost use Rattle.group.specs.Row.{mostObjects, mostGroups};
+ghost use Rattle.tables.specs.Tables.{tablesOf};
+ghost use Rattle.tables.specs.Sound.{sound};
+ghost use Rattle.version.specs.Line.{lineLength};
+ghost use Rattle.list.specs.Listing.{linesFor};
+ghost use Rattle.list.specs.Printing.{joined, listOf, listLength};
+ghost use Rattle.list.specs.Code.{headOf, allLines, Behind};
+
+// Puts line 0 behind the first n bytes; says how many bytes stand there then.
+fn put_head(out: &mut [u8], n: usize, c: Counters, objects: &[u16]) -> usize
+    requires { ⌜ (c .objects ≤ mostObjects) × (n + lineLength ≤ length (now out)) ⌝ }
+    ensures { λ r. ⌜ Behind (now (out .entry)) n (headOf c (now (objects .entry))) lineLength (now (out .exit)) r ⌝ }
+{
+    let mut line = [0u8; LINE];
+    let k = head(&mut line, c, objects);
+    copy_in(&mut out[n..], &line, k);
+    n + k
+}
+
+// Puts the lines of object o behind the first n bytes.
+fn put_object(
+    out: &mut [u8],
+    n: usize,
+    c: Counters,
+    records: &[u8],
+    objects: &[u16],
+    groups: &[u64],
+    o: usize,
+) -> usize
+    requires { ⌜ (sound (tablesOf c (now records) (now objects) (now groups)) ≡ true)
+        × (o < c .objects)
+        × (n + mostGroups * lineLength ≤ length (now out)) ⌝ }
+    ensures { λ r. ⌜ Behind (now (out .entry)) n
+        (joined (linesFor (tablesOf c (now (records .entry)) (now (objects .entry)) (now (groups .entry))) o))
+        (mostGroups * lineLength) (now (out .exit)) r ⌝ }
+{
+    let g = gather(c, records, objects, groups, o);
+    put_versions(out, n, records, g)
+}
+
+// Puts the lines of all objects behind the first n bytes, in their order.
+fn put_objects(
+    out: &mut [u8],
+    n: usize,
+    c: Counters,
+    records: &[u8],
+    objects: &[u16],
+    groups: &[u64],
+) -> usize
+    requires { ⌜ (sound (tablesOf c (now records) (now objects) (now groups)) ≡ true)
+        × (n + mostObjects * (mostGroups * lineLength) ≤ length (now out)) ⌝ }
+    ensures { λ r. ⌜ Behind (now (out .entry)) n
+        (allLines (tablesOf c (now (records .entry)) (now (objects .entry)) (now (groups .entry))))
+        (mostObjects * (mostGroups * lineLength)) (now (out .exit)) r ⌝ }
+{
+    let m = c.objects as usize;
+    let mut order = [0u16; OBJECTS];
+    sort_objects(&mut order, records, objects, m);
+    let mut w = n;
+    let mut i: usize = 0;
+    while i < m {
+        w = put_object(out, w, c, records, objects, groups, order[i] as usize);
+        i += 1;
+    }
+    w
+}
+
+// Puts all lines behind the first n bytes.
+pub fn put_list(
+    out: &mut [u8],
+    n: usize,
+    c: Counters,
+    records: &[u8],
+    objects: &[u16],
+    groups: &[u64],
+) -> usize
+    requires { ⌜ (sound (tablesOf c (now records) (now objects) (now groups)) ≡ true)
+        × (n + listLength ≤ length (now out)) ⌝ }
+    ensures { λ r. ⌜ Behind (now (out .entry)) n
+        (listOf (tablesOf c (now (records .entry)) (now (objects .entry)) (now (groups .entry))))
+        listLength (now (out .exit)) r ⌝ }
+{
+    let w = put_head(out, n, c, objects);
+    put_objects(out, w, c, records, objects, groups)
+}
