@@ -5,7 +5,7 @@ use Prim.Native.Nat.{ℕ, _+_, _-_, _*_, _≤_, _<_}
 use native.Mathlib.Nat.{add-zero, suc-mul}
 use native.Mathlib.Numerals.{add-one}
 use native.Mathlib.Omega.{arith}
-use lib.ListN.{length, getD, take, drop, length-append, take-append-drop}
+use lib.ListN.{length, getD, take, drop, length-append, length-drop, take-append-drop}
 use lib.Seq.{length-take-le, take-at, drop-at, drop-drop, take-suc}
 use borrow.Rule.Slice.PartMut.{midOf, putMid}
 use Rattle.output.specs.Output.{placed}
@@ -16,7 +16,14 @@ use Rattle.list.specs.Code.{Behind}
 -- ---- an output
 
 module _ (out : List ℕ) (n : ℕ) where
-  placed-more :
+  pub placed-length : (b : List ℕ) → n + length b ≤ length out → length (placed out n b) ≡ length out
+  placed-length b fits =
+      let rest = drop (n + length b) out in
+      length-append (take n out) (b ++ rest)
+      ∙ omega
+      (arith, length-take-le n out (omega arith), length-append b rest, length-drop (n + length b) out)
+
+  pub placed-more :
       (a b : List ℕ) → n + length a ≤ length out → placed (placed out n a) (n + length a) b ≡ placed out n (a ++ b)
   placed-more a b fits =
       let m = n + length a in
@@ -56,7 +63,8 @@ module _ (out : List ℕ) (n : ℕ) where
   -- what is lent from n on comes back with the first k bytes of src in front, which are b
   pub copied-behind :
       (src b : List ℕ) (k m : ℕ) {r : List ℕ} → take k src ≡ b → k ≤ length src → k ≤ m →
-      r ≡ take k src ++ drop k (midOf n (length out - n) out) → Behind out n b m (putMid n (length out - n) out r) (n + k)
+      r ≡ take k src ++ drop k (midOf n (length out - n) out) → Behind out n b m (putMid n (length out - n) out r)
+      (n + k)
   copied-behind src b k m same fits few e =
       let long : length b ≡ k = rw (← same) (length-take-le k src fits) in
       record {

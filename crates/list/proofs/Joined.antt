@@ -1,6 +1,6 @@
 -- The lines of the list from what the code gathers: those of an object, the objects' numbers, and all lines joined.
 -- Assumes nothing.
-use mathlib.Core.Path.{_≡_, refl, ap, ap₂, _∙_}
+use mathlib.Core.Path.{_≡_, refl, sym, ap, ap₂, _∙_}
 use mathlib.Core.Bool.{true, false}
 use mathlib.Core.List.{List, [], _∷_, _++_, map, flatMap}
 use Prim.Native.Nat.{ℕ, zero, suc, _+_, _-_, _<_}
@@ -9,8 +9,8 @@ use native.Mathlib.Omega.{arith}
 use native.Mathlib.Decide.{decLt}
 use borrow.Author.Tests.{le-leb, lt-leb}
 use lib.Dec.{leb}
-use lib.ListN.{length, getD, take, length-append}
-use lib.Seq.{getD-take}
+use lib.ListN.{length, getD, take, length-append, length-map}
+use lib.Seq.{getD-take, length-take-le}
 use Rattle.ground.specs.Below.{keep}
 use Rattle.ground.specs.Sorted.{any}
 use Rattle.ground.proofs.Bools.{clash}
@@ -25,6 +25,7 @@ use Rattle.tables.specs.Sound.{sound}
 use Rattle.output.specs.Output.{writing}
 use Rattle.version.specs.Order.{versionsOf}
 use Rattle.version.specs.Line.{versionLine, objectLines}
+use Rattle.version.proofs.Members.{map-place}
 use Rattle.list.specs.declared.objects.Gathered.{Gathered}
 use Rattle.list.specs.Listing.{setsFor, linesFor, createdBefore, objectsOf, versionTotal, linesOf}
 use Rattle.list.specs.Printing.{joined, listOf, listLength, listingOf}
@@ -50,6 +51,23 @@ module _ (t : Tables) (o : ℕ) (g : Gathered) (f : GatheredOf t o g) where
       ap (map (lineIn (t .records) g)) (f .versions)
       ∙ ap₂ (λ (c : Edit) (ms : List Edit). map (versionLine c ms) (versionsOf (setsFor t o) (rowOf t o)))
       (f .create) (f .places)
+
+  pub gathered-count : length (linesFor t o) ≡ g .count
+  gathered-count =
+      ap length (sym gathered-lines)
+      ∙ length-map (take (g .count) (g .versions)) (lineIn (t .records) g)
+      ∙ length-take-le (g .count) (g .versions) (omega (arith, f .versions-long, f .few-groups))
+
+  pub gathered-line :
+      (v : ℕ) → v < length (linesFor t o) →
+      lineIn (t .records) g (getD (g .versions) v 0) ≡ getD (linesFor t o) v []
+  gathered-line v l =
+      let low : v < g .count = omega (arith, gathered-count) in
+      let front = take (g .count) (g .versions) in
+      let long = length-take-le (g .count) (g .versions) (omega (arith, f .versions-long, f .few-groups)) in
+      sym (ap (λ (ls : List (List ℕ)). getD ls v []) (sym gathered-lines)
+      ∙ map-place (lineIn (t .records) g) front v 0 [] (omega (arith, long))
+      ∙ ap (lineIn (t .records) g) (getD-take (g .count) (g .versions) v 0 low))
 
 -- ---- the objects in their order are the numbers below their count, each once
 

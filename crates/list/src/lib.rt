@@ -1,12 +1,15 @@
 // The printed list of versions of document 01: a line by its number, and all lines in one pass.
 mod lines;
+mod numbered;
 mod objects;
-mod whole;
+pub mod whole;
 
 use group::GROUPS;
 use group::OBJECTS;
+use numbered::put_numbered;
 use output::Written;
 use output::has_room;
+use output::put_at;
 use tables::Answer;
 use tables::Counters;
 use tables::ENTRY;
@@ -21,7 +24,7 @@ ghost use Rattle.group.specs.Row.{mostObjects};
 ghost use Rattle.tables.specs.Tables.{groupsAt, tablesOf, numberOf};
 ghost use Rattle.output.specs.Output.{writing};
 ghost use Rattle.version.specs.Line.{lineLength};
-ghost use Rattle.list.specs.Printing.{listingOf};
+ghost use Rattle.list.specs.Printing.{lineOf, listingOf};
 ghost use Rattle.list.specs.Code.{headOf};
 
 // The bytes that a list has at most: line 0 is no longer than another line may be.
@@ -48,6 +51,37 @@ fn head(out: &mut [u8], c: Counters, objects: &[u16]) -> usize
 {
     let total = version_total(objects, c.objects as usize);
     text::put_head(out, c.sites as u32, c.objects as u32, total)
+}
+
+// Puts line k into out from the start on; refused, everything stays as it was.
+pub fn print_line(
+    c: Counters,
+    records: &[u8],
+    objects: &[u16],
+    groups: &[u64],
+    k: usize,
+    out: &mut [u8],
+    start: usize,
+) -> Written
+    ensures { λ r. ⌜ writing (numberOf (r .answer)) (r .bytes) (now (out .exit))
+        ≡ lineOf (tablesOf c (now (records .entry)) (now (objects .entry)) (now (groups .entry))) k
+        (now (out .entry)) start ⌝ }
+{
+    if !tables::is_sound(c, records, objects, groups) {
+        return Written {
+            answer: Answer::Unsound,
+            bytes: 0,
+        };
+    }
+    let mut line = [0u8; LINE];
+    let r = put_numbered(&mut line, c, records, objects, groups, k);
+    if !r.ok {
+        return Written {
+            answer: Answer::NoLine,
+            bytes: 0,
+        };
+    }
+    put_at(out, start, &line, r.bytes)
 }
 
 // Puts all lines into out from the start on, if there is room for the longest list; refused, everything stays as it

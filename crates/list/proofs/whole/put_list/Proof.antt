@@ -34,7 +34,8 @@ returns c =
     let t = tablesOf (a .c) (now (a .records)) (now (a .objects)) (now (a .groups)) in
     rw (list-split t)
     (fewer-behind (now (a .out)) (a .n) (omega arith)
-    (more-behind (now (a .out)) (a .n) (omega (arith, s .pre .1, h .ensures .few)) (h .ensures) (p .put-objects .ensures)))
+    (more-behind (now (a .out)) (a .n) (omega (arith, s .pre .1, h .ensures .few)) (h .ensures)
+    (p .put-objects .ensures)))
 
 pub put-list-spec : {M : Type 1} → statement M
 put-list-spec = tie.close (tie.spec put-head-requires put-objects-requires same-length returns)

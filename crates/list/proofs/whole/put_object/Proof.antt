@@ -16,8 +16,9 @@ put-versions-requires c κs =
     let g = c .before in
     let s = g .before .before .before .before .before in
     let a = s .args in
+    let t = tablesOf (a .c) (now (a .records)) (now (a .objects)) (now (a .groups)) in
     let f = g .gather .ensures in
-    (gathered-ready (tablesOf (a .c) (now (a .records)) (now (a .objects)) (now (a .groups))) (a .o) _ f, f .few-groups, s .pre .2)
+    (gathered-ready t (a .o) _ f, f .few-groups, s .pre .2)
 
 same-length : tie.Need-same-length
 same-length c = search needs

@@ -66,7 +66,9 @@ cast-put-object c =
     let s = c .before .before .before .before .before .before .before .before .before .before .before in
     let a = s .args in
     let t = tablesOf (a .c) (now (a .records)) (now (a .objects)) (now (a .groups)) in
-    let low = sorted-low t _ (c .before .before .before .before .sort-objects .ensures) (c .before .before .loop .i) (omega arith) in
+    let low =
+    sorted-low t _ (c .before .before .before .before .sort-objects .ensures) (c .before .before .loop .i)
+    (omega arith) in
     search (needs, low)
 
 put-object-requires : tie.Need-put-object-requires Inv-loop μ-loop

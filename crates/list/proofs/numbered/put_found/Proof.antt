@@ -1,0 +1,41 @@
+-- `list::numbered::put_found` meets its contract: what is gathered of the object is ready to be printed. Assumes
+-- nothing.
+use mathlib.Core.Path.{_∙_}
+use native.Mathlib.Omega.{arith}
+use denote.Ref.{now}
+use Rattle.tables.specs.Tables.{tablesOf}
+use Rattle.list.proofs.Joined.{gathered-ready, gathered-count, gathered-line}
+use borrow.Author.Needs.{needs}
+use Rattle.list.proofs.numbered.put_found.Statement.{statement}
+use Rattle.list.proofs.numbered.put_found.Tie as tie
+
+gather-requires : tie.Need-gather-requires
+gather-requires c κs = search needs
+
+put-version-requires : tie.Need-put-version-requires
+put-version-requires c κs =
+    let g = c .before in
+    let s = g .before .before .before .before .before in
+    let a = s .args in
+    let t = tablesOf (a .c) (now (a .records)) (now (a .objects)) (now (a .groups)) in
+    let f = g .gather .ensures in (
+      gathered-ready t (a .o) _ f,
+      omega (arith, s .pre .2, f .few-groups, gathered-count t (a .o) _ f),
+      s .pre .3,
+    )
+
+same-length : tie.Need-same-length
+same-length c = search needs
+
+returns : tie.Need-returns
+returns c =
+    let v = c .before .before in
+    let g = v .before .before in
+    let s = g .before .before .before .before .before in
+    let a = s .args in
+    let t = tablesOf (a .c) (now (a .records)) (now (a .objects)) (now (a .groups)) in
+    let e = v .put-version .ensures in
+    (e .0 ∙ gathered-line t (a .o) _ (g .gather .ensures) (a .v) (s .pre .2), e .1)
+
+pub put-found-spec : {M : Type 1} → statement M
+put-found-spec = tie.close (tie.spec gather-requires put-version-requires same-length returns)
