@@ -3,6 +3,7 @@ pub mod Members
 pub mod Last
 pub mod Stamps
 pub mod Tags
+pub mod Rows
 pub mod Names
 pub mod Unshared
 pub mod Sorted

@@ -1,17 +1,18 @@
--- Forms that the code uses: identifiers from tags, values from stamps. No one need believe them: laws in proofs/ tie
--- each one to the definitions of `Version` and `Order`. Assumes nothing.
+-- Forms that the code uses: identifiers from tags, their order in rows, values from stamps. No one need believe them:
+-- laws in proofs/ tie each one to the definitions of `Version` and `Order`. Assumes nothing.
 use mathlib.Core.Path.{_≡_}
-use mathlib.Core.Bool.{Bool, not, _&&_, cond}
+use mathlib.Core.Bool.{Bool, true, not, _&&_, cond}
 use mathlib.Core.List.{List, [], _∷_, map}
-use Prim.Native.Nat.{ℕ, _+_, _-_, _*_, _%_, _<_, max}
+use Prim.Native.Nat.{ℕ, _+_, _-_, _*_, _%_, _≤_, _<_, max}
 use lib.Dec.{eqb, ltb}
-use lib.ListN.{length, getD, set}
+use lib.ListN.{length, getD, take, drop, set}
 use Rattle.ground.specs.Below.{keep}
 use Rattle.ground.specs.Sorted.{gatherBy, ascending}
 use Rattle.record.specs.declared.Edit.{Edit}
 use Rattle.record.specs.Layout.{keys}
 use Rattle.causal.specs.Causal.{vectorSum}
 use Rattle.maximal.specs.Groups.{bit}
+use Rattle.group.specs.Row.{mostSets}
 use Rattle.arrival.specs.Versions.{isDisputed}
 use Rattle.text.specs.Words.{space, equated}
 use Rattle.version.specs.Version.{siteNumbers, nameOf, lastWith}
@@ -41,6 +42,24 @@ isAheadBy tags g h = lex (ltb g h) (identifierBy tags g) (identifierBy tags h)
 
 unfoldable pub versionsBy : List ℕ → List ℕ → List ℕ
 versionsBy tags gs = gatherBy (isAheadBy tags) [] gs
+
+-- ---- identifiers in rows: `mostSets` places of one list for each version, and a list of their lengths
+
+-- the identifier in row x
+abbrev pub rowAt : List ℕ → List ℕ → ℕ → List ℕ
+rowAt rows lens x = take (getD lens x 0) (drop (x * mostSets) rows)
+
+-- the n first rows have the identifiers of the groups gs
+abbrev pub HasRows : List ℕ → List ℕ → List ℕ → List ℕ → ℕ → Type 0
+HasRows rows lens tags gs n =
+    (x : ℕ) → x < n → (getD lens x 0 ≤ mostSets) × (rowAt rows lens x ≡ identifierBy tags (getD gs x 0))
+
+unfoldable pub isAheadAt : List ℕ → List ℕ → List ℕ → ℕ → ℕ → Bool
+isAheadAt rows lens gs x y = lex (ltb (getD gs x 0) (getD gs y 0)) (rowAt rows lens x) (rowAt rows lens y)
+
+-- the numbers of the n first rows, in the order of their versions
+unfoldable pub orderOf : List ℕ → List ℕ → List ℕ → ℕ → List ℕ
+orderOf rows lens gs n = gatherBy (isAheadAt rows lens gs) [] (keep n (λ x. true))
 
 -- ---- values from stamps
 

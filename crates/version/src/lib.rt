@@ -2,6 +2,7 @@
 // order of arrival: bit i of a group stands for the i-th place.
 pub mod identifiers;
 pub mod sets;
+pub mod sorting;
 mod values;
 
 use group::SETS;
