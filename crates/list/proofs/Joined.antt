@@ -122,6 +122,14 @@ pub list-split : (t : Tables) → listOf t ≡ headOf (t .counters) (t .objects)
 unfolding listOf linesOf versionTotal joined allLines
 list-split t = rw (joined-each (linesFor t) (objectsOf t))
 
+-- ---- the outcomes of printing all lines
+
+pub list-no-room :
+    (t : Tables) (out : List ℕ) (start : ℕ) → sound t ≡ true → leb (start + listLength) (length out) ≡ false →
+    writing 11 0 out ≡ listingOf t out start
+unfolding listingOf
+list-no-room t out start ok full = rw (ok, full)
+
 pub list-put :
     (t : Tables) (out : List ℕ) (start k : ℕ) {o : List ℕ} {r : ℕ} → sound t ≡ true →
     leb (start + listLength) (length out) ≡ true → Behind out start (listOf t) k o r →

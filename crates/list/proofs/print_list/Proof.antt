@@ -1,5 +1,5 @@
 -- `list::print_list` meets its contract: each of its three ends is that outcome. Assumes nothing.
-use Rattle.list.proofs.Joined.{list-put}
+use Rattle.list.proofs.Joined.{list-no-room, list-put}
 use mathlib.Core.Path.{sym, _∙_}
 use native.Mathlib.Omega.{arith}
 use denote.Ref.{now}
@@ -21,13 +21,12 @@ has-room-requires : tie.Need-has-room-requires
 has-room-requires c κs = search needs
 
 returns-2 : tie.Need-returns-2
-unfolding listingOf
 returns-2 c =
     let i = c .before .before in
-    rw (
-      sym (i .before .is-sound .ensures) ∙ not-false _ (i .if1 .left),
-      sym (c .before .has-room .ensures) ∙ not-true _ (c .if2 .taken),
-    )
+    let a = i .before .before .before .before .before .before .args in
+    list-no-room (tablesOf (a .c) (now (a .records)) (now (a .objects)) (now (a .groups))) (now (a .out)) (a .start)
+    (sym (i .before .is-sound .ensures) ∙ not-false _ (i .if1 .left))
+    (sym (c .before .has-room .ensures) ∙ not-true _ (c .if2 .taken))
 
 put-list-requires : tie.Need-put-list-requires
 put-list-requires c κs =
