@@ -33,7 +33,7 @@ any-order n few es fs r c a =
 
 -- ---- records
 
-edits-decoded : (rs : List ℕ) (n : ℕ) → map decodeOf (recordsOf rs n) ≡ editsOf rs n
+pub edits-decoded : (rs : List ℕ) (n : ℕ) → map decodeOf (recordsOf rs n) ≡ editsOf rs n
 unfolding recordsOf editsOf
 edits-decoded rs zero = refl
 edits-decoded rs (suc n) =

@@ -87,10 +87,10 @@ equal-self a =
     and-on (eqb (length l) (length l)) (all (length l) (λ i. eqb (getD l i 0) (getD l i 0))) (eqb-self (length l))
     (all-on (length l) (λ i. eqb (getD l i 0) (getD l i 0)) (λ i k. eqb-self (getD l i 0)))
 
-has-on : {x : Edit} {xs : List Edit} → Mem x xs → has isEqual xs x ≡ true
+pub has-on : {x : Edit} {xs : List Edit} → Mem x xs → has isEqual xs x ≡ true
 has-on {x} m = any-on (isEqual x) m (equal-self x)
 
-has-at : (x : Edit) (xs : List Edit) → has isEqual xs x ≡ true → Mem x xs
+pub has-at : (x : Edit) (xs : List Edit) → has isEqual xs x ≡ true → Mem x xs
 has-at x xs h =
     let (y, m, e) = any-at (isEqual x) xs h in
     rw (equal-at x y e) m

@@ -7,6 +7,7 @@ use mathlib.Core.List.{
   [],
   _∷_,
   _++_,
+  map,
   List·Memᴰ·tail,
   List·Memᴰ·not-nil,
   List·Memᴰ·cases-cons,
@@ -14,6 +15,7 @@ use mathlib.Core.List.{
   List·Memᴰ·eq-of-singleton,
   Memᴰ·append-left,
   Memᴰ·append-right,
+  Memᴰ·of-map,
 }
 use Rattle.ground.specs.Sorted.{filter, Asc}
 use Rattle.order.specs.Rearranged.{Mem, Rearranged, none, skip, swap, then}
@@ -56,6 +58,14 @@ module _ {A : Type 0} (R : A → A → Type 0) where
   pairs-weaken S (x ∷ xs) h (a, a') = (
     (λ y m. h x y here (List·Memᴰ·tail m) (a y m)),
     pairs-weaken S xs (λ y z m k. h y z (List·Memᴰ·tail m) (List·Memᴰ·tail k)) a',
+  )
+
+  -- what is made of each element
+  pub pairs-made : {B : Type 0} (f : B → A) (xs : List B) → Asc (λ x y. R (f x) (f y)) xs → Asc R (map f xs)
+  pairs-made f [] a = tt
+  pairs-made f (x ∷ xs) (a, a') = (
+    (λ y m. let (z, n, e) = Memᴰ·of-map f xs m in rw (← e) (a z n)),
+    pairs-made f xs a',
   )
 
   -- ---- where R goes both ways

@@ -5,11 +5,13 @@ use mathlib.Core.Bool.{Bool, true, false, cond}
 use mathlib.Core.List.{List, [], _∷_, map, List·Memᴰ·head, List·Memᴰ·tail, List·Memᴰ·cases-cons}
 use Prim.Native.Nat.{suc}
 use lib.ListN.{length}
-use Rattle.ground.specs.Sorted.{filter}
+use Rattle.ground.specs.Sorted.{any, filter}
+use Rattle.ground.proofs.Bools.{same-test}
 use Rattle.order.specs.Rearranged.{Mem, Rearranged, none, skip, swap, then}
+use Rattle.order.proofs.Members.{any-on, any-at}
 
 module _ {A : Type 0} where
-  unchanged : (xs : List A) → Rearranged xs xs
+  pub unchanged : (xs : List A) → Rearranged xs xs
   unchanged [] = none
   unchanged (x ∷ xs) = skip (unchanged xs)
 
@@ -38,6 +40,12 @@ module _ {A : Type 0} where
           elim (List·Memᴰ·cases-cons n)
           [ inl e ↦ List·Memᴰ·head e | inr k ↦ List·Memᴰ·tail (List·Memᴰ·tail k) ]
   same-members (then r s) x m = same-members s x (same-members r x m)
+
+  -- what some element passes is the same in both
+  pub any-rearranged : (f : A → Bool) {xs ys : List A} → Rearranged xs ys → any f xs ≡ any f ys
+  any-rearranged f {xs} {ys} r =
+      same-test (any f xs) (any f ys) (λ h. let (x, m, p) = any-at f xs h in any-on f (same-members r x m) p)
+      (λ h. let (x, m, p) = any-at f ys h in any-on f (same-members (turned r) x m) p)
 
   pub chosen-rearranged : (f : A → Bool) {xs ys : List A} → Rearranged xs ys → Rearranged (filter f xs) (filter f ys)
   unfolding filter

@@ -70,7 +70,7 @@ module _ (sites : ℕ) (rs : List ℕ) (n : ℕ) where
   abbrev b : List ℕ
   b = bytesAt rs n
 
-  refuses-none-before : replayOf sites rs (suc n) .answer ≡ 0 → (replayOf sites rs n .answer ≡ 0) × (answerTo t b ≡ 0)
+  pub refuses-none-before : replayOf sites rs (suc n) .answer ≡ 0 → (replayOf sites rs n .answer ≡ 0) × (answerTo t b ≡ 0)
   unfolding replayOf acceptanceOf
   refuses-none-before h = go (eqb (r .answer) 0) refl (eqb (answerTo t b) 0) refl h
     where
@@ -117,7 +117,7 @@ module _ (sites : ℕ) (some : 1 ≤ sites) (few : sites ≤ mostSites) (rs : Li
       )
 
   -- the next record's answer is the answer over the list
-  next-answer :
+  pub next-answer :
       (n : ℕ) → replayOf sites rs n .answer ≡ 0 → length (bytesAt rs n) ≡ recordLength →
       answerTo (replayOf sites rs n .after) (bytesAt rs n) ≡ listAnswer sites (editsOf rs n) (recordAt rs n)
   next-answer n z w =

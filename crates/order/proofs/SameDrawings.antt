@@ -48,11 +48,11 @@ module _ (sites : ℕ) (some : 1 ≤ sites) (few : sites ≤ mostSites) (rs rs�
   abbrev f′ : Faithful t′
   f′ = replay-faithful sites some few rs′ n
 
-  held-rearranged : Rearranged (heldBy t) (heldBy t′)
+  pub held-rearranged : Rearranged (heldBy t) (heldBy t′)
   held-rearranged =
       rw (replay-holds sites some few rs n h .0, replay-holds sites some few rs′ n h′ .0) (edits-rearranged rs rs′ n r)
 
-  held-apart : Apart (heldBy t)
+  pub held-apart : Apart (heldBy t)
   held-apart =
       subst Apart (sym (replay-holds sites some few rs n h .0))
       (accepted-apart sites few (editsOf rs n) (refuses-none-exactly sites some few rs n .0 h .1))

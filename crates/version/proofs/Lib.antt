@@ -6,6 +6,10 @@ pub mod Tags
 pub mod Rows
 pub mod Names
 pub mod Unshared
+pub mod Lex
 pub mod Sorted
 pub mod Ranks
 pub mod Shown
+pub mod LastValue
+pub mod FromMembers
+pub mod AnyOrder

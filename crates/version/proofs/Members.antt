@@ -6,7 +6,7 @@ use Prim.Native.Nat.{ℕ, zero, suc, _+_, _≤_, _<_}
 use native.Mathlib.Numerals.{add-one}
 use native.Mathlib.Omega.{arith}
 use lib.ListN.{length, getD, take, length-map}
-use lib.Seq.{length-take-le, getD-take}
+use lib.Seq.{length-take-le, getD-take, take-suc, take-all}
 use Rattle.ground.specs.Below.{keep}
 use Rattle.ground.specs.Sorted.{filter}
 use Rattle.ground.proofs.Snoc.{filter-snoc}
@@ -31,6 +31,20 @@ module _ (rs ps : List ℕ) (t : ℕ) (fits : t ≤ length ps) where
   set-place i l =
       map-place (recordAt rs) (take t ps) i 0 noEdit (omega (arith, length-take-le t ps fits))
       ∙ ap (recordAt rs) (getD-take t ps i 0 l)
+
+-- ---- all elements by their places
+
+module _ {A : Type 0} (d : A) (xs : List A) where
+  places-below : (n : ℕ) → n ≤ length xs → map (λ i. getD xs i d) (keep n (λ i. true)) ≡ take n xs
+  unfolding keep
+  places-below zero l = refl
+  places-below (suc n) l =
+      map-append (λ i. getD xs i d) (keep n (λ i. true)) (n ∷ [])
+      ∙ ap (λ (ys : List A). ys ++ (getD xs n d ∷ [])) (places-below n (omega arith))
+      ∙ sym (take-suc xs n d (omega arith))
+
+  pub all-places : map (λ i. getD xs i d) (keep (length xs) (λ i. true)) ≡ xs
+  all-places = places-below (length xs) (omega arith) ∙ take-all (length xs) xs (omega arith)
 
 -- ---- what is made of the numbers that pass
 

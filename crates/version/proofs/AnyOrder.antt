@@ -1,0 +1,163 @@
+-- Demand 3, the lines of one object: they are the same in every order of the same edits. Assumes that no identity
+-- stands twice among them and that a sequence number fits two bytes, as in sound tables.
+use mathlib.Core.Path.{_≡_, sym, ap, ap₂, subst, _∙_}
+use mathlib.Core.Logic.{inl, inr}
+use mathlib.Core.Bool.{Bool, true, false}
+use mathlib.Core.List.{List, map, map-map, Memᴰ·map, Memᴰ·of-map}
+use Prim.Native.Nat.{ℕ, _<_}
+use native.Mathlib.Omega.{arith}
+use lib.Dec.{eqb, ltb}
+use lib.ListN.{length, getD}
+use borrow.Author.Tests.{ltb-true}
+use Rattle.ground.specs.Sorted.{elem, filter, Asc}
+use Rattle.ground.proofs.Bools.{clash}
+use Rattle.ground.proofs.Lists.{elem→mem, mem→elem}
+use Rattle.record.specs.declared.Edit.{Edit}
+use Rattle.causal.specs.Causal.{doConflict}
+use Rattle.maximal.specs.Groups.{every}
+use Rattle.maximal.specs.Arrivals.{rel, groupsOf}
+use Rattle.maximal.proofs.Groups.{groups-ascending}
+use Rattle.maximal.proofs.Arrivals.{setOf, Distinct}
+use Rattle.maximal.proofs.Renumber.{Keys}
+use Rattle.history.specs.History.{isSetOn, setsOn}
+use Rattle.arrival.specs.Truth.{noEdit, trueGroups}
+use Rattle.order.specs.Rearranged.{Mem, Rearranged}
+use Rattle.order.specs.Settled.{Differ, Apart}
+use Rattle.order.specs.Equal.{isEqual}
+use Rattle.order.proofs.Members.{chosen-at, mem-place}
+use Rattle.order.proofs.Rearranged.{turned, unchanged, same-members, chosen-rearranged}
+use Rattle.order.proofs.Pairs.{pairs-made, pairs-weaken, pairs-rearranged}
+use Rattle.order.proofs.Identity.{differ-turned, same-on, one-edit, sets-distinct}
+use Rattle.order.proofs.SameGroups.{same-keys}
+use Rattle.version.specs.Version.{seqNumbers, nameOf, identifierOf}
+use Rattle.version.specs.Order.{isAhead, versionsOf}
+use Rattle.version.specs.Line.{versionLine, objectLines}
+use Rattle.version.proofs.Lex.{Before, lex-through, lex-told, lex-irreflexive}
+use Rattle.version.proofs.Sorted.{same-versions, versions-sorted}
+use Rattle.version.proofs.Unshared.{NamesDiffer, never-shared}
+use Rattle.version.proofs.FromMembers.{
+  namesFrom,
+  lineFrom,
+  identifier-from,
+  line-from,
+  names-any-order,
+  line-any-order,
+  members-chosen,
+}
+
+-- ---- a version by its identifier and its line
+
+abbrev Printed : Type 0
+Printed = List ℕ × List ℕ
+
+abbrev Ahead : Printed → Printed → Type 0
+Ahead a b = Before false (a .0) (b .0)
+
+ahead-irreflexive : (a : Printed) → Ahead a a → ⊥
+ahead-irreflexive a h = clash h (lex-irreflexive (a .0))
+
+ahead-through : (a b d : Printed) → Ahead a b → Ahead b d → Ahead a d
+ahead-through a b d = lex-through false false false (λ h k. h) (a .0) (b .0) (d .0)
+
+module _ (c : Edit) (ms : List Edit) where
+  abbrev printed : ℕ → Printed
+  printed g = (identifierOf ms g, versionLine c ms g)
+
+  abbrev gs : List ℕ
+  gs = groupsOf noEdit doConflict ms
+
+  abbrev entries : List Printed
+  entries = map printed (versionsOf ms gs)
+
+  lines-are : objectLines c ms gs ≡ map (λ (p : Printed). p .1) entries
+  unfolding objectLines
+  lines-are = sym (map-map (λ (p : Printed). p .1) printed (versionsOf ms gs))
+
+  of-groups : (g : ℕ) → Mem g (versionsOf ms gs) → elem g gs ≡ true
+  of-groups g m = sym (same-versions ms (eqb g) gs) ∙ mem→elem m
+
+  -- they stand in the order of their identifiers, of which none is shared
+  entries-sorted : NamesDiffer ms → Asc Ahead entries
+  unfolding groupsOf isAhead
+  entries-sorted differ =
+      pairs-made Ahead printed (versionsOf ms gs)
+      (pairs-weaken (λ g h. isAhead ms g h ≡ true) (λ g h. Ahead (printed g) (printed h)) (versionsOf ms gs)
+      (λ g h m k a. elim (lex-told (ltb g h) (identifierOf ms g) (identifierOf ms h) a) [
+        | inl b ↦ b
+        | inr (e, l) ↦
+            (let one : g ≡ h = never-shared ms differ g h (of-groups g m) (of-groups h k) e in
+            let less : g < h = ltb-true g h l in
+            absurd (omega arith))
+      ])
+      (versions-sorted ms gs (groups-ascending (rel noEdit doConflict ms) (length ms) every)))
+
+  entries-keys : (key : ℕ → Printed) → ((g : ℕ) → printed g ≡ key g) → Keys key gs entries
+  entries-keys key e x = (
+    (λ w. let (g, m, q) = Memᴰ·of-map printed (versionsOf ms gs) w in (g, of-groups g m, sym (e g) ∙ q)),
+    (λ (g, m, q).
+        subst (λ (y : Printed). Mem y entries) (e g ∙ q)
+        (Memᴰ·map printed (elem→mem g (versionsOf ms gs) (same-versions ms (eqb g) gs ∙ m)))),
+  )
+
+-- ---- names
+
+-- every sequence number fits two bytes
+abbrev pub Numbered : List Edit → Type 0
+Numbered es = (e : Edit) → Mem e es → e .seq .0 < seqNumbers
+
+names-apart : (es : List Edit) → Apart es → Numbered es → (c : Edit) → NamesDiffer (setsOn (c .site) (c .seq) es)
+unfolding setsOn
+names-apart es u small c i j li lj e =
+    let f = isSetOn (c .site) (c .seq) in
+    let ms = filter f es in
+    let a = getD ms i noEdit in
+    let b = getD ms j noEdit in
+    let ma : Mem a es = chosen-at f a es (mem-place noEdit ms i li) .0 in
+    let mb : Mem b es = chosen-at f b es (mem-place noEdit ms j lj) .0 in
+    let low : a .seq .0 < seqNumbers = small a ma in
+    let low′ : b .seq .0 < seqNumbers = small b mb in
+    sets-distinct es u c i j li lj (one-edit es u a b ma mb (same-on a b (omega arith) (omega arith)))
+
+-- ---- the lines
+
+module _ (es fs : List Edit) (r : Rearranged es fs) (u : Apart es) (small : Numbered es) (c : Edit) where
+  abbrev ms : List Edit
+  ms = setsOn (c .site) (c .seq) es
+
+  abbrev ns : List Edit
+  ns = setsOn (c .site) (c .seq) fs
+
+  sets-rearranged : Rearranged ms ns
+  unfolding setsOn
+  sets-rearranged = chosen-rearranged (isSetOn (c .site) (c .seq)) r
+
+  v : Apart fs
+  v = pairs-rearranged Differ differ-turned r u
+
+  -- the members as a test, in the order of es
+  key : (Edit → Bool) → Printed
+  key P = (namesFrom ms (filter P ms), lineFrom c ms (filter P ms))
+
+  key-is :
+      (ls : List Edit) → Distinct noEdit ls → Rearranged ls ms → (g : ℕ) → printed c ls g ≡ key (setOf isEqual ls g)
+  unfolding key
+  key-is ls d q g =
+      let P = setOf isEqual ls g in
+      let chosen = chosen-rearranged P q in
+      let members = members-chosen ls d g in
+      ap₂ (λ (x y : List ℕ). (x, y))
+      (identifier-from ls g ∙ ap (namesFrom ls) members ∙ names-any-order q chosen)
+      (line-from c ls g ∙ ap (lineFrom c ls) members ∙ line-any-order q chosen c)
+
+  pub any-order-lines : objectLines c ms (trueGroups es c) ≡ objectLines c ns (trueGroups fs c)
+  unfolding trueGroups
+  any-order-lines =
+      lines-are c ms
+      ∙ ap (map (λ (p : Printed). p .1))
+      (same-keys Ahead ahead-irreflexive ahead-through key es fs r u c (entries c ms) (entries c ns)
+      (entries-sorted c ms (names-apart es u small c))
+      (entries-sorted c ns (names-apart fs v (λ e m. small e (same-members (turned r) e m)) c))
+      (entries-keys c ms (λ g. key (setOf isEqual ms g)) (key-is ms (sets-distinct es u c) (unchanged ms)))
+      (entries-keys c ns (λ g. key (setOf isEqual ns g))
+      (key-is ns (sets-distinct fs v c) (turned sets-rearranged))))
+      ∙ sym (lines-are c ns)
