@@ -4,21 +4,28 @@ use mathlib.Core.Path.{_≡_, sym, ap, _∙_}
 use mathlib.Core.Logic.{_⊎_, inl, inr}
 use mathlib.Core.Bool.{Bool, true, false, not, _&&_}
 use mathlib.Core.List.{List}
-use Prim.Native.Nat.{ℕ, _≤_, _<_}
+use Prim.Native.Nat.{ℕ, zero, suc, _≤_, _<_}
+use native.Mathlib.Nat.{le-refl}
 use native.Mathlib.Omega.{arith}
 use native.Mathlib.Decide.{decLt, ℕ-discrete}
 use borrow.Author.Tests.{lt-ltb, ltb-true, eqb-true, eq-eqb, ne-eqb, le-leb, not-true}
 use lib.Dec.{eqb, ltb}
 use lib.ListN.{getD}
+use Rattle.ground.specs.Sorted.{Asc}
+use Rattle.ground.proofs.Gathered.{OneWay}
 use Rattle.ground.proofs.Bools.{clash, off, both, and-on, either, or-left, or-right, or-off, neither}
 use Rattle.record.specs.declared.Edit.{Edit}
 use Rattle.record.specs.Layout.{mostSites}
 use Rattle.causal.specs.Causal.{sameEdit, hasSeen, vectorSum, ranksBefore}
-use Rattle.history.specs.History.{recordAt}
+use Rattle.history.specs.History.{recordAt, editsOf}
 use Rattle.history.specs.Answers.{recordsPass}
 use Rattle.history.proofs.Passed.{formed-at, seq-later}
 use Rattle.history.proofs.Ranks.{before-ranks}
+use Rattle.tables.specs.Tables.{Tables, heldBy}
+use Rattle.tables.proofs.Facts.{Sound}
+use Rattle.order.proofs.Pairs.{pairs-snoc}
 use Rattle.version.specs.Version.{standsBefore}
+use Rattle.version.proofs.Unshared.{edit-in}
 
 -- ---- a strict order
 
@@ -55,6 +62,17 @@ not-back a b h =
     off (ranksBefore b a) (λ k. elim (ranks-at a b h) [
       | inl l ↦ elim (ranks-at b a k) [ inl m ↦ omega arith | inr q ↦ omega (arith, q .0) ]
       | inr p ↦ elim (ranks-at b a k) [ inl m ↦ omega (arith, p .0) | inr q ↦ omega (arith, p .1, q .1) ]
+    ])
+
+pub ranks-through : (a b c : Edit) → ranksBefore a b ≡ true → ranksBefore b c ≡ true → ranksBefore a c ≡ true
+ranks-through a b c h k =
+    ranks-on a c (elim (ranks-at a b h) [
+      | inl l ↦ elim (ranks-at b c k) [ inl m ↦ inl (omega arith) | inr q ↦ inl (omega (arith, q .0)) ]
+      | inr p ↦
+          elim (ranks-at b c k) [
+            | inl m ↦ inl (omega (arith, p .0))
+            | inr q ↦ inr (p .0 ∙ q .0, omega (arith, p .1, q .1))
+          ]
     ])
 
 not-ranks :
@@ -111,7 +129,7 @@ module _ (sites : ℕ) (few : sites ≤ mostSites) (rs : List ℕ) (n : ℕ) (pa
       before-ranks sites few rs n pass p q (omega arith) lq
       (and-on (not (sameEdit (a .site) (a .seq) (b .site) (b .seq))) _ differ seen)
 
-  one-ranks :
+  pub one-ranks :
       (p q : ℕ) → p < n → q < n → (p ≡ q → ⊥) →
       (ranksBefore (recordAt rs p) (recordAt rs q) ≡ true) ⊎ (ranksBefore (recordAt rs q) (recordAt rs p) ≡ true)
   one-ranks p q lp lq d =
@@ -153,3 +171,20 @@ module _ (sites : ℕ) (few : sites ≤ mostSites) (rs : List ℕ) (n : ℕ) (pa
             (ap (λ (t : Bool). not t && ltb (a .value) (b .value)) h)
             ∙ sym (not-back b a h)
       ]
+
+-- of two edits held one ranks before the other
+ranked-below :
+    (t : Tables) → Sound t → (k : ℕ) → k ≤ t .counters .records → Asc (OneWay ranksBefore) (editsOf (t .records) k)
+unfolding editsOf
+ranked-below t s zero l = tt
+ranked-below t s (suc k) l =
+    let n = t .counters .records in
+    pairs-snoc (OneWay ranksBefore) (editsOf (t .records) k) (recordAt (t .records) k) (ranked-below t s k (omega arith))
+    (λ y w.
+    let (p, m, e) = edit-in (t .counters .sites) (t .records) n (s .pass) (s .few-records) k y w in
+    rw e
+    (one-ranks (t .counters .sites) (s .few-sites) (t .records) n (s .pass) p k (omega arith) (omega arith)
+    (λ q. omega arith)))
+
+pub held-ranked : (t : Tables) → Sound t → Asc (OneWay ranksBefore) (heldBy t)
+held-ranked t s = ranked-below t s (t .counters .records) (le-refl (t .counters .records))

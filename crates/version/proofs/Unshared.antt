@@ -155,7 +155,7 @@ module _ (sites : ℕ) (rs : List ℕ) (n : ℕ) (pass : recordsPass sites rs n 
       let hq = seq-low q lq in
       apart (one-place sites rs n pass p q lp lq (omega arith) (omega arith))
 
-  edit-in : (k : ℕ) → (y : Edit) → List·Memᴰ y (editsOf rs k) → (p : ℕ) × (p < k) × (y ≡ recordAt rs p)
+  pub edit-in : (k : ℕ) → (y : Edit) → List·Memᴰ y (editsOf rs k) → (p : ℕ) × (p < k) × (y ≡ recordAt rs p)
   unfolding editsOf
   edit-in zero y w = absurd (List·Memᴰ·not-nil w)
   edit-in (suc k) y w =
@@ -171,6 +171,13 @@ module _ (sites : ℕ) (rs : List ℕ) (n : ℕ) (pass : recordsPass sites rs n 
       differ-snoc (editsOf rs k) (recordAt rs k) (edits-differ k (omega arith)) (λ y w.
       let (p, m, e) = edit-in k y w in
       rw e (records-differ p k (omega arith) (omega arith) (λ q. omega arith)))
+
+-- a sequence number fits two bytes
+pub held-numbered : (t : Tables) → Sound t → (e : Edit) → List·Memᴰ e (heldBy t) → e .seq .0 < seqNumbers
+held-numbered t s e m =
+    let n = t .counters .records in
+    let (p, l, q) = edit-in (t .counters .sites) (t .records) n (s .pass) (s .few-records) n e m in
+    rw q (seq-low (t .counters .sites) (t .records) n (s .pass) (s .few-records) p l)
 
 pub names-differ : (t : Tables) → Sound t → (s : Site) (q : Seq) → NamesDiffer (setsOn s q (heldBy t))
 unfolding setsOn

@@ -1,0 +1,5 @@
+pub mod Flat
+pub mod Objects
+pub mod Head
+pub mod OverList
+pub mod AnyOrder

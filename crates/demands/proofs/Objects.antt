@@ -1,0 +1,77 @@
+-- The objects of sound tables in their order: they are the numbers below the number of objects, their Creates are the
+-- Creates held, and each stands before all that follow it. Assumes nothing.
+use mathlib.Core.Path.{_≡_, refl, sym, ap, _∙_}
+use mathlib.Core.Bool.{Bool, true}
+use mathlib.Core.List.{List, [], _∷_, map, List·Memᴰ·not-nil}
+use Prim.Native.Nat.{ℕ, _<_}
+use native.Mathlib.Omega.{arith}
+use lib.Dec.{eqb}
+use lib.ListN.{length, getD}
+use Rattle.ground.specs.Below.{keep}
+use Rattle.ground.specs.Sorted.{any, Asc, Ascending, gatherBy}
+use Rattle.ground.proofs.Below.{keep-at}
+use Rattle.ground.proofs.Sorted.{keep-ascending}
+use Rattle.ground.proofs.Lists.{mem→elem}
+use Rattle.ground.proofs.Gathered.{any-gathered, OneWay, gathered-sorted, gathered-made}
+use Rattle.record.specs.declared.Edit.{Edit}
+use Rattle.causal.specs.Causal.{ranksBefore}
+use Rattle.history.specs.History.{editsOf, creates}
+use Rattle.tables.specs.Tables.{Tables, placeAt, heldBy}
+use Rattle.tables.proofs.Facts.{Sound}
+use Rattle.arrival.specs.Truth.{noEdit}
+use Rattle.arrival.proofs.Objects.{object-create}
+use Rattle.order.specs.Rearranged.{Mem}
+use Rattle.order.proofs.Pairs.{pairs-weaken}
+use Rattle.version.proofs.Members.{all-places, map-keep-same}
+use Rattle.version.proofs.Ranks.{ranks-through, one-ranks}
+use Rattle.list.specs.Listing.{createOf, createdBefore, objectsOf}
+
+-- the numbers of the objects
+abbrev pub numbers : Tables → List ℕ
+numbers t = keep (t .counters .objects) (λ o. true)
+
+number-below : (t : Tables) (o : ℕ) → Mem o (numbers t) → o < t .counters .objects
+number-below t o m = keep-at (t .counters .objects) (λ o. true) o (mem→elem m) .0
+
+pub object-below : (t : Tables) (o : ℕ) → Mem o (objectsOf t) → o < t .counters .objects
+unfolding objectsOf any
+object-below t o m =
+    keep-at (t .counters .objects) (λ o. true) o
+    (sym (any-gathered (createdBefore t) (eqb o) [] (numbers t)) ∙ mem→elem m) .0
+
+module _ (t : Tables) (s : Sound t) where
+  -- ---- their Creates
+
+  creates-are : map (createOf t) (numbers t) ≡ creates (heldBy t)
+  creates-are =
+      map-keep-same (createOf t) (λ o. getD (creates (heldBy t)) o noEdit) (λ o. true) (t .counters .objects)
+      (λ o l h. sym (object-create t s noEdit o l))
+      ∙ ap (λ (n : ℕ). map (λ o. getD (creates (heldBy t)) o noEdit) (keep n (λ o. true))) (s .objects)
+      ∙ all-places noEdit (creates (heldBy t))
+
+  pub creates-ordered : map (createOf t) (objectsOf t) ≡ gatherBy ranksBefore [] (creates (heldBy t))
+  unfolding objectsOf
+  creates-ordered =
+      gathered-made (createOf t) ranksBefore [] (numbers t) ∙ ap (gatherBy ranksBefore []) creates-are
+
+  -- ---- sorted
+
+  objects-apart : Asc (OneWay (createdBefore t)) (numbers t)
+  objects-apart =
+      pairs-weaken (λ a b. a < b) (OneWay (createdBefore t)) (numbers t)
+      (λ a b m k l.
+      let x = s .object a (number-below t a m) .entry in
+      let y = s .object b (number-below t b k) .entry in
+      one-ranks (t .counters .sites) (s .few-sites) (t .records) (t .counters .records) (s .pass)
+      (placeAt (t .objects) a) (placeAt (t .objects) b) (x .place) (y .place)
+      (λ e.
+      let one : a ≡ b
+      = sym (x .number) ∙ ap (λ (p : ℕ). length (creates (editsOf (t .records) p))) e ∙ y .number in
+      omega arith))
+      (keep-ascending (t .counters .objects) (λ o. true))
+
+  pub objects-sorted : Asc (λ a b. createdBefore t a b ≡ true) (objectsOf t)
+  unfolding objectsOf
+  objects-sorted =
+      gathered-sorted (createdBefore t) (λ a b c. ranks-through (createOf t a) (createOf t b) (createOf t c)) []
+      (numbers t) tt objects-apart (λ x y m w. absurd (List·Memᴰ·not-nil w))
