@@ -40,7 +40,8 @@ module _ {A B : Type 0} (f : A → List B) where
       )
 
   module _ (before : A → A → Bool) where
-    flat-insert : (x : A) (ys : List A) → length (flatMap f (insertBy before x ys)) ≡ length (f x) + length (flatMap f ys)
+    flat-insert :
+        (x : A) (ys : List A) → length (flatMap f (insertBy before x ys)) ≡ length (f x) + length (flatMap f ys)
     unfolding flatMap insertBy
     flat-insert x [] = length-append (f x) []
     flat-insert x (y ∷ ys) = go (before x y) (flat-insert y ys) (flat-insert x ys)
@@ -78,4 +79,5 @@ pub flat-below :
 unfolding keep sum
 flat-below f zero = unfold flatMap in refl
 flat-below f (suc n) =
-    flat-append f (keep n (λ i. true)) (n ∷ []) ∙ rw (flat-below f n) (unfold flatMap in omega (arith, length-append (f n) []))
+    flat-append f (keep n (λ i. true)) (n ∷ [])
+    ∙ rw (flat-below f n) (unfold flatMap in omega (arith, length-append (f n) []))

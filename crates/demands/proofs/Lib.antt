@@ -3,3 +3,4 @@ pub mod Objects
 pub mod Head
 pub mod OverList
 pub mod AnyOrder
+pub mod OtherBoxes

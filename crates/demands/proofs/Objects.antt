@@ -30,7 +30,7 @@ use Rattle.list.specs.Listing.{createOf, createdBefore, objectsOf}
 abbrev pub numbers : Tables → List ℕ
 numbers t = keep (t .counters .objects) (λ o. true)
 
-number-below : (t : Tables) (o : ℕ) → Mem o (numbers t) → o < t .counters .objects
+pub number-below : (t : Tables) (o : ℕ) → Mem o (numbers t) → o < t .counters .objects
 number-below t o m = keep-at (t .counters .objects) (λ o. true) o (mem→elem m) .0
 
 pub object-below : (t : Tables) (o : ℕ) → Mem o (objectsOf t) → o < t .counters .objects

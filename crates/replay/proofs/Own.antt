@@ -101,7 +101,7 @@ taken-records u b = go (isCreate (decodeOf b))
     go false = (refl, refl, refl)
 
 -- an outcome of 0 is the edit taken
-was-taken :
+pub was-taken :
     (u t : Tables) (b : List ℕ) → outcomeOf 0 t ≡ acceptanceOf u b → (answerTo u b ≡ 0) × (t ≡ taken u b)
 unfolding acceptanceOf
 was-taken u t b h = go (eqb (answerTo u b) 0) refl h

@@ -179,7 +179,8 @@ unfolding editsOf
 ranked-below t s zero l = tt
 ranked-below t s (suc k) l =
     let n = t .counters .records in
-    pairs-snoc (OneWay ranksBefore) (editsOf (t .records) k) (recordAt (t .records) k) (ranked-below t s k (omega arith))
+    pairs-snoc (OneWay ranksBefore) (editsOf (t .records) k) (recordAt (t .records) k)
+    (ranked-below t s k (omega arith))
     (λ y w.
     let (p, m, e) = edit-in (t .counters .sites) (t .records) n (s .pass) (s .few-records) k y w in
     rw e
