@@ -34,7 +34,7 @@ use Rattle.arrival.proofs.Objects.{same-parts}
 
 -- ---- the edits by their places
 
-edits-at : (d : Edit) (rs : List ℕ) (n j : ℕ) → j < n → getD (editsOf rs n) j d ≡ recordAt rs j
+pub edits-at : (d : Edit) (rs : List ℕ) (n j : ℕ) → j < n → getD (editsOf rs n) j d ≡ recordAt rs j
 unfolding editsOf
 edits-at d rs zero j l = absurd (omega arith)
 edits-at d rs (suc n) j l = go (last l) (edits-at d rs n j)

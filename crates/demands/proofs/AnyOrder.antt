@@ -2,7 +2,7 @@
 -- accepted too and give the same printed list, byte for byte. Assumes 1 to 8 sites.
 use mathlib.Core.Path.{_≡_, sym, ap, ap₂, _∙_}
 use mathlib.Core.Logic.{inl, inr}
-use mathlib.Core.Bool.{Bool, true, false}
+use mathlib.Core.Bool.{true}
 use mathlib.Core.List.{List, [], _∷_, flatMap, List·Memᴰ·not-nil}
 use Prim.Native.Nat.{ℕ, _≤_}
 use lib.ListN.{length}
@@ -16,7 +16,6 @@ use Rattle.record.specs.Form.{isCreate}
 use Rattle.causal.specs.Causal.{ranksBefore}
 use Rattle.history.specs.History.{editsOf, creates}
 use Rattle.tables.specs.Tables.{Tables, heldBy}
-use Rattle.arrival.proofs.Faithful.{Faithful}
 use Rattle.replay.specs.Replay.{replayOf}
 use Rattle.replay.proofs.AnyRecords.{replay-faithful}
 use Rattle.order.specs.Rearranged.{Mem, Rearranged, recordsOf}

@@ -1,6 +1,6 @@
 -- The total of the versions in line 0 is the number of the lines that follow it. Assumes nothing.
 use mathlib.Core.Path.{_≡_, ap, _∙_}
-use mathlib.Core.List.{List, [], flatMap}
+use mathlib.Core.List.{[], flatMap}
 use Prim.Native.Nat.{ℕ, suc, _*_, _+_, _≤_, _<_}
 use native.Mathlib.Omega.{arith}
 use lib.ListN.{length, length-map}

@@ -4,3 +4,5 @@ pub mod Head
 pub mod OverList
 pub mod AnyOrder
 pub mod OtherBoxes
+pub mod Answered
+pub mod Cases

@@ -1,19 +1,18 @@
 -- The objects of sound tables in their order: they are the numbers below the number of objects, their Creates are the
 -- Creates held, and each stands before all that follow it. Assumes nothing.
-use mathlib.Core.Path.{_≡_, refl, sym, ap, _∙_}
-use mathlib.Core.Bool.{Bool, true}
-use mathlib.Core.List.{List, [], _∷_, map, List·Memᴰ·not-nil}
+use mathlib.Core.Path.{_≡_, sym, ap, _∙_}
+use mathlib.Core.Bool.{true}
+use mathlib.Core.List.{List, [], map, List·Memᴰ·not-nil}
 use Prim.Native.Nat.{ℕ, _<_}
 use native.Mathlib.Omega.{arith}
 use lib.Dec.{eqb}
 use lib.ListN.{length, getD}
 use Rattle.ground.specs.Below.{keep}
-use Rattle.ground.specs.Sorted.{any, Asc, Ascending, gatherBy}
+use Rattle.ground.specs.Sorted.{any, Asc, gatherBy}
 use Rattle.ground.proofs.Below.{keep-at}
 use Rattle.ground.proofs.Sorted.{keep-ascending}
 use Rattle.ground.proofs.Lists.{mem→elem}
 use Rattle.ground.proofs.Gathered.{any-gathered, OneWay, gathered-sorted, gathered-made}
-use Rattle.record.specs.declared.Edit.{Edit}
 use Rattle.causal.specs.Causal.{ranksBefore}
 use Rattle.history.specs.History.{editsOf, creates}
 use Rattle.tables.specs.Tables.{Tables, placeAt, heldBy}

@@ -1,16 +1,15 @@
 -- Demand 3: an accepted edit leaves the lines of every other object as they were, and those objects in their order.
 -- Assumes tables that are sound, with a count for each of 8 sites as the code's arrays have.
 use mathlib.Core.Path.{_≡_, refl, sym, ap, ap₂, subst, _∙_}
-use mathlib.Core.Logic.{inl, inr}
-use mathlib.Core.Bool.{Bool, true, false, not, cond}
+use mathlib.Core.Bool.{Bool, true, false, not}
 use mathlib.Core.List.{List, [], _∷_, _++_, flatMap, append-nil, List·Memᴰ·not-nil}
-use Prim.Native.Nat.{ℕ, suc, _+_, _*_, _≤_, _<_}
+use Prim.Native.Nat.{ℕ, _+_, _<_}
 use native.Mathlib.Omega.{arith}
 use native.Mathlib.Numerals.{add-one}
 use native.Mathlib.Decide.{ℕ-discrete}
 use lib.ListN.{length, take}
 use lib.Dec.{eqb}
-use borrow.Author.Tests.{eqb-true, eqb-false, eq-eqb, not-true}
+use borrow.Author.Tests.{eqb-false, not-true}
 use Rattle.ground.specs.Below.{keep}
 use Rattle.ground.specs.Sorted.{any, filter, insertBy, gatherBy}
 use Rattle.ground.proofs.Bools.{eqb-self}
@@ -21,10 +20,20 @@ use Rattle.record.specs.Record.{decodeOf}
 use Rattle.record.specs.Form.{isCreate, isSet}
 use Rattle.causal.specs.Causal.{ranksBefore}
 use Rattle.history.specs.History.{recordAt, isSetOn, setsOn, isTarget, objectOf}
-use Rattle.group.specs.Row.{mostGroups, row}
-use Rattle.tables.specs.Tables.{Tables, outcomeOf, entryLength, placeAt, groupsAt, heldBy}
+use Rattle.group.specs.Row.{row}
+use Rattle.tables.specs.Tables.{Tables, outcomeOf, placeAt, heldBy}
 use Rattle.tables.proofs.Facts.{Sound}
-use Rattle.arrival.specs.Arrival.{matesOf, rowOf, groupsAfter, putRecord, putCounts, withCreate, withSet, taken, acceptanceOf}
+use Rattle.arrival.specs.Arrival.{
+  matesOf,
+  rowOf,
+  groupsAfter,
+  putRecord,
+  putCounts,
+  withCreate,
+  withSet,
+  taken,
+  acceptanceOf,
+}
 use Rattle.arrival.proofs.Admitted.{Accepted, accepted, admitted-target, set-or-create}
 use Rattle.arrival.proofs.Records.{put-before}
 use Rattle.arrival.proofs.Entries.{counts-place, other-place, other-groups, entry-other}
@@ -35,7 +44,6 @@ use Rattle.arrival.proofs.Aimed.{object-less, row-fits}
 use Rattle.arrival.proofs.KeptSet.{not-on}
 use Rattle.arrival.proofs.Keeps.{Kept}
 use Rattle.replay.proofs.Own.{was-taken}
-use Rattle.order.specs.Rearranged.{Mem}
 use Rattle.order.proofs.Members.{chosen-at}
 use Rattle.order.proofs.Pairs.{pairs-weaken}
 use Rattle.version.specs.Line.{objectLines}
@@ -101,8 +109,8 @@ module _ (t : Tables) (b : List ℕ) (k : Kept t) (a : Accepted t b) where
       gatherBy (createdBefore u) [] (numbers t) ≡ objectsOf t
   unfolding objectsOf
   one-order u same =
-      gathered-same (createdBefore u) (createdBefore t) (λ o. o < m) (λ x y p q. ap₂ ranksBefore (same x p) (same y q)) []
-      (numbers t)
+      gathered-same (createdBefore u) (createdBefore t) (λ o. o < m)
+      (λ x y p q. ap₂ ranksBefore (same x p) (same y q)) [] (numbers t)
       (λ y w. absurd (List·Memᴰ·not-nil w)) (number-below t)
 
   as-many : (own : ℕ) (u : Tables) → u .counters .objects ≡ m → ((o : ℕ) → o < m → createOf u o ≡ createOf t o) →

@@ -1,12 +1,8 @@
 -- The printed list of a faithful drawing is the list over the edits that it holds. Assumes nothing.
 use mathlib.Core.Path.{_≡_, sym, ap, ap₂, _∙_}
-use mathlib.Core.List.{List, [], _∷_, flatMap}
+use mathlib.Core.List.{List, _∷_, flatMap}
 use Prim.Native.Nat.{ℕ}
 use lib.ListN.{length}
-use Rattle.ground.specs.Sorted.{gatherBy}
-use Rattle.record.specs.declared.Edit.{Edit}
-use Rattle.causal.specs.Causal.{ranksBefore}
-use Rattle.history.specs.History.{creates}
 use Rattle.tables.specs.Tables.{Tables, heldBy}
 use Rattle.arrival.proofs.Faithful.{Faithful}
 use Rattle.text.specs.Words.{headLine}

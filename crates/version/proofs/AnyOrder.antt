@@ -29,7 +29,7 @@ use Rattle.order.proofs.Rearranged.{turned, unchanged, same-members, chosen-rea
 use Rattle.order.proofs.Pairs.{pairs-made, pairs-weaken, pairs-rearranged}
 use Rattle.order.proofs.Identity.{differ-turned, same-on, one-edit, sets-distinct}
 use Rattle.order.proofs.SameGroups.{same-keys}
-use Rattle.version.specs.Version.{seqNumbers, nameOf, identifierOf}
+use Rattle.version.specs.Version.{seqNumbers, identifierOf}
 use Rattle.version.specs.Order.{isAhead, versionsOf}
 use Rattle.version.specs.Line.{versionLine, objectLines}
 use Rattle.version.proofs.Lex.{Before, lex-through, lex-told, lex-irreflexive}

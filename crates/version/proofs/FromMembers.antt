@@ -6,7 +6,6 @@ use mathlib.Core.List.{List, [], _∷_, _++_, map}
 use Prim.Native.Nat.{ℕ, zero, suc, _<_}
 use lib.Dec.{eqb}
 use lib.ListN.{length, getD}
-use Rattle.ground.specs.Below.{keep}
 use Rattle.ground.specs.Sorted.{elem, filter, ascending}
 use Rattle.ground.proofs.Below.{keep-same}
 use Rattle.ground.proofs.Sorted.{ascending-unique, any-ascending, is-ascending}
