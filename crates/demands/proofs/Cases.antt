@@ -29,7 +29,19 @@ use Rattle.version.specs.Version.{membersOf, identifierOf, later, lastAfter, la
 use Rattle.version.specs.Order.{lex, isAhead, versionsOf}
 use Rattle.version.specs.Line.{identifierText, settingText, settingsText, versionLine, objectLines}
 use Rattle.demands.specs.Over.{linesIn, versionLines, linesOver}
-use Rattle.demands.specs.Cases.{Expected, refused, prints, Case, bytesOf, sites, recordBytes, Meets, Holds, AllHold, cases}
+use Rattle.demands.specs.Cases.{
+  Expected,
+  refused,
+  prints,
+  Case,
+  bytesOf,
+  sites,
+  recordBytes,
+  Meets,
+  Holds,
+  AllHold,
+  cases,
+}
 use Rattle.demands.proofs.Answered.{answerOver, index-next, answered, printed}
 
 -- ---- what is computed of a case
