@@ -32,7 +32,7 @@ use Rattle.version.proofs.Unshared.{held-numbered}
 use Rattle.version.proofs.Ranks.{not-itself, ranks-through, held-ranked}
 use Rattle.version.proofs.AnyOrder.{Numbered, any-order-lines}
 use Rattle.list.specs.Listing.{linesOf}
-use Rattle.list.specs.Printing.{listOf}
+use Rattle.list.specs.Printing.{joined, listOf}
 use Rattle.demands.specs.Over.{linesIn, versionLines, linesOver}
 use Rattle.demands.proofs.Flat.{flat-same}
 use Rattle.demands.proofs.OverList.{lines-over-list}
@@ -122,4 +122,4 @@ module _ (sites : ℕ) (some : 1 ≤ sites) (few : sites ≤ mostSites) (rs rs�
   -- the bytes
   pub any-order-same-bytes : listOf t ≡ listOf t′
   unfolding listOf
-  any-order-same-bytes = ap (flatMap (λ (line : List ℕ). line)) same-lines
+  any-order-same-bytes = ap joined same-lines
