@@ -1,7 +1,7 @@
 -- Demand 3: an accepted edit leaves the lines of every other object as they were, and those objects in their order.
 -- Assumes tables that are sound, with a count for each of 8 sites as the code's arrays have.
 use mathlib.Core.Path.{_≡_, refl, sym, ap, ap₂, subst, _∙_}
-use mathlib.Core.Bool.{Bool, true, false, not}
+use mathlib.Core.Bool.{Bool, true, false, not, cond}
 use mathlib.Core.List.{List, [], _∷_, _++_, flatMap, append-nil, List·Memᴰ·not-nil}
 use Prim.Native.Nat.{ℕ, _+_, _<_}
 use native.Mathlib.Omega.{arith}
@@ -16,13 +16,15 @@ use Rattle.ground.proofs.Bools.{eqb-self}
 use Rattle.ground.proofs.Snoc.{filter-snoc}
 use Rattle.ground.proofs.Gathered.{gathered-snoc, gathered-same, left-out}
 use Rattle.record.specs.declared.Edit.{Edit}
+use Rattle.record.specs.Layout.{mostSites}
 use Rattle.record.specs.Record.{decodeOf}
 use Rattle.record.specs.Form.{isCreate, isSet}
 use Rattle.causal.specs.Causal.{ranksBefore}
 use Rattle.history.specs.History.{recordAt, isSetOn, setsOn, isTarget, objectOf}
 use Rattle.group.specs.Row.{row}
-use Rattle.tables.specs.Tables.{Tables, outcomeOf, placeAt, heldBy}
-use Rattle.tables.proofs.Facts.{Sound}
+use Rattle.tables.specs.Tables.{Tables, Outcome, outcomeOf, placeAt, heldBy}
+use Rattle.tables.specs.Sound.{sound}
+use Rattle.tables.proofs.Facts.{Sound, sound-at}
 use Rattle.arrival.specs.Arrival.{
   matesOf,
   rowOf,
@@ -33,6 +35,7 @@ use Rattle.arrival.specs.Arrival.{
   withSet,
   taken,
   acceptanceOf,
+  arrivalOf,
 }
 use Rattle.arrival.proofs.Admitted.{Accepted, accepted, admitted-target, set-or-create}
 use Rattle.arrival.proofs.Records.{put-before}
@@ -233,3 +236,25 @@ module _ (t : Tables) (k : Kept t) (b : List ℕ) (h : acceptanceOf t b .answer 
   -- all lines of the others, in their order
   pub other-boxes-same : otherLines (ownOf t b) t′ ≡ otherLines (ownOf t b) t
   other-boxes-same = same-others t t′ (ownOf t b) (decodeOf b) leaves
+
+-- ---- a call of the editor
+
+-- an arrival that is answered 0 is an acceptance at sound tables
+arrived : (t : Tables) (b : List ℕ) → arrivalOf t b .answer ≡ 0 →
+    (sound t ≡ true) × (arrivalOf t b ≡ acceptanceOf t b)
+unfolding arrivalOf
+arrived t b h = go (sound t) refl h
+  where
+    go : (x : Bool) → sound t ≡ x → cond x (acceptanceOf t b) (outcomeOf 8 t) .answer ≡ 0 →
+        (x ≡ true) × (cond x (acceptanceOf t b) (outcomeOf 8 t) ≡ acceptanceOf t b)
+    go true e z = (refl, refl)
+    go false e z = absurd (omega arith)
+
+pub arrival-leaves-other-boxes :
+    (t : Tables) (b : List ℕ) → length (t .counters .held) ≡ mostSites → arrivalOf t b .answer ≡ 0 →
+    otherLines (ownOf t b) (arrivalOf t b .after) ≡ otherLines (ownOf t b) t
+arrival-leaves-other-boxes t b wide h =
+    let (is-sound, same) = arrived t b h in
+    ap (λ (o : Outcome). otherLines (ownOf t b) (o .after)) same
+    ∙ other-boxes-same t (record { isSound = sound-at t is-sound; wide = wide }) b
+    (ap (λ (o : Outcome). o .answer) (sym same) ∙ h)

@@ -2,19 +2,15 @@
 -- Sets of an object have different names, so two versions of true tables never share an identifier. Assumes nothing.
 use mathlib.Core.Path.{_≡_, refl, sym, ap, _∙_}
 use mathlib.Core.Logic.{inl, inr}
-use mathlib.Core.Bool.{Bool, true, false, _&&_, cond}
+use mathlib.Core.Bool.{true, _&&_}
 use mathlib.Core.List.{
   List,
   [],
   _∷_,
-  _++_,
   map,
   map-map,
   List·Memᴰ,
-  List·Memᴰ·head,
-  List·Memᴰ·tail,
   List·Memᴰ·not-nil,
-  List·Memᴰ·cases-cons,
   List·Memᴰ·append-cases,
   List·Memᴰ·eq-of-singleton,
 }
@@ -44,6 +40,8 @@ use Rattle.tables.proofs.Facts.{Sound}
 use Rattle.arrival.specs.Truth.{noEdit, trueGroups}
 use Rattle.arrival.specs.Versions.{isDisputed, disputedOf}
 use Rattle.arrival.proofs.Identifiers.{identifiers-differ}
+use Rattle.order.proofs.Members.{mem-place}
+use Rattle.order.proofs.Pairs.{pairs-snoc, pairs-chosen}
 use Rattle.version.specs.Version.{seqNumbers, nameOf, membersOf, identifierOf}
 use Rattle.version.proofs.Members.{filter-keep}
 
@@ -102,46 +100,12 @@ module _ (ms : List Edit) (differ : NamesDiffer ms) where
 abbrev Differ : Edit → Edit → Type 0
 Differ a b = nameOf a ≡ nameOf b → ⊥
 
-differ-snoc :
-    (xs : List Edit) (m : Edit) → Asc Differ xs → ((x : Edit) → List·Memᴰ x xs → Differ x m) →
-    Asc Differ (xs ++ (m ∷ []))
-differ-snoc [] m a h = ((λ y w. absurd (List·Memᴰ·not-nil w)), tt)
-differ-snoc (x ∷ xs) m (a, a') h = (
-  (λ y w. elim (List·Memᴰ·append-cases xs w)
-      [ inl u ↦ a y u | inr v ↦ rw (List·Memᴰ·eq-of-singleton v) (h x (List·Memᴰ·head refl)) ]),
-  differ-snoc xs m a' (λ z w. h z (List·Memᴰ·tail w)),
-)
-
-chosen-in : (f : Edit → Bool) (xs : List Edit) {y : Edit} → List·Memᴰ y (filter f xs) → List·Memᴰ y xs
-unfolding filter
-chosen-in f [] w = w
-chosen-in f (x ∷ xs) {y} w = go (f x) w (chosen-in f xs)
-  where
-    go : (b : Bool) → List·Memᴰ y (cond b (x ∷ filter f xs) (filter f xs)) →
-        (List·Memᴰ y (filter f xs) → List·Memᴰ y xs) → List·Memᴰ y (x ∷ xs)
-    go true w ih = elim (List·Memᴰ·cases-cons w) [ inl e ↦ List·Memᴰ·head e | inr v ↦ List·Memᴰ·tail (ih v) ]
-    go false w ih = List·Memᴰ·tail (ih w)
-
-differ-chosen : (f : Edit → Bool) (xs : List Edit) → Asc Differ xs → Asc Differ (filter f xs)
-unfolding filter
-differ-chosen f [] a = tt
-differ-chosen f (x ∷ xs) (h, a) = go (f x) (differ-chosen f xs a)
-  where
-    go : (b : Bool) → Asc Differ (filter f xs) → Asc Differ (cond b (x ∷ filter f xs) (filter f xs))
-    go true ih = ((λ y w. h y (chosen-in f xs w)), ih)
-    go false ih = ih
-
-place-in : (xs : List Edit) (i : ℕ) → i < length xs → List·Memᴰ (getD xs i noEdit) xs
-place-in [] i l = absurd (omega arith)
-place-in (x ∷ xs) zero l = List·Memᴰ·head refl
-place-in (x ∷ xs) (suc i) l = List·Memᴰ·tail (place-in xs i (omega arith))
-
 differ-at :
     (xs : List Edit) → Asc Differ xs → (i j : ℕ) → i < j → j < length xs →
     Differ (getD xs i noEdit) (getD xs j noEdit)
 differ-at [] a i j l m = absurd (omega arith)
 differ-at (x ∷ xs) (h, a) zero zero l m = absurd (omega arith)
-differ-at (x ∷ xs) (h, a) zero (suc j) l m = h (getD xs j noEdit) (place-in xs j (omega arith))
+differ-at (x ∷ xs) (h, a) zero (suc j) l m = h (getD xs j noEdit) (mem-place noEdit xs j (omega arith))
 differ-at (x ∷ xs) (h, a) (suc i) zero l m = absurd (omega arith)
 differ-at (x ∷ xs) (h, a) (suc i) (suc j) l m = differ-at xs a i j (omega arith) (omega arith)
 
@@ -168,7 +132,7 @@ module _ (sites : ℕ) (rs : List ℕ) (n : ℕ) (pass : recordsPass sites rs n 
   unfolding editsOf
   edits-differ zero l = tt
   edits-differ (suc k) l =
-      differ-snoc (editsOf rs k) (recordAt rs k) (edits-differ k (omega arith)) (λ y w.
+      pairs-snoc Differ (editsOf rs k) (recordAt rs k) (edits-differ k (omega arith)) (λ y w.
       let (p, m, e) = edit-in k y w in
       rw e (records-differ p k (omega arith) (omega arith) (λ q. omega arith)))
 
@@ -185,7 +149,7 @@ names-differ t h s q i j li lj e =
     let ms = filter (isSetOn s q) (heldBy t) in
     let n = t .counters .records in
     let apart : Asc Differ ms
-    = differ-chosen (isSetOn s q) (heldBy t)
+    = pairs-chosen Differ (isSetOn s q) (heldBy t)
     (edits-differ (t .counters .sites) (t .records) n (h .pass) (h .few-records) n (le-refl n)) in
     elim (decLt i j) [
       | yes l ↦ absurd (differ-at ms apart i j l lj e)
