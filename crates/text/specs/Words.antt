@@ -24,7 +24,7 @@ equals = 61
 abbrev pub newline : ℕ
 newline = 10
 
--- ---- words: `sites `, ` objects `, ` versions `
+-- ---- words: `sites `, ` objects `, ` versions `, `refused `
 
 abbrev pub sitesWord : List ℕ
 sitesWord = 115 ∷ 105 ∷ 116 ∷ 101 ∷ 115 ∷ space ∷ []
@@ -34,6 +34,9 @@ objectsWord = space ∷ 111 ∷ 98 ∷ 106 ∷ 101 ∷ 99 ∷ 116 ∷ 115 ∷ sp
 
 abbrev pub versionsWord : List ℕ
 versionsWord = space ∷ 118 ∷ 101 ∷ 114 ∷ 115 ∷ 105 ∷ 111 ∷ 110 ∷ 115 ∷ space ∷ []
+
+abbrev pub refusedWord : List ℕ
+refusedWord = 114 ∷ 101 ∷ 102 ∷ 117 ∷ 115 ∷ 101 ∷ 100 ∷ space ∷ []
 
 -- ---- pieces
 
@@ -51,6 +54,10 @@ headLine sites objects versions =
     ++ objectsWord ++ decimal objects
     ++ versionsWord ++ decimal versions
     ++ (newline ∷ [])
+
+-- the one line that stands for a list that is refused with the number m
+unfoldable pub refusalLine : ℕ → List ℕ
+refusalLine m = refusedWord ++ decimal m ++ (newline ∷ [])
 
 -- ---- how long they are at most
 
@@ -77,3 +84,7 @@ equatedLength = keyDigits + 1 + wordDigits
 -- line 0
 abbrev pub headLength : ℕ
 headLength = length sitesWord + length objectsWord + length versionsWord + 3 * wordDigits + 1
+
+-- the line of a refusal
+abbrev pub refusalLength : ℕ
+refusalLength = length refusedWord + wordDigits + 1

@@ -5,8 +5,15 @@ ghost use mathlib.Core.List.{[], _∷_, _++_};
 ghost use Prim.Native.Nat.{_+_, _^_, _≤_, _<_};
 ghost use lib.ListN.{length, take};
 ghost use Rattle.text.specs.Decimal.{decimal};
-ghost use Rattle.text.specs.Words.{dotted, equated, headLine};
-ghost use Rattle.text.specs.Words.{keyDigits, wordDigits, dottedLength, equatedLength, headLength};
+ghost use Rattle.text.specs.Words.{dotted, equated, headLine, refusalLine};
+ghost use Rattle.text.specs.Words.{
+  keyDigits,
+  wordDigits,
+  dottedLength,
+  equatedLength,
+  headLength,
+  refusalLength,
+};
 
 // The marks of the printed list.
 pub const SPACE: u8 = b' ';
@@ -112,4 +119,13 @@ pub fn put_head(out: &mut [u8], sites: u32, objects: u32, versions: u32) -> usiz
     let b = put_labelled(out, a, b" objects ", objects);
     let c = put_labelled(out, b, b" versions ", versions);
     put_byte(out, c, NEWLINE)
+}
+
+// Puts the line of a refusal with the number m at the front.
+pub fn put_refusal(out: &mut [u8], m: u32) -> usize
+    requires { ⌜ refusalLength ≤ length (now out) ⌝ }
+    ensures { λ r. ⌜ (take r (now (out .exit)) ≡ refusalLine m) × (r ≤ refusalLength) ⌝ }
+{
+    let k = put_labelled(out, 0, b"refused ", m);
+    put_byte(out, k, NEWLINE)
 }
