@@ -1,6 +1,6 @@
 -- Demand 2, round trips: a drawing made from an empty one by accepted edits, written behind any bytes and read back, is
--- the same tables to the last entry; and a file that reads with answer 0, read and written, is the same bytes.
--- Assumes nothing.
+-- the same tables to the last entry; and a file that reads with answer 0 gives sound tables which, written, are the
+-- same bytes. Assumes nothing.
 use mathlib.Core.Path.{_≡_, refl, sym, ap, ap₂, _∙_}
 use mathlib.Core.Bool.{Bool, true, false, _&&_, cond}
 use mathlib.Core.List.{List, _++_}
@@ -87,7 +87,23 @@ read-is u file h = go (lengthsRight (u .records) (u .objects) (u .groups)) h
     go true h = inner (eqb (f .answer) 0) refl h
     go false h = absurd (omega arith)
 
--- the tables may be written, and their block is the file from its first record on
+-- the N of a located block is one that a drawing may have
+located-sites : (file : List ℕ) → located file .trailer .answer ≡ 0 → sitesRight (located file .trailer .sites) ≡ true
+located-sites file accepted =
+    let a = accepted-at file accepted in
+    let n = located file .trailer .sites in
+    and-on (leb 1 n) (leb n mostSites) (le-leb 1 n (a .some-sites)) (le-leb n mostSites (a .few-sites))
+
+-- the tables of a file that reads with answer 0 are sound
+pub accepted-sound :
+    (u : Tables) (file : List ℕ) → readingOf u file .answer ≡ 0 → sound (readingOf u file .after) ≡ true
+accepted-sound u file h =
+    let (accepted, g) = read-is u file h in
+    let l = located file in
+    going-sound (l .trailer .sites) (l .stretch) (located-sites file accepted) (l .trailer .records)
+    (readingOf u file .after) g
+
+-- so they may be written, and their block is the file from its first record on
 pub read-and-written :
     (u : Tables) (file : List ℕ) → Bytes file → readingOf u file .answer ≡ 0 →
     (sound (readingOf u file .after) ≡ true)
@@ -97,15 +113,11 @@ read-and-written u file bytes h =
     let l = located file in
     let f = l .trailer in
     let t = readingOf u file .after in
-    let a = accepted-at file accepted in
-    let right : sitesRight (f .sites) ≡ true
-    = and-on (leb 1 (f .sites)) (leb (f .sites) mostSites) (le-leb 1 (f .sites) (a .some-sites))
-    (le-leb (f .sites) mostSites (a .few-sites)) in
-    let has = holds (f .sites) (l .stretch) right (f .records) t g in
+    let has = holds (f .sites) (l .stretch) (located-sites file accepted) (f .records) t g in
     let same : recordBytes t ≡ l .stretch
     = ap (λ (k : ℕ). take (k * recordLength) (t .records)) (has .count)
     ∙ records-same (t .records) (l .stretch) (f .records) (has .bytes)
-    ∙ take-all (f .records * recordLength) (l .stretch) (omega (arith, a .stretch-long)) in (
-      going-sound (f .sites) (l .stretch) right (f .records) t g,
+    ∙ take-all (f .records * recordLength) (l .stretch) (omega (arith, accepted-at file accepted .stretch-long)) in (
+      accepted-sound u file h,
       block-again file bytes accepted t (has .sites-are) (has .count) same,
     )
