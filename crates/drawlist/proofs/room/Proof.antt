@@ -1,0 +1,13 @@
+-- `drawlist::room` meets its contract. Assumes nothing.
+use mathlib.Core.Path.{sym}
+use Prim.Native.Nat.{ℕ}
+use lib.ListN.{length-replicate}
+use Rattle.list.specs.Printing.{listLength}
+use Rattle.drawlist.proofs.room.Statement.{statement}
+use Rattle.drawlist.proofs.room.Tie as tie
+
+returns : tie.Need-returns
+returns c = sym (length-replicate {0} {A = ℕ} listLength 0)
+
+pub room-spec : {M : Type 1} → statement M
+room-spec = tie.close (tie.spec returns)
