@@ -1,0 +1,54 @@
+// The counters of a drawing, updated where the caller keeps them: document 01, 'Tables and what makes them sound'. Each
+// thin function, to which the counters are lent by `&mut`, stands beside one with plain parameters and the same
+// contract; the borrow checker does not cover the thin ones, so their proofs are walked by hand. Answers are document
+// 01's numbers. Assumes nothing of what is lent.
+use tables::Counters;
+ghost use mathlib.Core.Path.{_≡_};
+ghost use Rattle.tables.specs.Tables.{tablesOf, outcomeOf};
+ghost use Rattle.tables.specs.Opening.{openingOf};
+
+// The number of an answer, and the counters after the call.
+#[repr(C)]
+pub struct Numbered {
+    pub number: u8,
+    pub counters: Counters,
+}
+
+// Opens an empty drawing of n sites; refused, everything stays as it was.
+pub fn open_by_value(
+    c: Counters,
+    records: &mut [u8],
+    objects: &mut [u16],
+    groups: &mut [u64],
+    n: u8,
+) -> Numbered
+    ensures { λ r. ⌜ outcomeOf (r .number)
+        (tablesOf (r .counters) (now (records .exit)) (now (objects .exit)) (now (groups .exit)))
+        ≡ openingOf (tablesOf c (now (records .entry)) (now (objects .entry)) (now (groups .entry))) n ⌝ }
+{
+    let o = tables::open(c, records, objects, groups, n);
+    let answer = o.answer;
+    let counters = o.counters;
+    Numbered {
+        number: tables::number(answer),
+        counters,
+    }
+}
+
+// The same, with the counters where the caller keeps them.
+pub fn open_drawing(
+    c: &mut Counters,
+    records: &mut [u8],
+    objects: &mut [u16],
+    groups: &mut [u64],
+    n: u8,
+) -> u8
+    ensures { λ r. ⌜ outcomeOf r
+        (tablesOf (now (c .exit)) (now (records .exit)) (now (objects .exit)) (now (groups .exit)))
+        ≡ openingOf
+        (tablesOf (now (c .entry)) (now (records .entry)) (now (objects .entry)) (now (groups .entry))) n ⌝ }
+{
+    let a = open_by_value(*c, records, objects, groups, n);
+    *c = a.counters;
+    a.number
+}
