@@ -6,6 +6,7 @@ use tables::Counters;
 ghost use mathlib.Core.Path.{_≡_};
 ghost use Rattle.tables.specs.Tables.{tablesOf, outcomeOf};
 ghost use Rattle.tables.specs.Opening.{openingOf};
+ghost use Rattle.arrival.specs.Arrival.{arrivalOf};
 
 // The number of an answer, and the counters after the call.
 #[repr(C)]
@@ -49,6 +50,47 @@ pub fn open_drawing(
         (tablesOf (now (c .entry)) (now (records .entry)) (now (objects .entry)) (now (groups .entry))) n ⌝ }
 {
     let a = open_by_value(*c, records, objects, groups, n);
+    *c = a.counters;
+    a.number
+}
+
+// An arriving edit, any bytes, at any tables: 8, then 1 to 7 in turn, the first that applies; else the edit is taken.
+pub fn arrive_by_value(
+    c: Counters,
+    records: &mut [u8],
+    objects: &mut [u16],
+    groups: &mut [u64],
+    rec: &[u8],
+) -> Numbered
+    ensures { λ r. ⌜ outcomeOf (r .number)
+        (tablesOf (r .counters) (now (records .exit)) (now (objects .exit)) (now (groups .exit)))
+        ≡ arrivalOf (tablesOf c (now (records .entry)) (now (objects .entry)) (now (groups .entry)))
+        (now (rec .entry)) ⌝ }
+{
+    let a = arrival::arrive(c, records, objects, groups, rec);
+    let answer = a.answer;
+    let counters = a.counters;
+    Numbered {
+        number: tables::number(answer),
+        counters,
+    }
+}
+
+// The same, with the counters where the caller keeps them.
+pub fn arrive(
+    c: &mut Counters,
+    records: &mut [u8],
+    objects: &mut [u16],
+    groups: &mut [u64],
+    rec: &[u8],
+) -> u8
+    ensures { λ r. ⌜ outcomeOf r
+        (tablesOf (now (c .exit)) (now (records .exit)) (now (objects .exit)) (now (groups .exit)))
+        ≡ arrivalOf
+        (tablesOf (now (c .entry)) (now (records .entry)) (now (objects .entry)) (now (groups .entry)))
+        (now (rec .entry)) ⌝ }
+{
+    let a = arrive_by_value(*c, records, objects, groups, rec);
     *c = a.counters;
     a.number
 }
