@@ -7,6 +7,8 @@ ghost use mathlib.Core.Path.{_≡_};
 ghost use Rattle.tables.specs.Tables.{tablesOf, outcomeOf};
 ghost use Rattle.tables.specs.Opening.{openingOf};
 ghost use Rattle.arrival.specs.Arrival.{arrivalOf};
+ghost use Rattle.replay.specs.Replay.{replayed};
+ghost use Rattle.block.specs.Reading.{readingOf};
 
 // The number of an answer, and the counters after the call.
 #[repr(C)]
@@ -93,4 +95,60 @@ pub fn arrive(
     let a = arrive_by_value(*c, records, objects, groups, rec);
     *c = a.counters;
     a.number
+}
+
+// The number of the answer to a file that is read, and the index of the refused record.
+#[repr(C)]
+pub struct FileAnswer {
+    pub number: u8,
+    pub index: usize,
+}
+
+// An answer to a file that is read, and the counters after it.
+#[repr(C)]
+pub struct FileTaken {
+    pub answer: FileAnswer,
+    pub counters: Counters,
+}
+
+// Reads a file, any bytes, into the tables: lengths (8), 10, 9, then its records in turn.
+pub fn read_by_value(
+    c: Counters,
+    records: &mut [u8],
+    objects: &mut [u16],
+    groups: &mut [u64],
+    file: &[u8],
+) -> FileTaken
+    ensures { λ r. ⌜ replayed (r .answer .number) (r .answer .index)
+        (tablesOf (r .counters) (now (records .exit)) (now (objects .exit)) (now (groups .exit)))
+        ≡ readingOf (tablesOf c (now (records .entry)) (now (objects .entry)) (now (groups .entry)))
+        (now (file .entry)) ⌝ }
+{
+    let f = block::read_file(c, records, objects, groups, file);
+    let said = f.answer;
+    let counters = f.counters;
+    let answer = FileAnswer {
+        number: tables::number(said),
+        index: f.index,
+    };
+    FileTaken { answer, counters }
+}
+
+// The same, with the counters where the caller keeps them.
+pub fn read_file(
+    c: &mut Counters,
+    records: &mut [u8],
+    objects: &mut [u16],
+    groups: &mut [u64],
+    file: &[u8],
+) -> FileAnswer
+    ensures { λ r. ⌜ replayed (r .number) (r .index)
+        (tablesOf (now (c .exit)) (now (records .exit)) (now (objects .exit)) (now (groups .exit)))
+        ≡ readingOf
+        (tablesOf (now (c .entry)) (now (records .entry)) (now (objects .entry)) (now (groups .entry)))
+        (now (file .entry)) ⌝ }
+{
+    let a = read_by_value(*c, records, objects, groups, file);
+    *c = a.counters;
+    a.answer
 }
