@@ -1,7 +1,9 @@
-// The counters of a drawing, updated where the caller keeps them: document 01, 'Tables and what makes them sound'. Each
-// thin function, to which the counters are lent by `&mut`, stands beside one with plain parameters and the same
-// contract; the borrow checker does not cover the thin ones, so their proofs are walked by hand. Answers are document
-// 01's numbers. Assumes nothing of what is lent.
+// The forms whose proofs are walked by hand, over the covered core. Here: the counters of a drawing, updated where the
+// caller keeps them (document 01, 'Tables and what makes them sound'). Each thin function, to which the counters are
+// lent by `&mut`, stands beside one with plain parameters and the same contract. Answers are document 01's numbers.
+// Assumes nothing of what is lent. `reader` has the reader that holds a stretch and its place.
+pub mod reader;
+
 use tables::Counters;
 ghost use mathlib.Core.Path.{_≡_};
 ghost use Rattle.tables.specs.Tables.{tablesOf, outcomeOf};

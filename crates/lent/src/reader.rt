@@ -1,0 +1,54 @@
+// A reader that holds the stretch of a block and its place in it, and gives the records one by one: document 01, 'The
+// stored block'. `take`, which decodes, has plain parameters. Assumes nothing of the stretch and the place.
+use record::Edit;
+use record::RECORD;
+ghost use mathlib.Core.Path.{_≡_};
+ghost use Prim.Native.Nat.{_+_};
+ghost use lib.Dec.{leb};
+ghost use Rattle.record.specs.Layout.{recordLength};
+ghost use Rattle.lent.specs.Reader.{takenAt};
+
+// A record, or the end mark, where nothing is found and the edit has zeros alone.
+pub struct Given {
+    pub found: bool,
+    pub edit: Edit,
+}
+
+// What was given, and the place after it.
+pub struct Taken {
+    pub given: Given,
+    pub place: usize,
+}
+
+// A stretch of records, and the place of the one to be given next.
+pub struct Reader<'a> {
+    pub stretch: &'a [u8],
+    pub place: usize,
+}
+
+// Whether n bytes have a record at a place.
+fn is_left(n: usize, place: usize) -> bool
+    ensures { λ r. ⌜ r ≡ leb (place + recordLength) n ⌝ }
+{
+    if n < RECORD {
+        return false;
+    }
+    place <= n - RECORD
+}
+
+// The record at a place, or the end mark where fewer bytes than a record's are left, and the place after it.
+pub fn take(stretch: &[u8], place: usize) -> Taken
+    ensures { λ r. ⌜ r ≡ takenAt (now (stretch .entry)) place ⌝ }
+{
+    if !is_left(stretch.len(), place) {
+        let edit = record::decode(&stretch[..0]);
+        let given = Given { found: false, edit };
+        return Taken { given, place };
+    }
+    let edit = record::decode(&stretch[place..]);
+    let given = Given { found: true, edit };
+    Taken {
+        given,
+        place: place + RECORD,
+    }
+}
