@@ -1,12 +1,14 @@
 // A reader that holds the stretch of a block and its place in it, and gives the records one by one: document 01, 'The
-// stored block'. `take`, which decodes, has plain parameters. Assumes nothing of the stretch and the place.
+// stored block'. The borrow checker covers no function over such a struct, so the proofs of `reader_of` and
+// `next_record` are walked by hand; `take`, which decodes, has plain parameters and is covered. Assumes nothing of the
+// stretch and the place.
 use record::Edit;
 use record::RECORD;
 ghost use mathlib.Core.Path.{_≡_};
 ghost use Prim.Native.Nat.{_+_};
 ghost use lib.Dec.{leb};
 ghost use Rattle.record.specs.Layout.{recordLength};
-ghost use Rattle.lent.specs.Reader.{takenAt};
+ghost use Rattle.lent.specs.Reader.{takenAt, givenBy, movedOn};
 
 // A record, or the end mark, where nothing is found and the edit has zeros alone.
 pub struct Given {
@@ -51,4 +53,20 @@ pub fn take(stretch: &[u8], place: usize) -> Taken
         given,
         place: place + RECORD,
     }
+}
+
+// A reader at the start of a stretch.
+pub fn reader_of<'a>(stretch: &'a [u8]) -> Reader<'a>
+    ensures { λ r. ⌜ (r .stretch ≡ stretch .entry) × (r .place ≡ 0) ⌝ }
+{
+    Reader { stretch, place: 0 }
+}
+
+// The next record, or the end mark: the place moves past the record, and stays put at the end.
+pub fn next_record<'s, 'a>(r: &'s mut Reader<'a>) -> Given
+    ensures { λ g. ⌜ (g ≡ givenBy (now (r .entry))) × (now (r .exit) ≡ movedOn (now (r .entry))) ⌝ }
+{
+    let t = take(r.stretch, r.place);
+    r.place = t.place;
+    t.given
 }
