@@ -33,10 +33,11 @@ pub fn open_by_value(
 {
     let o = tables::open(c, records, objects, groups, n);
     let answer = o.answer;
-    let counters = o.counters;
+    let opened = o.counters;
+    let number = tables::number(answer);
     Numbered {
-        number: tables::number(answer),
-        counters,
+        number,
+        counters: opened,
     }
 }
 
@@ -50,8 +51,8 @@ pub fn open_drawing(
 ) -> u8
     ensures { λ r. ⌜ outcomeOf r
         (tablesOf (now (c .exit)) (now (records .exit)) (now (objects .exit)) (now (groups .exit)))
-        ≡ openingOf
-        (tablesOf (now (c .entry)) (now (records .entry)) (now (objects .entry)) (now (groups .entry))) n ⌝ }
+        ≡ openingOf (tablesOf (now (c .entry)) (now (records .entry)) (now (objects .entry))
+        (now (groups .entry))) n ⌝ }
 {
     let a = open_by_value(*c, records, objects, groups, n);
     *c = a.counters;
@@ -73,10 +74,11 @@ pub fn arrive_by_value(
 {
     let a = arrival::arrive(c, records, objects, groups, rec);
     let answer = a.answer;
-    let counters = a.counters;
+    let arrived = a.counters;
+    let number = tables::number(answer);
     Numbered {
-        number: tables::number(answer),
-        counters,
+        number,
+        counters: arrived,
     }
 }
 
@@ -90,9 +92,8 @@ pub fn arrive(
 ) -> u8
     ensures { λ r. ⌜ outcomeOf r
         (tablesOf (now (c .exit)) (now (records .exit)) (now (objects .exit)) (now (groups .exit)))
-        ≡ arrivalOf
-        (tablesOf (now (c .entry)) (now (records .entry)) (now (objects .entry)) (now (groups .entry)))
-        (now (rec .entry)) ⌝ }
+        ≡ arrivalOf (tablesOf (now (c .entry)) (now (records .entry)) (now (objects .entry))
+        (now (groups .entry))) (now (rec .entry)) ⌝ }
 {
     let a = arrive_by_value(*c, records, objects, groups, rec);
     *c = a.counters;
@@ -127,13 +128,17 @@ pub fn read_by_value(
         (now (file .entry)) ⌝ }
 {
     let f = block::read_file(c, records, objects, groups, file);
-    let said = f.answer;
-    let counters = f.counters;
+    let given = f.answer;
+    let read = f.counters;
+    let number = tables::number(given);
     let answer = FileAnswer {
-        number: tables::number(said),
+        number,
         index: f.index,
     };
-    FileTaken { answer, counters }
+    FileTaken {
+        answer,
+        counters: read,
+    }
 }
 
 // The same, with the counters where the caller keeps them.
@@ -146,9 +151,8 @@ pub fn read_file(
 ) -> FileAnswer
     ensures { λ r. ⌜ replayed (r .number) (r .index)
         (tablesOf (now (c .exit)) (now (records .exit)) (now (objects .exit)) (now (groups .exit)))
-        ≡ readingOf
-        (tablesOf (now (c .entry)) (now (records .entry)) (now (objects .entry)) (now (groups .entry)))
-        (now (file .entry)) ⌝ }
+        ≡ readingOf (tablesOf (now (c .entry)) (now (records .entry)) (now (objects .entry))
+        (now (groups .entry))) (now (file .entry)) ⌝ }
 {
     let a = read_by_value(*c, records, objects, groups, file);
     *c = a.counters;
