@@ -16,7 +16,8 @@ has-room-requires c κs = search needs
 returns : tie.Need-returns
 returns c =
     let a = c .before .before .before .before .args in
-    not-put (now (a .out)) (take (a .n) (now (a .src))) (a .start) (a .n) (length-take-le (a .n) (now (a .src)) (search needs))
+    not-put (now (a .out)) (take (a .n) (now (a .src))) (a .start) (a .n)
+    (length-take-le (a .n) (now (a .src)) (search needs))
     (sym (c .before .has-room .ensures) ∙ not-true _ (c .if1 .taken))
 
 sub-copy-in : tie.Need-sub-copy-in
@@ -45,7 +46,8 @@ returns-2 c =
     let w = c .before .before in
     let f = w .before .before in
     let a = f .before .before .before .before .args in
-    put-whole (now (a .out)) (take (a .n) (now (a .src))) (a .start) (a .n) (length-take-le (a .n) (now (a .src)) (search needs))
+    put-whole (now (a .out)) (take (a .n) (now (a .src))) (a .start) (a .n)
+    (length-take-le (a .n) (now (a .src)) (search needs))
     (sym (f .before .has-room .ensures) ∙ not-false _ (f .if1 .left))
     (w .copy-in .ensures)
 
