@@ -1,7 +1,7 @@
 -- `lent::reader::take` meets its contract: what is tested decides which record is given. Assumes nothing.
-use mathlib.Core.Bool.{true, false}
+use mathlib.Core.Bool.{Bool, true, false, not}
 use mathlib.Core.Path.{_≡_, sym, ap, _∙_}
-use Prim.Native.Nat.{_+_, _-_}
+use Prim.Native.Nat.{ℕ, _+_, _-_, _≤_}
 use native.Mathlib.Omega.{arith}
 use lib.Dec.{leb}
 use lib.Seq.{take-all}
@@ -14,6 +14,10 @@ use Rattle.record.specs.Record.{decodeOf}
 use Rattle.lent.specs.Reader.{takenAt}
 use Rattle.lent.proofs.reader.take.Statement.{statement}
 use Rattle.lent.proofs.reader.take.Tie as tie
+
+-- what the test says of the numbers
+enough : (t : Bool) (p n : ℕ) → t ≡ leb (p + recordLength) n → not t ≡ false → p + recordLength ≤ n
+enough t p n tested left = leb-true (p + recordLength) n (sym tested ∙ not-false t left)
 
 is-left-requires : tie.Need-is-left-requires
 is-left-requires c κs = search needs
@@ -37,17 +41,13 @@ sub-decode : tie.Need-sub-decode
 sub-decode c =
     let a = c .before .before .before .args in
     let s = c .before .is-left in
-    let left = leb-true (a .place + recordLength) (length (now (a .stretch)))
-    (sym (s .ensures) ∙ not-false (s .result) (c .if1 .left)) in
-    omega (arith, left)
+    omega (arith, enough (s .result) (a .place) (length (now (a .stretch))) (s .ensures) (c .if1 .left))
 
 part-decode-start : tie.Need-part-decode-start
 part-decode-start c =
     let a = c .before .before .before .args in
     let s = c .before .is-left in
-    let left = leb-true (a .place + recordLength) (length (now (a .stretch)))
-    (sym (s .ensures) ∙ not-false (s .result) (c .if1 .left)) in
-    omega (arith, left)
+    omega (arith, enough (s .result) (a .place) (length (now (a .stretch))) (s .ensures) (c .if1 .left))
 
 part-decode-end : tie.Need-part-decode-end
 part-decode-end c = search needs
@@ -59,9 +59,7 @@ add-t8 : tie.Need-add-t8
 add-t8 c =
     let a = c .before .before .before .before .before .args in
     let s = c .before .before .before .is-left in
-    let left = leb-true (a .place + recordLength) (length (now (a .stretch)))
-    (sym (s .ensures) ∙ not-false (s .result) (c .before .before .if1 .left)) in
-    search (needs, left)
+    search (needs, enough (s .result) (a .place) (length (now (a .stretch))) (s .ensures) (c .before .before .if1 .left))
 
 returns-2 : tie.Need-returns-2
 unfolding takenAt
