@@ -1,5 +1,6 @@
 // Reads a file on standard input and prints the list of the drawing that it stores, or the line of its refusal, on
-// standard output. What is printed is the proved function `printing::print_file`.
+// standard output; with arguments, the same for each file that they name, one after another. What is printed is the
+// proved function `printing::print_file`.
 use libc::STDIN_FILENO;
 use libc::STDOUT_FILENO;
 ghost use mathlib.Core.Path.{_≡_};
@@ -31,9 +32,36 @@ fn print(out: &mut [u8], file: &[u8])
     io::write_all(STDOUT_FILENO, &out[..k]);
 }
 
-fn main() {
+// Prints what can be read from fd.
+fn print_from(fd: i32) {
     let mut file = buffer();
-    let n = io::read_full(STDIN_FILENO, &mut file);
+    let n = io::read_full(fd, &mut file);
     let mut out = room();
     print(&mut out, &file[..n]);
+}
+
+fn print_named(path: &[u8]) {
+    let fd = os::open_read(path);
+    if fd < 0 {
+        os::fail(path);
+        return;
+    }
+    print_from(fd);
+    libc::close(fd);
+}
+
+fn print_argument(i: usize) {
+    let mut path = io::buffer();
+    let n = os::arg(i, &mut path);
+    print_named(&path[..n]);
+}
+
+fn main() {
+    let count = os::arg_count();
+    if count < 2 {
+        print_from(STDIN_FILENO);
+    }
+    for i in 1..count {
+        print_argument(i);
+    }
 }
