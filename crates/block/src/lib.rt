@@ -126,7 +126,7 @@ pub fn read_trailer(file: &[u8]) -> Trailer
 }
 
 // Where the stretch of the records ends in a file of n bytes to which the answer is a.
-fn stretch_end(a: Answer, n: usize) -> usize
+pub fn stretch_end(a: Answer, n: usize) -> usize
     ensures { λ r. ⌜ r ≡ cond (eqb (numberOf a) 0) (n - trailerLength) 0 ⌝ }
 {
     if tables::number(a) == 0 {

@@ -1,0 +1,23 @@
+-- `interface::spireslate_write` meets its contract: what `block::write` gives, with the answer's number.
+-- Assumes nothing.
+use borrow.Author.Needs.{needs}
+use Rattle.interface.proofs.spireslate_write.Statement.{statement}
+use Rattle.interface.proofs.spireslate_write.Tie as tie
+
+write-requires : tie.Need-write-requires
+write-requires c κs = search needs
+
+numbered-requires : tie.Need-numbered-requires
+numbered-requires c κs = search needs
+
+same-length : tie.Need-same-length
+same-length c = search needs
+
+returns : tie.Need-returns
+returns c =
+    let told = c .numbered .ensures in
+    let w = c .before .before .before .write in
+    rw (told .0, told .1) (w .ensures)
+
+pub spireslate-write-spec : {M : Type 1} → statement M
+spireslate-write-spec = tie.close (tie.spec write-requires numbered-requires same-length returns)
