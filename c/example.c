@@ -1,0 +1,167 @@
+/* Document 01's example through the C interface: a drawing of three sites takes four edits one by one, its list is
+   printed by lines and whole, its block is written behind other bytes, located, read into other tables and checked.
+   Then some inputs that are refused, each with its number. `run` compares what is printed with example.expected. */
+#include <stdio.h>
+#include <string.h>
+
+#include "spireslate.h"
+
+/* The layouts that the library was compiled with. */
+_Static_assert(sizeof(struct spireslate_counters) == 22, "counters");
+_Static_assert(sizeof(struct spireslate_file_answer) == 16, "answer to a file");
+_Static_assert(sizeof(struct spireslate_write_answer) == 16, "answer to a call that writes");
+_Static_assert(sizeof(struct spireslate_located) == 16, "a located block");
+
+/* What the caller keeps of a drawing, and the tables of one as a call takes them. */
+struct drawing {
+    struct spireslate_counters counters;
+    uint8_t records[SPIRESLATE_RECORDS_LENGTH];
+    uint16_t objects[SPIRESLATE_OBJECTS_LENGTH];
+    uint64_t groups[SPIRESLATE_GROUPS_LENGTH];
+};
+
+#define TABLES(d)                                                                                                    \
+    (d)->records, SPIRESLATE_RECORDS_LENGTH, (d)->objects, SPIRESLATE_OBJECTS_LENGTH, (d)->groups,                   \
+        SPIRESLATE_GROUPS_LENGTH
+
+enum { EDITS = 4, PICTURE = 16, BEHIND = 4, BLOCK = EDITS * SPIRESLATE_RECORD + SPIRESLATE_TRAILER, MARK = 0xAA };
+
+static const char *const names[EDITS] = {"0.1", "1.1", "2.1", "0.2"};
+
+/* Kind, site, sequence number; the vector; target site, key, target sequence number, value. */
+static const uint8_t edits[EDITS][SPIRESLATE_RECORD] = {
+    {1, 0, 1, 0, /**/ 1, 0, 0, 0, 0, 0, 0, 0, 0, 0, 0, 0, 0, 0, 0, 0, /**/ 0, 0, 0, 0, 0, 0, 0, 0},
+    {2, 1, 1, 0, /**/ 1, 0, 1, 0, 0, 0, 0, 0, 0, 0, 0, 0, 0, 0, 0, 0, /**/ 0, 2, 1, 0, 40, 0, 0, 0},
+    {2, 2, 1, 0, /**/ 1, 0, 0, 0, 1, 0, 0, 0, 0, 0, 0, 0, 0, 0, 0, 0, /**/ 0, 2, 1, 0, 44, 0, 0, 0},
+    {2, 0, 2, 0, /**/ 2, 0, 0, 0, 0, 0, 0, 0, 0, 0, 0, 0, 0, 0, 0, 0, /**/ 0, 5, 1, 0, 7, 0, 0, 0},
+};
+
+static struct drawing first, second, damaged;
+static uint8_t output[SPIRESLATE_LIST];
+static uint8_t file[PICTURE + BLOCK + BEHIND];
+
+static void print_bytes(const uint8_t *bytes, size_t n) { fwrite(bytes, 1, n, stdout); }
+
+static void take_edits(struct drawing *d) {
+    printf("open 3 sites: %d\n", spireslate_open(&d->counters, TABLES(d), 3));
+    for (int i = 0; i < EDITS; i++) {
+        int number = spireslate_arrive(&d->counters, TABLES(d), edits[i], sizeof edits[i]);
+        printf("edit %s: %d\n", names[i], number);
+    }
+}
+
+static void print_counters(const struct drawing *d) {
+    printf("sites %d records %d objects %d held", d->counters.sites, d->counters.records, d->counters.objects);
+    for (int s = 0; s < SPIRESLATE_SITES; s++) printf(" %d", d->counters.held[s]);
+    printf("\n");
+}
+
+static void print_lines(const struct drawing *d) {
+    for (size_t k = 0;; k++) {
+        struct spireslate_write_answer w =
+            spireslate_line(d->counters, TABLES(d), k, output, SPIRESLATE_LINE, 0);
+        printf("line %zu: %d, %zu bytes\n", k, w.number, w.bytes);
+        if (w.number != SPIRESLATE_DONE) return;
+        print_bytes(output, w.bytes);
+    }
+}
+
+static void print_list(const struct drawing *d) {
+    struct spireslate_write_answer w = spireslate_list(d->counters, TABLES(d), output, sizeof output, 0);
+    printf("list: %d, %zu bytes\n", w.number, w.bytes);
+    print_bytes(output, w.bytes);
+}
+
+/* Whether bytes a to e of the file have the mark that they had before the block was written. */
+static int is_marked(size_t a, size_t e) {
+    for (size_t i = a; i < e; i++)
+        if (file[i] != MARK) return 0;
+    return 1;
+}
+
+static void store(const struct drawing *d) {
+    memset(file, MARK, sizeof file);
+    struct spireslate_write_answer w = spireslate_write(d->counters, TABLES(d), file, sizeof file, PICTURE);
+    printf("write at %d: %d, %zu bytes\n", PICTURE, w.number, w.bytes);
+    printf("bytes before stayed: %d, behind: %d\n", is_marked(0, PICTURE),
+           is_marked(PICTURE + BLOCK, PICTURE + BLOCK + BEHIND));
+    printf("trailer:");
+    for (int i = PICTURE + BLOCK - SPIRESLATE_TRAILER; i < PICTURE + BLOCK; i++) printf(" %02X", file[i]);
+    printf("\n");
+}
+
+static void load(struct drawing *d, size_t length) {
+    struct spireslate_located l = spireslate_locate(file, length);
+    printf("locate: %d, sites %d, records %d, start %zu\n", l.number, l.sites, l.records, l.start);
+    struct spireslate_file_answer r = spireslate_read(&d->counters, TABLES(d), file, length);
+    printf("read: %d, index %zu\n", r.number, r.index);
+    printf("check: %d\n", spireslate_check(d->counters, TABLES(d)));
+}
+
+/* Tables one element short, one after another, then a damaged group, and a number of sites that is none. */
+static void refuse_tables(struct drawing *d) {
+    struct spireslate_counters *c = &d->counters;
+    printf("a record byte short: %d\n", spireslate_open(c, d->records, SPIRESLATE_RECORDS_LENGTH - 1, d->objects,
+                                                        SPIRESLATE_OBJECTS_LENGTH, d->groups,
+                                                        SPIRESLATE_GROUPS_LENGTH, 3));
+    printf("an object number short: %d\n",
+           spireslate_arrive(c, d->records, SPIRESLATE_RECORDS_LENGTH, d->objects, SPIRESLATE_OBJECTS_LENGTH - 1,
+                             d->groups, SPIRESLATE_GROUPS_LENGTH, edits[0], SPIRESLATE_RECORD));
+    printf("a group short: %d\n",
+           spireslate_check(*c, d->records, SPIRESLATE_RECORDS_LENGTH, d->objects, SPIRESLATE_OBJECTS_LENGTH,
+                            d->groups, SPIRESLATE_GROUPS_LENGTH - 1));
+    damaged = *d;
+    damaged.groups[0] = damaged.groups[1];
+    struct spireslate_write_answer w = spireslate_line(damaged.counters, TABLES(&damaged), 0, output, 0, 0);
+    printf("equal groups: %d, %zu bytes\n", w.number, w.bytes);
+    printf("0 sites: %d\n", spireslate_open(c, TABLES(d), 0));
+    printf("9 sites: %d\n", spireslate_open(c, TABLES(d), SPIRESLATE_SITES + 1));
+}
+
+static void refuse_edits(struct drawing *d) {
+    uint8_t late[SPIRESLATE_RECORD];
+    memcpy(late, edits[1], sizeof late);
+    late[2] = late[6] = 3;
+    printf("a record of 27 bytes: %d\n",
+           spireslate_arrive(&d->counters, TABLES(d), edits[0], SPIRESLATE_RECORD - 1));
+    printf("edit 1.1 again: %d\n", spireslate_arrive(&d->counters, TABLES(d), edits[1], SPIRESLATE_RECORD));
+    printf("edit 1.3 before 1.2: %d\n", spireslate_arrive(&d->counters, TABLES(d), late, SPIRESLATE_RECORD));
+}
+
+static void refuse_outputs(const struct drawing *d) {
+    struct spireslate_write_answer w;
+    w = spireslate_write(d->counters, TABLES(d), output, BLOCK, 1);
+    printf("no room for the block: %d, %zu bytes\n", w.number, w.bytes);
+    w = spireslate_line(d->counters, TABLES(d), 0, output, sizeof output, SIZE_MAX);
+    printf("no room for a line: %d, %zu bytes\n", w.number, w.bytes);
+    w = spireslate_list(d->counters, TABLES(d), output, sizeof output - 1, 0);
+    printf("no room for the longest list: %d, %zu bytes\n", w.number, w.bytes);
+}
+
+/* A file that ends inside its trailer, which leaves the drawing; then one whose third record has no kind, which leaves
+   an empty drawing. */
+static void refuse_files(struct drawing *d) {
+    load(d, PICTURE + BLOCK - 1);
+    print_counters(d);
+    file[PICTURE + 2 * SPIRESLATE_RECORD] = 0;
+    load(d, PICTURE + BLOCK);
+    print_counters(d);
+    print_list(d);
+}
+
+int main(void) {
+    take_edits(&first);
+    print_counters(&first);
+    print_lines(&first);
+    print_list(&first);
+    store(&first);
+    load(&second, PICTURE + BLOCK);
+    print_counters(&second);
+    print_list(&second);
+    refuse_tables(&second);
+    refuse_edits(&second);
+    refuse_outputs(&second);
+    printf("check: %d\n", spireslate_check(second.counters, TABLES(&second)));
+    refuse_files(&second);
+    return 0;
+}

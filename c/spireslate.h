@@ -1,0 +1,129 @@
+/* The calls of Spireslate for a C program on x86-64 Linux: the static library of the crate `interface` has them, and
+   each is proved to answer as document 01 says. All lengths and all contents are allowed: every input has an answer,
+   and a table, record, file or output that is too short, too long or damaged is refused with its number, never read or
+   written outside. What no proof can see is left to the caller: a pointer is not null, also where its length is 0; it
+   points to as many elements as the length beside it says, aligned as C aligns them; and what a call may write
+   (a pointer that is not const) overlaps nothing else that the call is given. */
+#ifndef SPIRESLATE_H
+#define SPIRESLATE_H
+
+#include <stddef.h>
+#include <stdint.h>
+
+#ifdef __cplusplus
+extern "C" {
+#endif
+
+/* The answers. A call that gives another than 0 leaves counters, tables and output as they were; only a file with a
+   refused record leaves an empty drawing. */
+enum {
+    SPIRESLATE_DONE = 0,
+    SPIRESLATE_MALFORMED = 1, /* the record is not one: its length, or a field */
+    SPIRESLATE_REPEATED = 2,  /* as many edits of that site are held already */
+    SPIRESLATE_EARLY = 3,     /* an edit that it has seen is not held yet */
+    SPIRESLATE_TORN = 4,      /* an edit that it has seen has seen more of some site */
+    SPIRESLATE_ASTRAY = 5,    /* the Set's target is not a Create that it has seen */
+    SPIRESLATE_FULL = 6,      /* 256 records, 64 objects or 64 Sets of the object are held */
+    SPIRESLATE_CROWDED = 7,   /* the object would have more than 32 versions */
+    SPIRESLATE_UNSOUND = 8,   /* the tables are unsound, or not of their lengths */
+    SPIRESLATE_BAD_SITES = 9, /* the number of sites is not 1 to 8 */
+    SPIRESLATE_BAD_FILE = 10, /* the file is over the limit, or its trailer is unfit */
+    SPIRESLATE_NO_ROOM = 11,  /* the output has no room at the start given */
+    SPIRESLATE_NO_LINE = 12   /* the list has no line of that number */
+};
+
+/* Lengths: of the three tables in elements, all others in bytes. */
+enum {
+    SPIRESLATE_SITES = 8,             /* entries of a vector, and the most sites of a drawing */
+    SPIRESLATE_RECORD = 28,           /* an edit record */
+    SPIRESLATE_RECORDS_LENGTH = 7168, /* the records' table: 256 places of 28 bytes */
+    SPIRESLATE_OBJECTS_LENGTH = 192,  /* the objects' table: 64 entries of 3 numbers */
+    SPIRESLATE_GROUPS_LENGTH = 2048,  /* the groups' table: 64 rows of 32 groups */
+    SPIRESLATE_TRAILER = 8,           /* the trailer of a block */
+    SPIRESLATE_BLOCK = 7176,          /* the longest block: 256 records and the trailer */
+    SPIRESLATE_FILE_LIMIT = 65536,    /* the longest file that is read */
+    SPIRESLATE_LINE = 874,            /* no line of the list is longer */
+    SPIRESLATE_LIST = 1790826         /* no list is longer: 2,049 lines */
+};
+
+/* The counters of a drawing, which the caller keeps beside its three tables: N, the records and the objects held, and
+   how many edits of each site are held. The tables are: the records' bytes in arrival order; for each object the place
+   of its Create among the records, its number of Sets and its number of groups; and for each object 32 groups, where
+   bit i stands for the object's i-th Set. What is not used is zero. */
+struct spireslate_counters {
+    uint8_t sites;
+    uint16_t records;
+    uint16_t objects;
+    uint16_t held[SPIRESLATE_SITES];
+};
+
+/* The answer to a file that is read, and the index from 0 of the refused record; 0 where none is refused. */
+struct spireslate_file_answer {
+    uint8_t number;
+    size_t index;
+};
+
+/* The answer to a call that writes, and the number of bytes written; 0 when refused. */
+struct spireslate_write_answer {
+    uint8_t number;
+    size_t bytes;
+};
+
+/* The answer to a file in which a block is located, N, the number of records, and where the first record starts in the
+   file; the last three are 0 when refused. */
+struct spireslate_located {
+    uint8_t number;
+    uint8_t sites;
+    uint16_t records;
+    size_t start;
+};
+
+/* Opens an empty drawing of n sites: 8 for lengths alone, then 9. What stood in the tables does not matter. */
+uint8_t spireslate_open(struct spireslate_counters *counters, uint8_t *records, size_t records_length,
+                        uint16_t *objects, size_t objects_length, uint64_t *groups, size_t groups_length, uint8_t n);
+
+/* Takes an edit record: 8, then 1 to 7, the first that applies. */
+uint8_t spireslate_arrive(struct spireslate_counters *counters, uint8_t *records, size_t records_length,
+                          uint16_t *objects, size_t objects_length, uint64_t *groups, size_t groups_length,
+                          const uint8_t *record, size_t record_length);
+
+/* Reads a file whose last bytes are a block into the tables: 8 for lengths alone, 10, 9, then the answer to the first
+   record that is refused, 1 to 7, in which case the tables are left as an empty drawing of the file's sites. */
+struct spireslate_file_answer spireslate_read(struct spireslate_counters *counters, uint8_t *records,
+                                              size_t records_length, uint16_t *objects, size_t objects_length,
+                                              uint64_t *groups, size_t groups_length, const uint8_t *file,
+                                              size_t file_length);
+
+/* The separate check: 0 exactly when the tables are what their records give from an empty drawing, else 8. */
+uint8_t spireslate_check(struct spireslate_counters counters, const uint8_t *records, size_t records_length,
+                         const uint16_t *objects, size_t objects_length, const uint64_t *groups,
+                         size_t groups_length);
+
+/* Writes the block into the output from the start on: 8, then 11. Bytes before and after the block stay. */
+struct spireslate_write_answer spireslate_write(struct spireslate_counters counters, const uint8_t *records,
+                                                size_t records_length, const uint16_t *objects,
+                                                size_t objects_length, const uint64_t *groups, size_t groups_length,
+                                                uint8_t *out, size_t out_length, size_t start);
+
+/* Puts one line of the list, line 0 or that of a version, into the output from the start on, with its newline: 8, 12,
+   then 11. Bytes before and after the line stay. */
+struct spireslate_write_answer spireslate_line(struct spireslate_counters counters, const uint8_t *records,
+                                               size_t records_length, const uint16_t *objects,
+                                               size_t objects_length, const uint64_t *groups, size_t groups_length,
+                                               size_t line, uint8_t *out, size_t out_length, size_t start);
+
+/* Puts all lines into the output from the start on: 8, then 11 where there is no room for SPIRESLATE_LIST bytes. Bytes
+   before and after the lines stay. */
+struct spireslate_write_answer spireslate_list(struct spireslate_counters counters, const uint8_t *records,
+                                               size_t records_length, const uint16_t *objects,
+                                               size_t objects_length, const uint64_t *groups, size_t groups_length,
+                                               uint8_t *out, size_t out_length, size_t start);
+
+/* Locates the block of a file: 10, then 9. Its records are so many times 28 bytes of the file, from the start on. */
+struct spireslate_located spireslate_locate(const uint8_t *file, size_t file_length);
+
+#ifdef __cplusplus
+}
+#endif
+
+#endif
