@@ -100,6 +100,27 @@ pub fn arrive(
     a.number
 }
 
+// `arrive` on a copy of the counters, given back. Plain parameters: whoever calls this needs no walk.
+pub fn arrive_on(
+    c: Counters,
+    records: &mut [u8],
+    objects: &mut [u16],
+    groups: &mut [u64],
+    rec: &[u8],
+) -> Numbered
+    ensures { λ r. ⌜ outcomeOf (r .number)
+        (tablesOf (r .counters) (now (records .exit)) (now (objects .exit)) (now (groups .exit)))
+        ≡ arrivalOf (tablesOf c (now (records .entry)) (now (objects .entry)) (now (groups .entry)))
+        (now (rec .entry)) ⌝ }
+{
+    let mut d = c;
+    let number = arrive(&mut d, records, objects, groups, rec);
+    Numbered {
+        number,
+        counters: d,
+    }
+}
+
 // The number of the answer to a file that is read, and the index of the refused record.
 #[repr(C)]
 pub struct FileAnswer {
