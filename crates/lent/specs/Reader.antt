@@ -34,6 +34,10 @@ givenBy r = takenAt (now (r .stretch)) (r .place) .given
 abbrev pub movedOn : Reader → Reader
 movedOn r = record { stretch = r .stretch; place = takenAt (now (r .stretch)) (r .place) .place }
 
+-- what a reader gives that is made at the start of s and called for the second time
+abbrev pub secondOf : List ℕ → Given
+secondOf s = takenAt s (takenAt s 0 .place) .given
+
 -- the edits that a reader of s at the place p gives before its first end mark, called k times
 unfoldable pub givenFrom : ℕ → List ℕ → ℕ → List Edit
 givenFrom zero s p = []

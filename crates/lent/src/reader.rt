@@ -1,14 +1,14 @@
 // A reader that holds the stretch of a block and its place in it, and gives the records one by one: document 01, 'The
-// stored block'. The borrow checker covers no function over such a struct, so the proofs of `reader_of` and
-// `next_record` are walked by hand; `take`, which decodes, has plain parameters and is covered. Assumes nothing of the
-// stretch and the place.
+// stored block'. The borrow checker covers no function over such a struct, so the proofs of `reader_of`,
+// `next_record` and `second` are walked by hand. `take`, which decodes, has plain parameters and is covered; `second`
+// has plain parameters too, and lends a reader of its own. Assumes nothing of the stretch and the place.
 use record::Edit;
 use record::RECORD;
 ghost use mathlib.Core.Path.{_≡_};
 ghost use Prim.Native.Nat.{_+_};
 ghost use lib.Dec.{leb};
 ghost use Rattle.record.specs.Layout.{recordLength};
-ghost use Rattle.lent.specs.Reader.{takenAt, givenBy, movedOn};
+ghost use Rattle.lent.specs.Reader.{takenAt, givenBy, movedOn, secondOf};
 
 // A record, or the end mark, where nothing is found and the edit has zeros alone.
 pub struct Given {
@@ -69,4 +69,13 @@ pub fn next_record<'s, 'a>(r: &'s mut Reader<'a>) -> Given
     let t = take(r.stretch, r.place);
     r.place = t.place;
     t.given
+}
+
+// The second record of a stretch, or the end mark. Plain parameters: whoever calls this needs no walk.
+pub fn second(stretch: &[u8]) -> Given
+    ensures { λ g. ⌜ g ≡ secondOf (now (stretch .entry)) ⌝ }
+{
+    let mut r = reader_of(stretch);
+    next_record(&mut r);
+    next_record(&mut r)
 }
