@@ -1,7 +1,8 @@
 // The forms whose proofs are walked by hand, over the covered core. Here: the counters of a drawing, updated where the
 // caller keeps them (document 01, 'Tables and what makes them sound'). Each thin function, to which the counters are
-// lent by `&mut`, stands beside one with plain parameters and the same contract. Answers are document 01's numbers.
-// Assumes nothing of what is lent. `reader` has the reader that holds a stretch and its place.
+// lent by `&mut`, stands between two with plain parameters and the same contract: the core that it calls, and one
+// above that lends it a local. Answers are document 01's numbers. Assumes nothing of what is lent. `reader` has the
+// reader that holds a stretch and its place.
 pub mod reader;
 
 use tables::Counters;
@@ -57,6 +58,26 @@ pub fn open_drawing(
     let a = open_by_value(*c, records, objects, groups, n);
     *c = a.counters;
     a.number
+}
+
+// `open_drawing` on a copy of the counters, given back. Plain parameters: whoever calls this needs no walk.
+pub fn open_on(
+    c: Counters,
+    records: &mut [u8],
+    objects: &mut [u16],
+    groups: &mut [u64],
+    n: u8,
+) -> Numbered
+    ensures { λ r. ⌜ outcomeOf (r .number)
+        (tablesOf (r .counters) (now (records .exit)) (now (objects .exit)) (now (groups .exit)))
+        ≡ openingOf (tablesOf c (now (records .entry)) (now (objects .entry)) (now (groups .entry))) n ⌝ }
+{
+    let mut d = c;
+    let number = open_drawing(&mut d, records, objects, groups, n);
+    Numbered {
+        number,
+        counters: d,
+    }
 }
 
 // An arriving edit, any bytes, at any tables: 8, then 1 to 7 in turn, the first that applies; else the edit is taken.
@@ -178,4 +199,25 @@ pub fn read_file(
     let a = read_by_value(*c, records, objects, groups, file);
     *c = a.counters;
     a.answer
+}
+
+// `read_file` on a copy of the counters, given back. Plain parameters: whoever calls this needs no walk.
+pub fn read_on(
+    c: Counters,
+    records: &mut [u8],
+    objects: &mut [u16],
+    groups: &mut [u64],
+    file: &[u8],
+) -> FileTaken
+    ensures { λ r. ⌜ replayed (r .answer .number) (r .answer .index)
+        (tablesOf (r .counters) (now (records .exit)) (now (objects .exit)) (now (groups .exit)))
+        ≡ readingOf (tablesOf c (now (records .entry)) (now (objects .entry)) (now (groups .entry)))
+        (now (file .entry)) ⌝ }
+{
+    let mut d = c;
+    let answer = read_file(&mut d, records, objects, groups, file);
+    FileTaken {
+        answer,
+        counters: d,
+    }
 }
