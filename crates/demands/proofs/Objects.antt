@@ -23,7 +23,7 @@ use Rattle.order.specs.Rearranged.{Mem}
 use Rattle.order.proofs.Pairs.{pairs-weaken}
 use Rattle.version.proofs.Members.{all-places, map-keep-same}
 use Rattle.version.proofs.Ranks.{ranks-through, one-ranks}
-use Rattle.list.specs.Listing.{createOf, createdBefore, objectsOf}
+use Rattle.objects.specs.Objects.{createOf, createdBefore, objectsOf}
 
 -- the numbers of the objects
 abbrev pub numbers : Tables → List ℕ

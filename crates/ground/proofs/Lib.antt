@@ -7,3 +7,4 @@ pub mod Places
 pub mod Snoc
 pub mod Gathered
 pub mod Parts
+pub mod Within

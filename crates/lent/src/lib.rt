@@ -1,10 +1,7 @@
-// The forms whose proofs are walked by hand, over the covered core. Here: the counters of a drawing, updated where the
-// caller keeps them (document 01, 'Tables and what makes them sound'). Each thin function, to which the counters are
-// lent by `&mut`, stands between two with plain parameters and the same contract: the core that it calls, and one
-// above that lends it a local. Answers are document 01's numbers. Assumes nothing of what is lent. `reader` has the
-// reader that holds a stretch and its place.
-pub mod reader;
-
+// The counters of a drawing, updated where the caller keeps them (document 01, 'Tables and what makes them sound').
+// Each thin function, to which the counters are lent by `&mut` and whose proof is walked by hand, stands between two
+// with plain parameters and the same contract: the core that it calls, and one above that lends it a local. Answers are
+// document 01's numbers. Assumes nothing of what is lent.
 use tables::Counters;
 ghost use mathlib.Core.Path.{_≡_};
 ghost use Rattle.tables.specs.Tables.{tablesOf, outcomeOf};

@@ -26,10 +26,12 @@ use Rattle.output.specs.Output.{writing}
 use Rattle.version.specs.Order.{versionsOf}
 use Rattle.version.specs.Line.{versionLine, objectLines}
 use Rattle.version.proofs.Members.{map-place}
-use Rattle.list.specs.declared.objects.Gathered.{Gathered}
-use Rattle.list.specs.Listing.{setsFor, linesFor, createdBefore, objectsOf, versionTotal, linesOf}
+use Rattle.objects.specs.declared.Gathered.{Gathered}
+use Rattle.objects.specs.Objects.{setsFor, createdBefore, objectsOf}
+use Rattle.list.specs.Listing.{linesFor, versionTotal, linesOf}
 use Rattle.list.specs.Printing.{joined, listOf, listLength, listingOf}
-use Rattle.list.specs.Code.{GatheredOf, Ready, lineIn, headOf, allLines, Behind}
+use Rattle.objects.specs.Code.{GatheredOf}
+use Rattle.list.specs.Code.{Ready, lineIn, headOf, allLines, Behind}
 use Rattle.list.proofs.Behind.{joined-append}
 
 -- ---- what is gathered of an object

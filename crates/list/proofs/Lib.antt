@@ -1,6 +1,4 @@
 pub mod Behind
-pub mod Turns
-pub mod Gathering
 pub mod Joined
 pub mod Search
 pub mod OnePass

@@ -19,7 +19,8 @@ use Rattle.version.specs.Order.{versionsOf}
 use Rattle.version.specs.Line.{versionLine, objectLines, lineLength}
 use Rattle.version.proofs.Sorted.{versions-length}
 use Rattle.list.specs.declared.numbered.Found.{Found}
-use Rattle.list.specs.Listing.{createOf, setsFor, linesFor, objectsOf, versionTotal, linesOf}
+use Rattle.objects.specs.Objects.{createOf, setsFor, objectsOf}
+use Rattle.list.specs.Listing.{linesFor, versionTotal, linesOf}
 use Rattle.list.specs.Code.{headOf, LeftOf, FoundIn, NumberedAs}
 use Rattle.list.proofs.Joined.{sorted-low}
 

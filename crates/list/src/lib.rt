@@ -1,11 +1,11 @@
 // The printed list of versions of document 01: a line by its number, and all lines in one pass.
 mod lines;
 mod numbered;
-mod objects;
 pub mod whole;
 
 use group::GROUPS;
 use group::OBJECTS;
+use line::LINE;
 use numbered::put_numbered;
 use output::Written;
 use output::has_room;
@@ -14,7 +14,6 @@ use tables::Answer;
 use tables::Counters;
 use tables::ENTRY;
 use tables::entries::at16;
-use version::LINE;
 use whole::put_list;
 ghost use mathlib.Core.Path.{_≡_};
 ghost use Prim.Native.Nat.{_≤_};

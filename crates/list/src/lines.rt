@@ -1,8 +1,8 @@
 // The lines of a gathered object, put into the output one behind another.
-use super::objects::Gathered;
+use line::LINE;
+use line::put_line;
+use objects::Gathered;
 use output::copy_in;
-use version::LINE;
-use version::put_line;
 ghost use mathlib.Core.Path.{_≡_};
 ghost use mathlib.Core.List.{map};
 ghost use Prim.Native.Nat.{_+_, _*_, _≤_, _<_};

@@ -1,9 +1,9 @@
 // A line by its number.
 use super::head;
 use super::lines::put_version;
-use super::objects::gather;
-use super::objects::sort_objects;
 use group::OBJECTS;
+use objects::gather;
+use objects::sort_objects;
 use tables::Counters;
 use tables::ENTRY;
 use tables::entries::at16;
@@ -15,7 +15,8 @@ ghost use lib.ListN.{length, getD, take};
 ghost use Rattle.tables.specs.Tables.{tablesOf};
 ghost use Rattle.tables.specs.Sound.{sound};
 ghost use Rattle.version.specs.Line.{lineLength};
-ghost use Rattle.list.specs.Listing.{linesFor, linesOf, objectsOf};
+ghost use Rattle.list.specs.Listing.{linesFor, linesOf};
+ghost use Rattle.objects.specs.Objects.{objectsOf};
 ghost use Rattle.list.specs.Code.{FoundIn, NumberedAs};
 
 // Where a line of a version is found: whether there is one, the object, and which of its versions it is.

@@ -1,12 +1,12 @@
 // All lines, put into the output one behind another.
 use super::head;
 use super::lines::put_versions;
-use super::objects::gather;
-use super::objects::sort_objects;
 use group::OBJECTS;
+use line::LINE;
+use objects::gather;
+use objects::sort_objects;
 use output::copy_in;
 use tables::Counters;
-use version::LINE;
 ghost use mathlib.Core.Path.{_≡_};
 ghost use mathlib.Core.Bool.{true};
 ghost use Prim.Native.Nat.{_+_, _*_, _≤_, _<_};

@@ -125,7 +125,7 @@ use Rattle.tables.specs.Tables.{outcomeOf, tablesOf as tables-of}
 use Rattle.arrival.specs.Arrival.{arrivalOf}
 use Rattle.tables.specs.declared.Counters.{Counters}
 use Rattle.lent.specs.declared.Numbered.{Numbered}
-use Rattle.lent.proofs.Within.{lies-in, lies-out}
+use Rattle.ground.proofs.Within.{lies-in, lies-out}
 use Rattle.tables.proofs.Counters as T
 use Rattle.tables.proofs.Counters.Laws as T′
 use Rattle.lent.proofs.Numbered as R

@@ -126,7 +126,7 @@ use Rattle.block.specs.Reading.{readingOf}
 use Rattle.tables.specs.declared.Counters.{Counters}
 use Rattle.lent.specs.declared.FileAnswer.{FileAnswer}
 use Rattle.lent.specs.declared.FileTaken.{FileTaken}
-use Rattle.lent.proofs.Within.{lies-in, lies-out}
+use Rattle.ground.proofs.Within.{lies-in, lies-out}
 use Rattle.tables.proofs.Counters as T
 use Rattle.tables.proofs.Counters.Laws as T′
 use Rattle.lent.proofs.FileAnswer as X

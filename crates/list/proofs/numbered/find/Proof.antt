@@ -10,7 +10,7 @@ use Rattle.tables.specs.Tables.{tablesOf}
 use Rattle.tables.proofs.Facts.{sound-at}
 use Rattle.list.specs.Listing.{linesFor}
 use Rattle.list.specs.Code.{LeftOf}
-use Rattle.list.proofs.Gathering.{in-order}
+use Rattle.objects.proofs.Gathering.{in-order}
 use Rattle.list.proofs.Search.{all-left, passed-over, found-at, not-found}
 use borrow.Author.Needs.{needs}
 use Rattle.list.proofs.numbered.find.Statement.{statement}

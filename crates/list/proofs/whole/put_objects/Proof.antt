@@ -11,7 +11,8 @@ use Rattle.group.specs.Row.{mostGroups}
 use Rattle.tables.specs.Tables.{tablesOf}
 use Rattle.tables.proofs.Facts.{sound-at}
 use Rattle.version.specs.Line.{lineLength}
-use Rattle.list.specs.Listing.{linesFor, objectsOf}
+use Rattle.list.specs.Listing.{linesFor}
+use Rattle.objects.specs.Objects.{objectsOf}
 use Rattle.list.specs.Printing.{joined}
 use Rattle.list.specs.Code.{Behind}
 use Rattle.list.proofs.Behind.{fewer-behind, no-piece, piece-behind}

@@ -1,2 +1,0 @@
-pub mod OneByOne
-pub mod Within

@@ -1,0 +1,56 @@
+-- `line::put_line` meets its contract: the Create, the identifier, the values and a newline. Assumes nothing.
+use mathlib.Core.Path.{_∙_}
+use mathlib.Core.List.{[], _∷_}
+use native.Mathlib.Omega.{arith}
+use borrow.Author.Needs.{needs}
+use lib.ListN.{take}
+use Rattle.record.specs.Layout.{keys}
+use Rattle.text.specs.Words.{space, newline, dotted}
+use Rattle.text.proofs.Lines.{four}
+use Rattle.version.specs.Version.{setsAt, identifierOf}
+use Rattle.version.specs.Line.{identifierText, settingsText, versionLine}
+use Rattle.version.proofs.Tags.{identifier-by}
+use Rattle.line.proofs.put_line.Statement.{statement}
+use Rattle.line.proofs.put_line.Tie as tie
+
+put-dotted-requires : tie.Need-put-dotted-requires
+put-dotted-requires c κs = search needs
+
+put-identifier-requires : tie.Need-put-identifier-requires
+put-identifier-requires c κs = search needs
+
+put-settings-requires : tie.Need-put-settings-requires
+put-settings-requires c κs = search needs
+
+put-byte-requires : tie.Need-put-byte-requires
+put-byte-requires c κs = search needs
+
+same-length : tie.Need-same-length
+same-length c = search needs
+
+returns : tie.Need-returns
+unfolding versionLine
+returns c =
+    let third = c .before .before .before .before .before .before in
+    let second = third .before .before .before .before in
+    let first = second .before .before .before .before in
+    let start = first .before .before .before .before .before .before in
+    let a = start .args in
+    let ms = setsAt (a .recs .now) (take (a .t) (a .places .now)) in (
+      four [] (dotted (a .c .site .0) (a .c .seq .0)) (space ∷ identifierText (identifierOf ms (a .g)))
+          (settingsText ms (a .g) keys) (newline ∷ []) (first .put-dotted .ensures .0)
+          (second .put-identifier .ensures .0 ∙ rw (start .pre .4, identifier-by ms (a .g)))
+          (third .put-settings .ensures .0) (c .before .before .put-byte .ensures .0),
+      omega arith,
+    )
+
+pub put-line-spec : {M : Type 1} → statement M
+put-line-spec =
+    tie.close
+    (tie.spec
+    put-dotted-requires
+    put-identifier-requires
+    put-settings-requires
+    put-byte-requires
+    same-length
+    returns)

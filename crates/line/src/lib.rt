@@ -1,0 +1,148 @@
+// The line of a version. The Sets of the object are given by their places in the table of records, in the order of
+// arrival: bit i of a group stands for the i-th place.
+use group::SETS;
+use record::Edit;
+use record::KEYS;
+use text::DOTTED;
+use text::EQUATED;
+use text::MINUS;
+use text::NEWLINE;
+use text::PLUS;
+use text::SPACE;
+use text::put_byte;
+use text::put_dotted;
+use text::put_equated;
+use version::ALL_KEYS;
+use version::SEQ_NUMBERS;
+use version::SITE_NUMBERS;
+use version::identifiers::identifier;
+use version::values::VALUES;
+use version::values::stamps;
+ghost use mathlib.Core.Path.{_≡_};
+ghost use mathlib.Core.List.{_∷_, _++_};
+ghost use Prim.Native.Nat.{_+_, _≤_, _<_};
+ghost use lib.ListN.{length, take};
+ghost use Rattle.record.specs.Layout.{keys};
+ghost use Rattle.group.specs.Row.{mostSets};
+ghost use Rattle.text.specs.Words.{space, plus, dottedLength, equatedLength};
+ghost use Rattle.version.specs.Version.{setsAt};
+ghost use Rattle.version.specs.Line.{nameText, identifierText, settingsText, versionLine};
+ghost use Rattle.version.specs.Line.{namesLength, identifierLength, settingsLength, lineLength};
+ghost use Rattle.version.specs.Code.{tagsOf, identifierBy, stampText};
+
+// The bytes that a line has at most: the Create; for each Set a separator and its name; for each key a space, the key,
+// `=` and the value; and a newline.
+pub const LINE: usize = DOTTED + (1 + DOTTED) * SETS + (1 + EQUATED) * ALL_KEYS + 1;
+
+// Puts the name x as `site.seq`.
+fn put_name(out: &mut [u8], n: usize, x: u64) -> usize
+    requires { ⌜ n + dottedLength ≤ length (now out) ⌝ }
+    ensures { λ r. ⌜ (take r (now (out .exit)) ≡ take n (now (out .entry)) ++ nameText x) × (r ≤ n + dottedLength) ⌝ }
+{
+    put_dotted(
+        out,
+        n,
+        (x / SEQ_NUMBERS % SITE_NUMBERS) as u8,
+        (x % SEQ_NUMBERS) as u16,
+    )
+}
+
+// Puts `+` and the name x.
+fn put_joined(out: &mut [u8], n: usize, x: u64) -> usize
+    requires { ⌜ n + (1 + dottedLength) ≤ length (now out) ⌝ }
+    ensures { λ r. ⌜ (take r (now (out .exit)) ≡ take n (now (out .entry)) ++ (plus ∷ nameText x))
+        × (r ≤ n + (1 + dottedLength)) ⌝ }
+{
+    let w = put_byte(out, n, PLUS);
+    put_name(out, w, x)
+}
+
+// Puts the k first names of ids joined by `+`, or `-` if there are none.
+fn put_names(out: &mut [u8], n: usize, ids: &[u64], k: usize) -> usize
+    requires { ⌜ (k ≤ length (now ids)) × (k ≤ mostSets) × (n + namesLength ≤ length (now out)) ⌝ }
+    ensures { λ r.
+        ⌜ (take r (now (out .exit)) ≡ take n (now (out .entry)) ++ identifierText (take k (now (ids .entry))))
+        × (r ≤ n + namesLength) ⌝ }
+{
+    if k == 0 {
+        return put_byte(out, n, MINUS);
+    }
+    let mut w = put_name(out, n, ids[0]);
+    let mut i: usize = 1;
+    while i < k {
+        w = put_joined(out, w, ids[i]);
+        i += 1;
+    }
+    w
+}
+
+// Puts a space and the identifier of the group g, by the t tags of the object's Sets.
+fn put_identifier(out: &mut [u8], n: usize, tags: &[u64], t: usize, g: u64) -> usize
+    requires { ⌜ (t ≤ length (now tags)) × (t ≤ mostSets) × (n + identifierLength ≤ length (now out)) ⌝ }
+    ensures { λ r.
+        ⌜ (take r (now (out .exit))
+        ≡ take n (now (out .entry)) ++ (space ∷ identifierText (identifierBy (take t (now (tags .entry))) g)))
+        × (r ≤ n + identifierLength) ⌝ }
+{
+    let mut ids = [0u64; SETS];
+    let k = identifier(tags, t, g, &mut ids);
+    let w = put_byte(out, n, SPACE);
+    put_names(out, w, &ids, k)
+}
+
+// Puts ` key=value` by the stamp s, or nothing if it is 0.
+fn put_setting(out: &mut [u8], n: usize, key: u8, s: u64) -> usize
+    requires { ⌜ (key < keys) × (n + (1 + equatedLength) ≤ length (now out)) ⌝ }
+    ensures { λ r. ⌜ (take r (now (out .exit)) ≡ take n (now (out .entry)) ++ stampText key s)
+        × (r ≤ n + (1 + equatedLength)) ⌝ }
+{
+    if s == 0 {
+        return n;
+    }
+    let w = put_byte(out, n, SPACE);
+    put_equated(out, w, key, ((s - 1) % VALUES) as u32)
+}
+
+// Puts ` key=value` for each key set in the group g of the Sets in the t first places, ascending.
+fn put_settings(out: &mut [u8], n: usize, recs: &[u8], places: &[u16], t: usize, g: u64) -> usize
+    requires { ⌜ (t ≤ length (now places)) × (t ≤ mostSets) × (n + settingsLength ≤ length (now out)) ⌝ }
+    ensures { λ r.
+        ⌜ (take r (now (out .exit))
+        ≡ take n (now (out .entry)) ++ settingsText (setsAt (now (recs .entry)) (take t (now (places .entry)))) g keys)
+        × (r ≤ n + settingsLength) ⌝ }
+{
+    let best = stamps(recs, places, t, g);
+    let mut w = n;
+    let mut k: u8 = 0;
+    while k < KEYS {
+        w = put_setting(out, w, k, best[k as usize]);
+        k += 1;
+    }
+    w
+}
+
+// Puts at the front the line of the version g of the object that c created; says how many bytes it has. The Sets of the
+// object stand in the t first places, and tags are theirs.
+pub fn put_line(
+    out: &mut [u8],
+    recs: &[u8],
+    c: Edit,
+    places: &[u16],
+    t: usize,
+    tags: &[u64],
+    g: u64,
+) -> usize
+    requires { ⌜ (t ≤ length (now places))
+        × (t ≤ length (now tags))
+        × (t ≤ mostSets)
+        × (lineLength ≤ length (now out))
+        × (take t (now tags) ≡ tagsOf (setsAt (now recs) (take t (now places)))) ⌝ }
+    ensures { λ r.
+        ⌜ (take r (now (out .exit)) ≡ versionLine c (setsAt (now (recs .entry)) (take t (now (places .entry)))) g)
+        × (r ≤ lineLength) ⌝ }
+{
+    let a = put_dotted(out, 0, c.site.0, c.seq.0);
+    let b = put_identifier(out, a, tags, t, g);
+    let d = put_settings(out, b, recs, places, t, g);
+    put_byte(out, d, NEWLINE)
+}
