@@ -1,4 +1,4 @@
-"""What the comparisons share: the independent program, drawlist on many files, and the saving of a first difference."""
+"""What the comparisons share: the independent program, drawlist on many files, the saving of a first difference."""
 import importlib.machinery
 import importlib.util
 import os
