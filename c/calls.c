@@ -164,8 +164,8 @@ static void call(void) {
 }
 
 int main(void) {
-    make_slot(&slots[COUNTERS], sizeof(struct spireslate_counters));
-    for (int s = COUNTERS + 1; s < SLOTS; s++) make_slot(&slots[s], 0);
+    for (int s = 0; s < SLOTS; s++) make_slot(&slots[s], s == COUNTERS ? sizeof(struct spireslate_counters) : 0);
+    memset(bytes_of(COUNTERS), 0, sizeof(struct spireslate_counters));
     for (int c; (c = getchar()) != EOF;) {
         if (c == 'F') fill();
         else if (c == 'C') call();

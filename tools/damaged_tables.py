@@ -5,6 +5,7 @@ soundness finds it. A kind that tables have no place for gives None.
 """
 from independent_tables import ENTRY, OBJECTS, RECORD, RECORDS, SETS, SITES, VERSIONS, built, history, row, rules
 from random_calls import BYTE, HALF, astray, lowered, malformed, random_tables
+from random_files import full
 
 
 def changed(values, at, value):
@@ -95,6 +96,17 @@ def record_damage(number):
                 objects = sum(e.kind == rules.CREATE for e in edits)
                 return built(t.sites, b"".join(bad), edits, [(0,)] * objects) if objects <= OBJECTS else None
         return None
+    return damage
+
+
+def past_limit(made):
+    """Tables that hold these edits of one site, more than one of the limits allows, all counted as any others."""
+    def damage(rng, t):
+        records = [e[2] for e in made]
+        edits = tuple(rules.decode(r) for r in records)
+        over = built(1, b"".join(records), edits, [(0,)] * sum(e.kind == rules.CREATE for e in edits))
+        return over._replace(objects=min(over.objects, OBJECTS), entries=over.entries[:OBJECTS * ENTRY],
+                             groups=over.groups[:OBJECTS * VERSIONS])
     return damage
 
 
@@ -210,6 +222,8 @@ KINDS = {
     "a site's count too low": count_damage(-1),
     "a count at or past N": unused_count,
     **{"a record fails %d" % number: record_damage(number) for number in range(1, 6)},
+    "65 Creates": past_limit(full(65, 65, 0)),
+    "65 Sets of an object": past_limit(full(67, 2, 65)),
     "a Create's place": place_damage,
     "objects out of order": swapped_objects,
     "one Set too many": more_sets,

@@ -43,8 +43,15 @@ class Library:
     def __init__(self):
         self.process = subprocess.Popen([os.path.join(ROOT, "c", "calls")], stdin=subprocess.PIPE,
                                         stdout=subprocess.PIPE)
-        self.held = {s: b"" for s in SLOTS}
-        self.held["counters"] = None
+        # as the process starts
+        self.held = {**{s: b"" for s in SLOTS}, "counters": bytes(COUNTERS.size)}
+
+    def send(self, data):
+        try:
+            self.process.stdin.write(data)
+            self.process.stdin.flush()
+        except BrokenPipeError:
+            raise EOFError("c/calls ended before a call, with status %d" % self.process.wait()) from None
 
     def take(self, size):
         data = self.process.stdout.read(size)
@@ -53,8 +60,7 @@ class Library:
         return data
 
     def make(self, call):
-        self.process.stdin.write(script_of(call, self.held))
-        self.process.stdin.flush()
+        self.send(script_of(call, self.held))
         self.held.update(call.slots)
         given = GIVEN.unpack(self.take(GIVEN.size))
         for slot in SLOTS:
@@ -66,4 +72,5 @@ class Library:
 
     def end(self):
         self.process.stdin.close()
-        return self.process.wait()
+        if self.process.wait():
+            raise EOFError("c/calls ended with status %d" % self.process.returncode)
