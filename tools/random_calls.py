@@ -1,7 +1,7 @@
 """Random input for the calls: drawings, sound tables whose groups are not true, records that are refused, outputs."""
 from independent_tables import (ENTRY, OBJECTS, RECORD, RECORDS, SETS, SITES, VERSIONS, Tables, built, history,
                                 replayed, row, rules, sound_edits)
-from random_files import edited, full, pairs
+from random_files import Edits, edited, full, pairs
 from stored import record as stored_record
 
 BYTE, HALF, LARGEST = 1 << 8, 1 << 16, (1 << 64) - 1
@@ -9,12 +9,28 @@ ROOMS = ("just fits", "longer", "one byte short", "start at the end", "start pas
          "start that would wrap")
 
 
+def disputed(rng, sites):
+    """The edits of sites that all have one box and seldom see each other."""
+    edits = Edits(sites)
+    edits.make(0, rules.CREATE)
+    for site in range(1, sites):
+        edits.merge(site, 0)
+    for _ in range(rng.randrange(6, 24)):
+        if rng.random() < 0.3:
+            edits.merge(rng.randrange(sites), rng.randrange(sites))
+        edits.make(rng.randrange(sites), rules.SET, (0, 1), rng.randrange(4), rng.randrange(3))
+    return edits.made
+
+
 def random_drawing(rng):
     """N and the records of a drawing in an order of arrival; now and then one that goes past a limit."""
     shape = rng.random()
     if shape < 0.15:
         made, sites = pairs(rng, rng.choice((3, 4, 5, 6, 6)), rng.randrange(4)), 3
-    elif shape < 0.2:
+    elif shape < 0.3:
+        sites = rng.randint(2, SITES)
+        made = disputed(rng, sites)
+    elif shape < 0.35:
         made, sites = full(*rng.choice(((257, 5, 64), (257, 64, 3), (65, 65, 0), (80, 2, 65)))), 1
     else:
         sites = rng.randint(1, SITES)
@@ -33,9 +49,10 @@ def random_tables(rng):
 
 
 def random_row(rng, sets, true):
-    """Ascending groups within the bits: any, or the true ones and more, up to a full row."""
+    """Ascending groups within the bits: any, or the true ones and more; often a full row, which a disputed Set may
+    crowd."""
     groups = set(true if rng.random() < 0.5 else ())
-    most = rng.choice((1, 2, 4, 16, VERSIONS, VERSIONS, VERSIONS))
+    most = rng.choice((1, 2, 4, 16, *(VERSIONS,) * 6))
     for _ in range(2 * most):
         if len(groups) < most:
             groups.add(rng.getrandbits(sets) if sets else 0)
@@ -103,10 +120,10 @@ def late(rng, t):
     sets = [e for e in edits if e.kind == rules.SET]
     if not silent or not sets:
         return None
-    site, disputed = rng.choice(silent), rng.choice(sets)
-    create = next(e for e in edits if rules.name(e) == disputed.target)
+    site, other = rng.choice(silent), rng.choice(sets)
+    create = next(e for e in edits if rules.name(e) == other.target)
     vector = [1 if s == site else seen for s, seen in enumerate(create.vector)]
-    return stored_record(rules.SET, site, vector, disputed.target, disputed.key, rng.randrange(BYTE))
+    return stored_record(rules.SET, site, vector, other.target, other.key, rng.randrange(BYTE))
 
 
 def tries(rng, n, held, coming):
