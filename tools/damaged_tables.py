@@ -99,15 +99,27 @@ def record_damage(number):
     return damage
 
 
-def past_limit(made):
-    """Tables that hold these edits of one site, more than one of the limits allows, all counted as any others."""
-    def damage(rng, t):
-        records = [e[2] for e in made]
-        edits = tuple(rules.decode(r) for r in records)
-        over = built(1, b"".join(records), edits, [(0,)] * sum(e.kind == rules.CREATE for e in edits))
-        return over._replace(objects=min(over.objects, OBJECTS), entries=over.entries[:OBJECTS * ENTRY],
-                             groups=over.groups[:OBJECTS * VERSIONS])
-    return damage
+def of_one_site(made, rows):
+    """Tables that hold these edits of one site, with these groups."""
+    records = [e[2] for e in made]
+    return built(1, b"".join(records), tuple(rules.decode(r) for r in records), rows)
+
+
+def too_many_objects(rng, t):
+    """65 Creates, of which the tables have counted 64."""
+    over = of_one_site(full(OBJECTS + 1, OBJECTS + 1, 0), [(0,)] * (OBJECTS + 1))
+    return over._replace(objects=OBJECTS, entries=over.entries[:OBJECTS * ENTRY],
+                         groups=over.groups[:OBJECTS * VERSIONS])
+
+
+def too_many_sets(rng, t):
+    return of_one_site(full(SETS + 3, 2, SETS + 1), [(0,), (0,)])
+
+
+def adjoining_groups(rng, t):
+    """33 groups, of which the last is the first one of the next row, and continues its own."""
+    tables = of_one_site(full(20, 2, 6), [range(VERSIONS), [VERSIONS]])
+    return tables._replace(entries=changed(tables.entries, 2, VERSIONS + 1))
 
 
 def place_damage(rng, t):
@@ -222,14 +234,15 @@ KINDS = {
     "a site's count too low": count_damage(-1),
     "a count at or past N": unused_count,
     **{"a record fails %d" % number: record_damage(number) for number in range(1, 6)},
-    "65 Creates": past_limit(full(65, 65, 0)),
-    "65 Sets of an object": past_limit(full(67, 2, 65)),
+    "65 Creates": too_many_objects,
+    "65 Sets of an object": too_many_sets,
     "a Create's place": place_damage,
     "objects out of order": swapped_objects,
     "one Set too many": more_sets,
     "one Set too few": fewer_sets,
     "no groups": no_groups,
     "33 groups": too_many_groups,
+    "33 groups with the next row's": adjoining_groups,
     "one group too many": group_count(1),
     "one group too few": group_count(-1),
     "equal groups": neighbours(lambda a, b: (a, a)),
