@@ -41,8 +41,10 @@ def save(named):
     print("a difference is saved in target/difference: " + ", ".join(named))
 
 
-def save_lists(data, wanted, got):
-    save({"file.block": data, "independent.list": wanted, "drawlist.list": got})
+def save_lists(data, wanted, got, **others):
+    """A file that is listed otherwise than it must be."""
+    save({"file.block": data, "independent.list": wanted, "drawlist.list": got,
+          **{"%s.list" % name: text for name, text in others.items()}})
 
 
 def ended(passed, failed):
