@@ -1,0 +1,233 @@
+"""An independent reading of document 01 of the calls on lent tables: what each answers, and what it leaves.
+
+It stands on the rules of tools/independent and shares nothing with the crates. Tables are what the caller lends, of
+any lengths and contents. On true tables the groups after an arrival are the enumerated maximal sets, and the step of
+document 01 must give the same; on other sound tables they are what that step says.
+"""
+from collections import namedtuple
+from functools import lru_cache
+
+from comparing import module
+
+rules = module("independent")
+RECORD, TRAILER, SITES = rules.RECORD, rules.TRAILER, rules.SITES
+RECORDS, OBJECTS, SETS, VERSIONS = rules.RECORDS, rules.OBJECTS, rules.SETS, rules.VERSIONS
+ENTRY = 3
+# the room that the call for all lines asks for: 2,049 lines of 874 bytes
+LONGEST_LIST = 2049 * 874
+
+# the counters N, records, objects and held (a count per site); then bytes, and two tuples of numbers
+Tables = namedtuple("Tables", "sites records objects held places entries groups")
+# the number given back, what else is given back, and the tables and the output after the call; None: as they were
+Outcome = namedtuple("Outcome", "number sites records value tables output", defaults=(0, 0, 0, None, None))
+
+
+def filled(values, length):
+    return tuple(values) + (0,) * (length - len(values))
+
+
+def has_lengths(t):
+    return (len(t.places), len(t.entries), len(t.groups)) == (RECORDS * RECORD, OBJECTS * ENTRY, OBJECTS * VERSIONS)
+
+
+def empty(n):
+    return Tables(n, 0, 0, (0,) * SITES, bytes(RECORDS * RECORD), filled((), OBJECTS * ENTRY),
+                  filled((), OBJECTS * VERSIONS))
+
+
+@lru_cache(maxsize=20000)
+def history(n, data):
+    """The edits of these records, where each passes 1 to 5 after those before it; else None."""
+    if not data:
+        return ()
+    before, last = history(n, data[:-RECORD]), data[-RECORD:]
+    if before is None or rules.Drawing(n, before).misfit(last):
+        return None
+    return before + (rules.decode(last),)
+
+
+@lru_cache(maxsize=20000)
+def is_accepted(n, data):
+    """Whether an empty drawing takes all these records in turn."""
+    if not data:
+        return True
+    before, last = data[:-RECORD], data[-RECORD:]
+    return is_accepted(n, before) and rules.Drawing(n, history(n, before)).answer(last) == 0
+
+
+@lru_cache(maxsize=20000)
+def maximal_groups(sets):
+    """The groups of the definition, as ascending numbers."""
+    return sorted(sum(1 << i for i in places) for places in rules.maximal_sets(sets, VERSIONS + 1))
+
+
+def built(n, data, edits, rows):
+    """The tables that hold these records, with these groups for each object."""
+    drawing = rules.Drawing(n, edits)
+    places = [i for i, e in enumerate(edits) if e.kind == rules.CREATE]
+    entries, groups = [], []
+    for place, numbers in zip(places, rows):
+        entries += [place, len(drawing.sets(rules.name(edits[place]))), len(numbers)]
+        groups += filled(numbers, VERSIONS)
+    held = tuple(drawing.count(s) for s in range(SITES))
+    return Tables(n, len(edits), len(rows), held, data + bytes(RECORDS * RECORD - len(data)),
+                  filled(entries, OBJECTS * ENTRY), filled(groups, OBJECTS * VERSIONS))
+
+
+@lru_cache(maxsize=2000)
+def replayed(n, data):
+    """The tables that these records give from an empty drawing; None where one of them is refused."""
+    if not is_accepted(n, data):
+        return None
+    drawing = rules.Drawing(n, history(n, data))
+    rows = [maximal_groups(tuple(drawing.sets(rules.name(c)))) for c in drawing.creates()]
+    return built(n, data, history(n, data), rows)
+
+
+def row(t, k):
+    """The groups of object k: as many as its entry says."""
+    return t.groups[VERSIONS * k:VERSIONS * k + t.entries[ENTRY * k + 2]]
+
+
+def is_object_sound(t, k, place, sets):
+    """Object k, whose Create is the record at this place and which has so many Sets among the records."""
+    if t.entries[ENTRY * k:ENTRY * k + 2] != (place, sets) or sets > SETS:
+        return False
+    if not 1 <= t.entries[ENTRY * k + 2] <= VERSIONS:
+        return False
+    groups = row(t, k)
+    unused = t.groups[VERSIONS * k + len(groups):VERSIONS * (k + 1)]
+    return (all(a < b for a, b in zip(groups, groups[1:])) and all(g >> sets == 0 for g in groups)
+            and not any(unused))
+
+
+@lru_cache(maxsize=64)
+def sound_edits(t):
+    """The edits of sound tables; None where the tables are unsound, or not of the stated lengths."""
+    if not has_lengths(t) or not 1 <= t.sites <= SITES or t.records > RECORDS or t.objects > OBJECTS:
+        return None
+    edits = history(t.sites, t.places[:RECORD * t.records])
+    if edits is None or any(t.places[RECORD * t.records:]):
+        return None
+    drawing = rules.Drawing(t.sites, edits)
+    creates = [i for i, e in enumerate(edits) if e.kind == rules.CREATE]
+    if len(creates) != t.objects or t.held != tuple(drawing.count(s) for s in range(SITES)):
+        return None
+    if any(t.entries[ENTRY * t.objects:]) or any(t.groups[VERSIONS * t.objects:]):
+        return None
+    sets = [len(drawing.sets(rules.name(edits[i]))) for i in creates]
+    return edits if all(is_object_sound(t, k, i, sets[k]) for k, i in enumerate(creates)) else None
+
+
+def stepped(groups, sets, new):
+    """Document 01's step for a new Set: bit i of a group stands for the object's i-th Set."""
+    bit = 1 << len(sets)
+    compatible = sum(1 << i for i, s in enumerate(sets) if not rules.conflict(s, new))
+    staying = {g for g in groups if g & ~compatible}
+    holding = {g & compatible | bit for g in groups}
+    largest = {g for g in holding if not any(g != h and g & h == g for h in holding)}
+    return sorted(staying | largest)
+
+
+def arrived(t, record):
+    edits = sound_edits(t)
+    if edits is None:
+        return Outcome(8)
+    drawing = rules.Drawing(t.sites, edits)
+    misfit = drawing.misfit(record)
+    if misfit:
+        return Outcome(misfit)
+    new = rules.decode(record)
+    if drawing.is_full(new):
+        return Outcome(6)
+    after = taken(t, drawing, new, record)
+    data = t.places[:RECORD * t.records]
+    if t == replayed(t.sites, data) and after != replayed(t.sites, data + record):
+        raise AssertionError("the step from true groups does not give those of the definition")
+    return Outcome(0, tables=after) if after else Outcome(7)
+
+
+def taken(t, drawing, new, record):
+    """The tables with this edit after those held; None where the step gives more groups than a row has."""
+    creates = drawing.creates()
+    rows = [row(t, k) for k in range(t.objects)]
+    if new.kind == rules.CREATE:
+        rows.append((0,))
+    else:
+        k = [rules.name(c) for c in creates].index(new.target)
+        rows[k] = stepped(rows[k], drawing.sets(new.target), new)
+        if len(rows[k]) > VERSIONS:
+            return None
+    return built(t.sites, t.places[:RECORD * t.records] + record, tuple(drawing.edits) + (new,), rows)
+
+
+def opened(t, n):
+    if not has_lengths(t):
+        return Outcome(8)
+    return Outcome(0, tables=empty(n)) if 1 <= n <= SITES else Outcome(9)
+
+
+def read(t, data):
+    if not has_lengths(t):
+        return Outcome(8)
+    try:
+        n, records, first = rules.locate(data)
+        rules.read(data)
+    except rules.Refused as refusal:
+        # 1 to 7 are of a record, and leave an empty drawing
+        after = empty(n) if refusal.number < 8 else None
+        return Outcome(refusal.number, value=refusal.index, tables=after)
+    return Outcome(0, tables=replayed(n, data[first:first + RECORD * records]))
+
+
+def located(data):
+    try:
+        n, records, first = rules.locate(data)
+    except rules.Refused as refusal:
+        return Outcome(refusal.number)
+    return Outcome(0, n, records, first)
+
+
+def checked(t):
+    if not has_lengths(t) or not 1 <= t.sites <= SITES or t.records > RECORDS:
+        return Outcome(8)
+    return Outcome(0 if t == replayed(t.sites, t.places[:RECORD * t.records]) else 8)
+
+
+def put(data, room, output, start):
+    """Bytes put into the output at a start, where there is so much room from there on."""
+    if start > len(output) or len(output) - start < room:
+        return Outcome(11)
+    return Outcome(0, value=len(data), output=output[:start] + data + output[start + len(data):])
+
+
+def written(t, output, start):
+    if sound_edits(t) is None:
+        return Outcome(8)
+    data = t.places[:RECORD * t.records]
+    trailer = (t.records.to_bytes(2, "little") + bytes((t.sites, 0)) + len(data).to_bytes(4, "little"))
+    return put(data + trailer, len(data) + TRAILER, output, start)
+
+
+@lru_cache(maxsize=64)
+def lines(t):
+    """All lines of sound tables, as bytes."""
+    drawing = rules.Drawing(t.sites, sound_edits(t))
+    boxes = sorted(((c, row(t, k)) for k, c in enumerate(drawing.creates())), key=lambda box: rules.rank(box[0]))
+    members = [(c, [[i for i in range(SETS) if g >> i & 1] for g in groups]) for c, groups in boxes]
+    return [line.encode() + b"\n" for line in drawing.lines_of(members)]
+
+
+def line_put(t, number, output, start):
+    if sound_edits(t) is None:
+        return Outcome(8)
+    if number >= len(lines(t)):
+        return Outcome(12)
+    line = lines(t)[number]
+    return put(line, len(line), output, start)
+
+
+def listed(t, output, start):
+    if sound_edits(t) is None:
+        return Outcome(8)
+    return put(b"".join(lines(t)), LONGEST_LIST, output, start)

@@ -1,0 +1,146 @@
+"""Random input for the calls: drawings, sound tables whose groups are not true, records that are refused, outputs."""
+from independent_tables import (ENTRY, OBJECTS, RECORD, RECORDS, SETS, SITES, VERSIONS, Tables, built, history,
+                                replayed, row, rules, sound_edits)
+from random_files import Edits, edited, full, pairs
+from stored import record as stored_record
+
+BYTE, HALF, LARGEST = 1 << 8, 1 << 16, (1 << 64) - 1
+ROOMS = ("just fits", "longer", "one byte short", "start at the end", "start past the end", "largest start",
+         "start that would wrap")
+
+
+def disputed(rng, sites):
+    """The edits of sites that all have one box and seldom see each other."""
+    edits = Edits(sites)
+    edits.make(0, rules.CREATE)
+    for site in range(1, sites):
+        edits.merge(site, 0)
+    for _ in range(rng.randrange(6, 24)):
+        if rng.random() < 0.3:
+            edits.merge(rng.randrange(sites), rng.randrange(sites))
+        edits.make(rng.randrange(sites), rules.SET, (0, 1), rng.randrange(4), rng.randrange(3))
+    return edits.made
+
+
+def random_drawing(rng):
+    """N and the records of a drawing in an order of arrival; now and then one that goes past a limit."""
+    shape = rng.random()
+    if shape < 0.15:
+        made, sites = pairs(rng, rng.choice((3, 4, 5, 6, 6)), rng.randrange(4)), 3
+    elif shape < 0.3:
+        sites = rng.randint(2, SITES)
+        made = disputed(rng, sites)
+    elif shape < 0.35:
+        made, sites = full(*rng.choice(((257, 5, 64), (257, 64, 3), (65, 65, 0), (80, 2, 65)))), 1
+    else:
+        sites = rng.randint(1, SITES)
+        made = edited(rng, sites, rng.randrange(8, 60), rng.choice((1, 2, 4, 16)), rng.choice((2, 3, 1 << 32)))
+    # a site more than there are authors, where it can be
+    return min(SITES, sites + rng.choice((0, 1, 1))), [e[2] for e in made]
+
+
+def random_tables(rng):
+    """Tables of the stated lengths that hold anything."""
+    def numbers(below, length):
+        return tuple(rng.randrange(below) for _ in range(length))
+    return Tables(rng.randrange(BYTE), rng.randrange(HALF), rng.randrange(HALF), numbers(HALF, SITES),
+                  rng.randbytes(RECORDS * RECORD), numbers(HALF, OBJECTS * ENTRY),
+                  numbers(LARGEST + 1, OBJECTS * VERSIONS))
+
+
+def random_row(rng, sets, true):
+    """Ascending groups within the bits: any, or the true ones and more; often a full row, which a disputed Set may
+    crowd."""
+    groups = set(true if rng.random() < 0.5 else ())
+    most = rng.choice((1, 2, 4, 16, *(VERSIONS,) * 6))
+    for _ in range(2 * most):
+        if len(groups) < most:
+            groups.add(rng.getrandbits(sets) if sets else 0)
+    return sorted(groups)
+
+
+def untrue_tables(rng, n, records):
+    """Sound tables of these records with groups of any kind; None where no sound tables hold these records."""
+    data = b"".join(records)
+    edits = history(n, data)
+    if edits is None or len(records) > RECORDS:
+        return None
+    drawing = rules.Drawing(n, edits)
+    sets = [len(drawing.sets(rules.name(c))) for c in drawing.creates()]
+    if len(sets) > OBJECTS or any(s > SETS for s in sets):
+        return None
+    true = replayed(n, data)
+    return built(n, data, edits, [random_row(rng, s, row(true, k) if true else ()) for k, s in enumerate(sets)])
+
+
+def altered(record, changes):
+    """The record with other bytes at these places."""
+    out = bytearray(record)
+    for at, value in changes.items():
+        out[at] = value % BYTE
+    return bytes(out)
+
+
+def malformed(rng, n, record):
+    """The record with one of its fields as no record has it."""
+    site = min(record[1], SITES - 1)
+    own = 4 + 2 * site
+    choices = [{0: rng.choice((0, 3, 255))}, {1: rng.choice((n, 8, 255))}, {2: 0, 3: 0, own: 0, own + 1: 0},
+               {2: record[2] + 1}, {own + 1: 1}, {21: rng.choice((16, 255))}]
+    if n < SITES:
+        choices.append({4 + 2 * rng.randrange(n, SITES) + rng.randrange(2): rng.randrange(1, BYTE)})
+    if record[0] == rules.SET:
+        choices.append({22: 0, 23: 0})
+    else:
+        choices.append({rng.randrange(20, RECORD): rng.randrange(1, BYTE)})
+    return altered(record, rng.choice(choices))
+
+
+def lowered(rng, record):
+    """The record as if its author had seen less of another site."""
+    others = [s for s in range(SITES) if s != record[1] and record[4 + 2 * s] > 0]
+    if not others:
+        return record
+    at = 4 + 2 * rng.choice(others)
+    return altered(record, {at: rng.randrange(record[at])})
+
+
+def astray(rng, record):
+    """The record as a Set of what is no Create that it has seen: another site, itself, a later edit, a Set."""
+    target = rng.choice(((250, 1), (record[1], record[2]), (record[20], record[22] + 1), (record[20], 200),
+                         (rng.randrange(SITES), rng.randrange(1, 9))))
+    return altered(record, {0: rules.SET, 20: target[0], 22: target[1] or 1})
+
+
+def late(rng, t):
+    """A Set by a site of which no edit is held, and which has seen a box and nothing since: it disputes what others
+    set there. None where these sound tables have no such site, or no Sets."""
+    edits = sound_edits(t)
+    silent = [s for s in range(t.sites) if t.held[s] == 0]
+    sets = [e for e in edits if e.kind == rules.SET]
+    if not silent or not sets:
+        return None
+    site, other = rng.choice(silent), rng.choice(sets)
+    create = next(e for e in edits if rules.name(e) == other.target)
+    vector = [1 if s == site else seen for s, seen in enumerate(create.vector)]
+    return stored_record(rules.SET, site, vector, other.target, other.key, rng.randrange(BYTE))
+
+
+def tries(rng, n, held, coming):
+    """Records that may arrive when these are held and these are to come; most are refused."""
+    one = coming[0] if coming else held[-1] if held else bytes(RECORD)
+    out = [one[:-1], one + b"\0", b"", rng.randbytes(RECORD), malformed(rng, n, one), lowered(rng, one),
+           lowered(rng, one), astray(rng, one), rng.choice(coming or [one]), rng.choice(held or [one])]
+    return rng.sample(out, 3)
+
+
+def room(rng, kind, size):
+    """An output of random bytes and a start in it, with or without room for so many bytes."""
+    start, behind = rng.randrange(40), rng.randrange(1, 40)
+    if kind in ("just fits", "longer", "one byte short"):
+        length = start + size + {"just fits": 0, "longer": behind, "one byte short": -1}[kind]
+    else:
+        length = rng.choice((0, behind, size + behind))
+        start = {"start at the end": length, "start past the end": length + behind, "largest start": LARGEST,
+                 "start that would wrap": LARGEST + 1 - min(size, 1 + start)}[kind]
+    return rng.randbytes(length), start
