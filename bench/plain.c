@@ -21,7 +21,7 @@ static unsigned insert_group(uint64_t *s, unsigned n, uint64_t g) {
     unsigned i = n;
     while (i > 0 && s[i - 1] > g) i--;
     if (i > 0 && s[i - 1] == g) return n;
-    memmove(s + i + 1, s + i, (n - i) * sizeof *s);
+    for (unsigned j = n; j > i; j--) s[j] = s[j - 1];
     s[i] = g;
     return n + 1;
 }
