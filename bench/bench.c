@@ -139,6 +139,7 @@ int main(void) {
         printf("the drawing of %s is not as it should be\n", scenes[i].file.name);
         return 1;
     }
+    compare_objects();
     compare_random(DRAWINGS, ARRIVALS);
     printf("Every answer, table and output of both implementations is the same.\n\n");
     printf("%-22s %-24s %12s %12s %8s\n", "call", "drawing", "proved, us", "plain, us", "ratio");

@@ -189,11 +189,12 @@ static void compare_wrong_arrival(struct drawing *d, const struct file *f, const
     }
 }
 
-/* The next edit of a random site: a Create, or a Set on a random Create, seen or not. */
+/* The next edit of a random site: a Create, or a Set on a random Create, seen or not, or on itself. */
 static const uint8_t *make_random(struct file *f, unsigned site) {
     if (random_below(4) == 0) file_sync(f, site, random_below(f->sites));
     if (random_below(8) == 0) file_sync_all(f);
     if (f->records == 0 || random_below(8) == 0) return file_create(f, site);
+    if (random_below(16) == 0) return file_set(f, site, site, f->vectors[site][site] + 1u, 0, 0);
     const uint8_t *a = f->bytes + random_below(f->records) * SPIRESLATE_RECORD;
     if (a[0] != 1) a = f->bytes;
     return file_set(f, site, a[1], a[2] + 256u * a[3], random_below(3), random_below(3));
@@ -224,6 +225,19 @@ static void compare_drawing(unsigned sites, unsigned arrivals) {
     size_t length = (size_t)d.counters.records * SPIRESLATE_RECORD + SPIRESLATE_TRAILER;
     must(compare_read(&e, output_b, length) == SPIRESLATE_DONE, "a written drawing is not read");
     must_same(&d, &e, "a drawing and its block");
+}
+
+void compare_objects(void) {
+    enum { OBJECTS = 64 };
+    static struct drawing d;
+    static struct file f;
+    must(compare_open(&d, 1) == SPIRESLATE_DONE, "a drawing is not opened");
+    file_open(&f, "objects", 1);
+    for (unsigned o = 0; o < OBJECTS; o++)
+        must(compare_arrive(&d, file_create(&f, 0), SPIRESLATE_RECORD) == SPIRESLATE_DONE, "a Create is refused");
+    must(compare_arrive(&d, file_create(&f, 0), SPIRESLATE_RECORD) == SPIRESLATE_FULL, "an object more is taken");
+    file_close(&f);
+    must(compare_read(&d, f.bytes, f.length) == SPIRESLATE_FULL, "an object more is read");
 }
 
 void compare_random(unsigned drawings, unsigned arrivals) {
