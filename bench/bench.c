@@ -120,6 +120,12 @@ static double measure(const char *call, task *t, struct scene *s) {
     return best_a / best_b;
 }
 
+/* The name of a drawing, and line 0 of its list. */
+static void print_drawing(const struct scene *s) {
+    struct spireslate_write_answer w = plain.line(s->whole.counters, TABLES(&s->whole), 0, output, sizeof output, 0);
+    printf("%-24s %.*s", s->file.name, (int)w.bytes, (const char *)output);
+}
+
 static const struct {
     const char *name;
     task *task;
@@ -141,8 +147,9 @@ int main(void) {
     }
     compare_objects();
     compare_random(DRAWINGS, ARRIVALS);
-    printf("Every answer, table and output of both implementations is the same.\n\n");
-    printf("%-22s %-24s %12s %12s %8s\n", "call", "drawing", "proved, us", "plain, us", "ratio");
+    printf("Every answer, table and output of both implementations is the same. The drawings:\n\n");
+    for (unsigned i = 0; i < FILES; i++) print_drawing(&scenes[i]);
+    printf("\n%-22s %-24s %12s %12s %8s\n", "call", "drawing", "proved, us", "plain, us", "ratio");
     for (unsigned t = 0; t < sizeof tasks / sizeof *tasks; t++) {
         for (unsigned i = 0; i < FILES; i++, lines++)
             if (measure(tasks[t].name, tasks[t].task, &scenes[i]) > BAR) above++;

@@ -73,13 +73,13 @@ void file_close(struct file *f) {
 }
 
 void make_many(struct file *f) {
-    enum { OBJECTS = 64, ROUNDS = 3, KEYS = 4 };
+    enum { OBJECTS = 64, ROUNDS = 3, KEYS = 2 };
     file_open(f, "256 records, 64 objects", SITES);
     for (unsigned o = 0; o < OBJECTS; o++) file_create(f, o % SITES);
     file_sync_all(f);
     for (unsigned i = 0; i < ROUNDS * OBJECTS; i++) {
         unsigned site = random_below(SITES), o = i % OBJECTS;
-        if (random_below(2) == 0) file_sync(f, site, random_below(SITES));
+        if (random_below(4) == 0) file_sync(f, site, random_below(SITES));
         file_set(f, site, o % SITES, o / SITES + 1, random_below(KEYS), random_value());
     }
     file_close(f);
