@@ -1,0 +1,245 @@
+/* The comparison: every call is made of both implementations on equal drawings and outputs, and then answers, drawings
+   and outputs must be equal. Outputs are never cleared, so that a byte that only one of the two writes shows. */
+#include "compare.h"
+
+#include <stdio.h>
+#include <stdlib.h>
+#include <string.h>
+
+#include "calls.h"
+
+enum { DAMAGES = 64, MARGIN = 64 };
+
+static uint8_t output_a[SPIRESLATE_LIST + MARGIN], output_b[SPIRESLATE_LIST + MARGIN];
+
+static void must(int same, const char *what) {
+    if (same) return;
+    printf("the two implementations differ: %s\n", what);
+    exit(1);
+}
+
+int is_same_drawing(const struct drawing *a, const struct drawing *b) {
+    const struct spireslate_counters *c = &a->counters, *d = &b->counters;
+    return c->sites == d->sites && c->records == d->records && c->objects == d->objects &&
+           memcmp(c->held, d->held, sizeof c->held) == 0 && memcmp(a->records, b->records, sizeof a->records) == 0 &&
+           memcmp(a->objects, b->objects, sizeof a->objects) == 0 &&
+           memcmp(a->groups, b->groups, sizeof a->groups) == 0;
+}
+
+static void must_same(const struct drawing *a, const struct drawing *b, const char *what) {
+    must(is_same_drawing(a, b), what);
+}
+
+static int must_write(struct spireslate_write_answer a, struct spireslate_write_answer b, size_t length,
+                      const char *what) {
+    must(a.number == b.number && a.bytes == b.bytes && memcmp(output_a, output_b, length) == 0, what);
+    return a.number;
+}
+
+static int compare_write(const struct drawing *d, size_t length, size_t start) {
+    return must_write(proved.write(d->counters, TABLES(d), output_a, length, start),
+                      plain.write(d->counters, TABLES(d), output_b, length, start), SPIRESLATE_BLOCK + MARGIN,
+                      "writing");
+}
+
+static int compare_line(const struct drawing *d, size_t line, size_t length, size_t start) {
+    return must_write(proved.line(d->counters, TABLES(d), line, output_a, length, start),
+                      plain.line(d->counters, TABLES(d), line, output_b, length, start), SPIRESLATE_LINE + MARGIN,
+                      "a line");
+}
+
+static int compare_list(const struct drawing *d, size_t length, size_t start) {
+    return must_write(proved.list(d->counters, TABLES(d), output_a, length, start),
+                      plain.list(d->counters, TABLES(d), output_b, length, start), sizeof output_a, "the list");
+}
+
+static void compare_check(const struct drawing *d) {
+    must(proved.check(d->counters, TABLES(d)) == plain.check(d->counters, TABLES(d)), "the check");
+}
+
+/* Everything that is asked of a drawing, with room and without. */
+static void compare_views(const struct drawing *d) {
+    size_t block = (size_t)d->counters.records * SPIRESLATE_RECORD + SPIRESLATE_TRAILER, start = random_below(MARGIN);
+    compare_check(d);
+    compare_write(d, start + block, start);
+    compare_write(d, start + block - 1, start);
+    compare_write(d, 0, start);
+    compare_list(d, SPIRESLATE_LIST + start, start);
+    compare_list(d, SPIRESLATE_LIST + start - 1, start);
+    compare_line(d, 1, 16, SIZE_MAX);
+    for (size_t line = 0; compare_line(d, line, SPIRESLATE_LINE + start, start) == SPIRESLATE_DONE; line++)
+        compare_line(d, line, 20 + random_below(40), 0);
+}
+
+static int compare_arrive(struct drawing *d, const uint8_t *record, size_t length) {
+    static struct drawing e;
+    e = *d;
+    int a = proved.arrive(&d->counters, TABLES(d), record, length);
+    int b = plain.arrive(&e.counters, TABLES(&e), record, length);
+    must(a == b, "the answer to an arrival");
+    must_same(d, &e, "the drawing after an arrival");
+    return a;
+}
+
+static int compare_read(struct drawing *d, const uint8_t *bytes, size_t length) {
+    static struct drawing e;
+    e = *d;
+    struct spireslate_file_answer a = proved.read(&d->counters, TABLES(d), bytes, length);
+    struct spireslate_file_answer b = plain.read(&e.counters, TABLES(&e), bytes, length);
+    must(a.number == b.number && a.index == b.index, "the answer to a file");
+    must_same(d, &e, "the drawing after a file");
+    return a.number;
+}
+
+static int compare_open(struct drawing *d, unsigned n) {
+    static struct drawing e;
+    e = *d;
+    int a = proved.open(&d->counters, TABLES(d), (uint8_t)n);
+    int b = plain.open(&e.counters, TABLES(&e), (uint8_t)n);
+    must(a == b, "the answer to opening");
+    must_same(d, &e, "the drawing after opening");
+    return a;
+}
+
+void compare_file(const struct file *f) {
+    static struct drawing d, e;
+    must(compare_read(&d, f->bytes, f->length) == SPIRESLATE_DONE, "a file of the benchmark is refused");
+    compare_views(&d);
+    must(compare_open(&e, f->sites) == SPIRESLATE_DONE, "a drawing is not opened");
+    for (unsigned i = 0; i < f->records; i++)
+        must(compare_arrive(&e, f->bytes + i * SPIRESLATE_RECORD, SPIRESLATE_RECORD) == SPIRESLATE_DONE,
+             "an edit of the benchmark is refused");
+    must_same(&d, &e, "a file and its records one by one");
+    for (unsigned i = 0; i < DAMAGES; i++) {
+        uint8_t bytes[SPIRESLATE_BLOCK];
+        memcpy(bytes, f->bytes, f->length);
+        bytes[random_below((unsigned)f->length)] = (uint8_t)random_below(i % 2 == 0 ? 256 : 4);
+        compare_read(&d, bytes, f->length - (i % 8 == 0 ? random_below((unsigned)f->length + 1) : 0));
+    }
+}
+
+/* Puts sound groups, which the records do not give, in the row of an object. */
+static void put_untrue_row(struct drawing *d, unsigned o) {
+    enum { GROUPS = 32 };
+    unsigned sets = d->objects[3 * o + 1], many = 1 + random_below(GROUPS), n = 0;
+    uint64_t *row = d->groups + (size_t)o * GROUPS, below = sets == 64 ? UINT64_MAX : (UINT64_C(1) << sets) - 1;
+    memset(row, 0, GROUPS * sizeof *row);
+    for (unsigned tries = 0; tries < many; tries++) {
+        uint64_t g = ((uint64_t)random_value() << 32 | random_value()) & random_value() & below;
+        unsigned i = n;
+        while (i > 0 && row[i - 1] > g) i--;
+        if (i > 0 && row[i - 1] == g) continue;
+        memmove(row + i + 1, row + i, (n++ - i) * sizeof *row);
+        row[i] = g;
+    }
+    d->objects[3 * o + 2] = (uint16_t)n;
+}
+
+/* Changes something in a drawing, most often so that it is no longer sound. */
+static void damage(struct drawing *d) {
+    struct spireslate_counters *c = &d->counters;
+    unsigned o = random_below(c->objects + 1u), bit = random_below(8);
+    switch (random_below(8)) {
+    case 0: c->held[random_below(SPIRESLATE_SITES)] ^= (uint16_t)(1u << bit); break;
+    case 1: c->records ^= (uint16_t)(1u << bit); break;
+    case 2: c->objects ^= (uint16_t)(1u << bit); break;
+    case 3: c->sites ^= (uint8_t)(1u << bit); break;
+    case 4:
+        d->records[random_below((c->records + 1u) * SPIRESLATE_RECORD) % SPIRESLATE_RECORDS_LENGTH] ^=
+            (uint8_t)(1u << bit);
+        break;
+    case 5: d->objects[(3 * o + random_below(3)) % SPIRESLATE_OBJECTS_LENGTH] ^= (uint16_t)(1u << bit); break;
+    case 6: d->groups[(32 * o + random_below(32)) % SPIRESLATE_GROUPS_LENGTH] ^= UINT64_C(1) << bit; break;
+    default: if (o < c->objects) put_untrue_row(d, o);
+    }
+}
+
+/* The calls on tables one element short. */
+static void compare_lengths(const struct drawing *given, const uint8_t *record) {
+    static struct drawing d;
+    size_t r = SPIRESLATE_RECORDS_LENGTH - 1, o = SPIRESLATE_OBJECTS_LENGTH, g = SPIRESLATE_GROUPS_LENGTH;
+    const struct calls *both[2] = {&proved, &plain};
+    for (unsigned i = 0; i < 2; i++) {
+        d = *given;
+        must(both[i]->open(&d.counters, d.records, r, d.objects, o, d.groups, g, 3) == SPIRESLATE_UNSOUND, "lengths");
+        must(both[i]->arrive(&d.counters, d.records, r, d.objects, o, d.groups, g, record, SPIRESLATE_RECORD) ==
+                 SPIRESLATE_UNSOUND,
+             "lengths");
+        must(both[i]->read(&d.counters, d.records, r, d.objects, o, d.groups, g, record, 0).number ==
+                 SPIRESLATE_UNSOUND,
+             "lengths");
+        must(both[i]->check(d.counters, d.records, r, d.objects, o, d.groups, g) == SPIRESLATE_UNSOUND, "lengths");
+        must(both[i]->line(d.counters, d.records, r, d.objects, o, d.groups, g, 0, output_a, 0, 0).number ==
+                 SPIRESLATE_UNSOUND,
+             "lengths");
+        must_same(&d, given, "a drawing of a wrong length");
+    }
+}
+
+/* Hands in a record with one byte changed, or of another length, or one that was handed in before. */
+static void compare_wrong_arrival(struct drawing *d, const struct file *f, const uint8_t *record) {
+    uint8_t wrong[2 * SPIRESLATE_RECORD] = {0};
+    memcpy(wrong, record, SPIRESLATE_RECORD);
+    switch (random_below(4)) {
+    case 0: compare_arrive(d, wrong, random_below(sizeof wrong)); break;
+    case 1: compare_arrive(d, f->bytes + random_below(f->records) * SPIRESLATE_RECORD, SPIRESLATE_RECORD); break;
+    default:
+        wrong[random_below(SPIRESLATE_RECORD)] = (uint8_t)random_below(random_below(2) == 0 ? 256 : 4);
+        compare_arrive(d, wrong, SPIRESLATE_RECORD);
+    }
+}
+
+/* The next edit of a random site: a Create, or a Set on a random Create, seen or not, or on itself. */
+static const uint8_t *make_random(struct file *f, unsigned site) {
+    if (random_below(4) == 0) file_sync(f, site, random_below(f->sites));
+    if (random_below(8) == 0) file_sync_all(f);
+    if (f->records == 0 || random_below(8) == 0) return file_create(f, site);
+    if (random_below(16) == 0) return file_set(f, site, site, f->vectors[site][site] + 1u, 0, 0);
+    const uint8_t *a = f->bytes + random_below(f->records) * SPIRESLATE_RECORD;
+    if (a[0] != 1) a = f->bytes;
+    return file_set(f, site, a[1], a[2] + 256u * a[3], random_below(3), random_below(3));
+}
+
+/* One random drawing. An edit that is refused is taken back by its site. */
+static void compare_drawing(unsigned sites, unsigned arrivals) {
+    static struct drawing d, e;
+    static struct file f, before;
+    compare_open(&d, 0);
+    compare_open(&d, 9);
+    must(compare_open(&d, sites) == SPIRESLATE_DONE, "a drawing is not opened");
+    file_open(&f, "random", sites);
+    for (unsigned i = 0; i < arrivals && f.records < 256; i++) {
+        before = f;
+        const uint8_t *record = make_random(&f, random_below(sites));
+        e = d;
+        damage(&e);
+        compare_arrive(&e, record, SPIRESLATE_RECORD);
+        if (i % 16 == 0) compare_views(&e);
+        if (i % 16 == 0) compare_lengths(&d, record);
+        if (random_below(2) == 0) compare_wrong_arrival(&d, &f, record);
+        if (compare_arrive(&d, record, SPIRESLATE_RECORD) != SPIRESLATE_DONE) f = before;
+        if (i % 16 == 0) compare_views(&d);
+    }
+    must(compare_write(&d, SPIRESLATE_BLOCK, 0) == SPIRESLATE_DONE, "a drawing is not written");
+    e = d;
+    size_t length = (size_t)d.counters.records * SPIRESLATE_RECORD + SPIRESLATE_TRAILER;
+    must(compare_read(&e, output_b, length) == SPIRESLATE_DONE, "a written drawing is not read");
+    must_same(&d, &e, "a drawing and its block");
+}
+
+void compare_objects(void) {
+    enum { OBJECTS = 64 };
+    static struct drawing d;
+    static struct file f;
+    must(compare_open(&d, 1) == SPIRESLATE_DONE, "a drawing is not opened");
+    file_open(&f, "objects", 1);
+    for (unsigned o = 0; o < OBJECTS; o++)
+        must(compare_arrive(&d, file_create(&f, 0), SPIRESLATE_RECORD) == SPIRESLATE_DONE, "a Create is refused");
+    must(compare_arrive(&d, file_create(&f, 0), SPIRESLATE_RECORD) == SPIRESLATE_FULL, "an object more is taken");
+    file_close(&f);
+    must(compare_read(&d, f.bytes, f.length) == SPIRESLATE_FULL, "an object more is read");
+}
+
+void compare_random(unsigned drawings, unsigned arrivals) {
+    for (unsigned i = 0; i < drawings; i++) compare_drawing(1 + i % SPIRESLATE_SITES, arrivals);
+}

@@ -1,0 +1,108 @@
+/* Edits as laptops would make them, and the files of the benchmark. A site's vector is what it has applied; applying
+   what another site has takes in all that the other had applied, so that no vector is torn. */
+#include "inputs.h"
+
+#include <string.h>
+
+enum { SITES = SPIRESLATE_SITES, AT_VECTOR = 4, AT_TARGET = 20, AT_VALUE = 24 };
+
+static uint64_t random_state = 1;
+
+/* A linear congruential generator modulo 2^64, of which the high bits are used. */
+static uint32_t random_next(void) {
+    random_state = random_state * UINT64_C(6364136223846793005) + UINT64_C(1442695040888963407);
+    return (uint32_t)(random_state >> 32);
+}
+
+unsigned random_below(unsigned n) { return (unsigned)((uint64_t)random_next() * n >> 32); }
+
+uint32_t random_value(void) { return random_next(); }
+
+void file_open(struct file *f, const char *name, unsigned sites) {
+    memset(f, 0, sizeof *f);
+    f->name = name;
+    f->sites = sites;
+}
+
+void file_sync(struct file *f, unsigned to, unsigned from) {
+    for (unsigned s = 0; s < SITES; s++)
+        if (f->vectors[to][s] < f->vectors[from][s]) f->vectors[to][s] = f->vectors[from][s];
+}
+
+void file_sync_all(struct file *f) {
+    for (unsigned s = 0; s < f->sites; s++) file_sync(f, 0, s);
+    for (unsigned s = 0; s < f->sites; s++) file_sync(f, s, 0);
+}
+
+static void put_two(uint8_t *bytes, unsigned n) {
+    bytes[0] = (uint8_t)(n % 256);
+    bytes[1] = (uint8_t)(n / 256);
+}
+
+/* Puts kind, site, sequence number and vector of the next edit of a site. */
+static uint8_t *put_edit(struct file *f, unsigned kind, unsigned site) {
+    uint8_t *record = f->bytes + f->records++ * SPIRESLATE_RECORD;
+    f->vectors[site][site]++;
+    record[0] = (uint8_t)kind;
+    record[1] = (uint8_t)site;
+    put_two(record + 2, f->vectors[site][site]);
+    for (unsigned s = 0; s < SITES; s++) put_two(record + AT_VECTOR + 2 * s, f->vectors[site][s]);
+    return record;
+}
+
+const uint8_t *file_create(struct file *f, unsigned site) { return put_edit(f, 1, site); }
+
+const uint8_t *file_set(struct file *f, unsigned site, unsigned s, unsigned q, unsigned key, uint32_t value) {
+    uint8_t *record = put_edit(f, 2, site);
+    record[AT_TARGET] = (uint8_t)s;
+    record[AT_TARGET + 1] = (uint8_t)key;
+    put_two(record + AT_TARGET + 2, q);
+    put_two(record + AT_VALUE, value % 65536);
+    put_two(record + AT_VALUE + 2, value / 65536);
+    return record;
+}
+
+void file_close(struct file *f) {
+    size_t distance = f->records * SPIRESLATE_RECORD;
+    uint8_t *trailer = f->bytes + distance;
+    memset(trailer, 0, SPIRESLATE_TRAILER);
+    put_two(trailer, f->records);
+    trailer[2] = (uint8_t)f->sites;
+    put_two(trailer + 4, (unsigned)distance);
+    f->length = distance + SPIRESLATE_TRAILER;
+}
+
+void make_many(struct file *f) {
+    enum { OBJECTS = 64, ROUNDS = 3, KEYS = 2 };
+    file_open(f, "256 records, 64 objects", SITES);
+    for (unsigned o = 0; o < OBJECTS; o++) file_create(f, o % SITES);
+    file_sync_all(f);
+    for (unsigned i = 0; i < ROUNDS * OBJECTS; i++) {
+        unsigned site = random_below(SITES), o = i % OBJECTS;
+        if (random_below(4) == 0) file_sync(f, site, random_below(SITES));
+        file_set(f, site, o % SITES, o / SITES + 1, random_below(KEYS), random_value());
+    }
+    file_close(f);
+}
+
+enum { SETS = 64, DISPUTED_KEYS = 5 };
+
+void make_settled(struct file *f) {
+    file_open(f, "64 Sets, 32 versions", SITES);
+    file_create(f, 0);
+    file_sync_all(f);
+    for (unsigned i = 0; i < 2 * DISPUTED_KEYS; i++) file_set(f, 1 + i % 2, 0, 1, i / 2, random_value());
+    for (unsigned i = 2 * DISPUTED_KEYS; i < SETS; i++) {
+        file_sync_all(f);
+        file_set(f, i % SITES, 0, 1, random_below(16), random_value());
+    }
+    file_close(f);
+}
+
+void make_disputed(struct file *f) {
+    file_open(f, "64 Sets in dispute", SITES);
+    file_create(f, 0);
+    file_sync_all(f);
+    for (unsigned i = 0; i < SETS; i++) file_set(f, 1 + i % 2, 0, 1, i / 2 % DISPUTED_KEYS, 1000000 + i % 2);
+    file_close(f);
+}

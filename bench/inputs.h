@@ -1,0 +1,52 @@
+/* What the two implementations are compared and timed on: a drawing as a caller keeps it, edits as laptops would make
+   them, and the stored files of the benchmark. */
+#ifndef INPUTS_H
+#define INPUTS_H
+
+#include "spireslate.h"
+
+struct drawing {
+    struct spireslate_counters counters;
+    uint8_t records[SPIRESLATE_RECORDS_LENGTH];
+    uint16_t objects[SPIRESLATE_OBJECTS_LENGTH];
+    uint64_t groups[SPIRESLATE_GROUPS_LENGTH];
+};
+
+#define TABLES(d)                                                                                                    \
+    (d)->records, SPIRESLATE_RECORDS_LENGTH, (d)->objects, SPIRESLATE_OBJECTS_LENGTH, (d)->groups,                   \
+        SPIRESLATE_GROUPS_LENGTH
+
+/* A stored file: records made one after another, in an order in which they may arrive, and behind them a trailer. */
+struct file {
+    const char *name;
+    unsigned sites, records;
+    uint16_t vectors[SPIRESLATE_SITES][SPIRESLATE_SITES]; /* what each site has applied */
+    uint8_t bytes[SPIRESLATE_BLOCK];
+    size_t length;
+};
+
+/* A number below n, of a fixed sequence: every run has the same inputs. */
+unsigned random_below(unsigned n);
+uint32_t random_value(void);
+
+void file_open(struct file *f, const char *name, unsigned sites);
+
+/* Has a site apply all that another has applied. */
+void file_sync(struct file *f, unsigned to, unsigned from);
+void file_sync_all(struct file *f);
+
+/* A Create, or a Set on the Create s.q, made by a site and put behind the others; gives its record. */
+const uint8_t *file_create(struct file *f, unsigned site);
+const uint8_t *file_set(struct file *f, unsigned site, unsigned s, unsigned q, unsigned key, uint32_t value);
+
+/* Puts the trailer behind the records. */
+void file_close(struct file *f);
+
+/* 256 records of 8 sites over 64 objects, which have three Sets each, some of them made without sight of another. */
+void make_many(struct file *f);
+
+/* One object of 64 Sets and 32 versions. Two sites that see nothing of each other set five keys. */
+void make_settled(struct file *f);  /* once each; the other 54 Sets have seen all before them */
+void make_disputed(struct file *f); /* again and again, so that all 64 Sets are in dispute */
+
+#endif
