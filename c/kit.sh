@@ -1,4 +1,4 @@
-# Sourced by ./drawlist, c/run and c/calls: what programs for x86-64 are run under, and how a C program is compiled and
+# Sourced by ./drawlist, c/run, c/calls and bench/run: what programs for x86-64 are run under, and how a C program is compiled and
 # linked with the calls of spireslate.h. What builds or looks for something is called in the repository's folder. What
 # fails says why on standard error.
 
