@@ -1,6 +1,6 @@
-# Sourced by ./drawlist, c/run, c/calls and bench/run: what programs for x86-64 are run under, and how a C program is compiled and
-# linked with the calls of spireslate.h. What builds or looks for something is called in the repository's folder. What
-# fails says why on standard error.
+# Sourced by ./drawlist, c/run, c/calls and bench/run: what programs for x86-64 are run under, and how a C program is
+# compiled and linked with the calls of spireslate.h. What builds or looks for something is called in the repository's
+# folder. What fails says why on standard error.
 
 kit=$(dirname "$(dirname "$(rt doc)")")/on/$(uname -m)/toolchain
 library=target/staticlib/libinterface.a
