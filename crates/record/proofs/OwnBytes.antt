@@ -2,7 +2,7 @@
 -- there whole and the same with zeros after it. Assumes nothing.
 use mathlib.Core.Path.{_≡_, refl, sym, ap, _∙_}
 use mathlib.Core.List.{List, [], _∷_, _++_}
-use Prim.Native.Nat.{ℕ, zero, suc, _+_, _*_, _≤_, _<_}
+use Prim.Native.Nat.{ℕ, zero, suc, _+_, _*_, _<_}
 use native.Mathlib.Omega.{arith}
 use lib.ListN.{length, getD, set, take, drop, replicate, List·getD-eq-default}
 use lib.Seq.{getD-set-same, getD-set-other, getD-take, length-take-le}
@@ -35,7 +35,7 @@ zeros (suc n) t (suc i) = zeros n t i
 pub one-more :
     (s t : List ℕ) (n : ℕ) → n < length s → n < length t → Same s (take n t) →
     Same (set s n (getD t n 0)) (take (n + 1) t)
-one-more s t n l m h i = elim (decLt i n) [ yes k ↦ before k | no k ↦ elim (ℕ-discrete i n) [ yes e ↦ at e | no d ↦ past (omega arith) ] ]
+one-more s t n l m h i = go (decLt i n) (ℕ-discrete i n)
   where
     before : i < n → getD (set s n (getD t n 0)) i 0 ≡ getD (take (n + 1) t) i 0
     before k =
@@ -53,6 +53,11 @@ one-more s t n l m h i = elim (decLt i n) [ yes k ↦ before k | no k ↦ elim (
         ∙ h i
         ∙ List·getD-eq-default (take n t) 0 (omega (arith, length-take-le n t (omega arith)))
         ∙ sym (List·getD-eq-default (take (n + 1) t) 0 (omega (arith, length-take-le (n + 1) t (omega arith))))
+
+    go : Dec (i < n) → Dec (i ≡ n) → getD (set s n (getD t n 0)) i 0 ≡ getD (take (n + 1) t) i 0
+    go (yes k) d = before k
+    go (no k) (yes e) = at e
+    go (no k) (no d) = past (omega arith)
 
 -- ---- read
 

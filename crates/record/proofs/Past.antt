@@ -28,4 +28,10 @@ one-past n i v l = rw (le-leb n i l)
 pub all-past :
     (n i : ℕ) (v : List ℕ) → mostSites ≤ i → (mostSites < i → i ≤ n) → some i (isPast n v) ≡ nonzeroPast n v
 unfolding nonzeroPast
-all-past n i v l h = elim (ℕ-discrete i mostSites) [ yes e ↦ rw e | no d ↦ none-before n i v (h (omega arith)) ∙ sym (none-before n mostSites v (omega (arith, h (omega arith)))) ]
+all-past n i v l h = go (ℕ-discrete i mostSites)
+  where
+    go : Dec (i ≡ mostSites) → some i (isPast n v) ≡ some mostSites (isPast n v)
+    go (yes e) = rw e
+    go (no d) =
+        let k : i ≤ n = h (omega arith) in
+        none-before n i v k ∙ sym (none-before n mostSites v (omega arith))

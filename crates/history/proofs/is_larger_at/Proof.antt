@@ -46,8 +46,9 @@ is-larger-somewhere-requires c κs = search needs
 
 returns : tie.Need-returns Inv-loop μ-loop
 returns c =
-    c .is-larger-somewhere .ensures
-    ∙ ap (λ (a : Edit). largerSomewhere (a .vector) (c .before .before .before .before .before .args .t3)) (c .before .before .decode-at .ensures)
+    let w = c .before .before .before .before .before .args .t3 in
+    let d = c .before .before .decode-at in
+    c .is-larger-somewhere .ensures ∙ ap (λ (a : Edit). largerSomewhere (a .vector) w) (d .ensures)
 
 loop-holds : tie.Need-loop-holds Inv-loop μ-loop
 unfolding some

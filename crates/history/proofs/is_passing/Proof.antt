@@ -28,8 +28,12 @@ returns : tie.Need-returns
 unfolding passesAgainst
 returns c =
     let a = c .before .before .before .before .before .before .args in
+    let i = c in
+    let early = i .before .is-early .ensures in
+    let repeated = i .before .before .is-repeated .ensures in
+    let misfit = i .before .before .before .is-unfit .ensures in
     let k : (unfit (a .sites) (a .e) || repeatedAgainst (a .held) (a .e) || earlyAgainst (a .held) (a .e)) ≡ true
-    = (rw (c .before .is-early .ensures, c .before .before .is-repeated .ensures, c .before .before .before .is-unfit .ensures) at (c .if1 .taken)) in
+    = (rw (early, repeated, misfit) at (i .if1 .taken)) in
     rw k
 
 is-torn-by-latest-requires : tie.Need-is-torn-by-latest-requires
@@ -39,8 +43,12 @@ returns-2 : tie.Need-returns-2
 unfolding passesAgainst
 returns-2 c =
     let a = c .before .before .before .before .before .before .before .before .args in
+    let i = c .before .before in
+    let early = i .before .is-early .ensures in
+    let repeated = i .before .before .is-repeated .ensures in
+    let misfit = i .before .before .before .is-unfit .ensures in
     let k : (unfit (a .sites) (a .e) || repeatedAgainst (a .held) (a .e) || earlyAgainst (a .held) (a .e)) ≡ false
-    = (rw (c .before .before .before .is-early .ensures, c .before .before .before .before .is-repeated .ensures, c .before .before .before .before .before .is-unfit .ensures) at (c .before .before .if1 .left)) in
+    = (rw (early, repeated, misfit) at (i .if1 .left)) in
     let t : tornByLatest (now (a .recs)) (now (a .places)) (a .e) ≡ true
     = (rw (c .before .is-torn-by-latest .ensures) at (c .if2 .taken)) in
     rw (k, t)
@@ -52,8 +60,12 @@ returns-3 : tie.Need-returns-3
 unfolding passesAgainst
 returns-3 c =
     let a = c .before .before .before .before .before .before .before .before .before .before .before .args in
+    let i = c .before .before .before .before .before in
+    let early = i .before .is-early .ensures in
+    let repeated = i .before .before .is-repeated .ensures in
+    let misfit = i .before .before .before .is-unfit .ensures in
     let k : (unfit (a .sites) (a .e) || repeatedAgainst (a .held) (a .e) || earlyAgainst (a .held) (a .e)) ≡ false
-    = (rw (c .before .before .before .before .before .before .is-early .ensures, c .before .before .before .before .before .before .before .is-repeated .ensures, c .before .before .before .before .before .before .before .before .is-unfit .ensures) at (c .before .before .before .before .before .if1 .left)) in
+    = (rw (early, repeated, misfit) at (i .if1 .left)) in
     let t : tornByLatest (now (a .recs)) (now (a .places)) (a .e) ≡ false
     = (rw (c .before .before .before .before .is-torn-by-latest .ensures) at (c .before .before .before .if2 .left)) in
     let s : isSet (a .e) ≡ true = eq-eqb (a .e .kind) setKind (c .before .if3 .taken) in
@@ -64,8 +76,12 @@ returns-4 : tie.Need-returns-4
 unfolding passesAgainst
 returns-4 c =
     let a = c .before .before .before .before .before .before .before .before .before .before .args in
+    let i = c .before .before .before .before in
+    let early = i .before .is-early .ensures in
+    let repeated = i .before .before .is-repeated .ensures in
+    let misfit = i .before .before .before .is-unfit .ensures in
     let k : (unfit (a .sites) (a .e) || repeatedAgainst (a .held) (a .e) || earlyAgainst (a .held) (a .e)) ≡ false
-    = (rw (c .before .before .before .before .before .is-early .ensures, c .before .before .before .before .before .before .is-repeated .ensures, c .before .before .before .before .before .before .before .is-unfit .ensures) at (c .before .before .before .before .if1 .left)) in
+    = (rw (early, repeated, misfit) at (i .if1 .left)) in
     let t : tornByLatest (now (a .recs)) (now (a .places)) (a .e) ≡ false
     = (rw (c .before .before .before .is-torn-by-latest .ensures) at (c .before .before .if2 .left)) in
     let s : isSet (a .e) ≡ false = ne-eqb (a .e .kind) setKind (c .if3 .left) in

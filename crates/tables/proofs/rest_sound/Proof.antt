@@ -19,7 +19,9 @@ drawing-sound-requires : tie.Need-drawing-sound-requires
 drawing-sound-requires c κs =
     let s = c .before .before .before .before .before .before .before .before in
     let (n, m) = few (s .args .c) (s .pre .limits) in
-    (n, m, group-room (now (s .args .records)) (now (s .args .objects)) (now (s .args .groups)) (s .pre .lengths), s .pre .index, s .pre .targets)
+    let a = s .args in
+    let room = group-room (now (a .records)) (now (a .objects)) (now (a .groups)) (s .pre .lengths) in
+    (n, m, room, s .pre .index, s .pre .targets)
 
 unused-zero-requires : tie.Need-unused-zero-requires
 unused-zero-requires c κs =
