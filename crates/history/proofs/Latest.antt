@@ -3,11 +3,12 @@
 use mathlib.Core.Path.{_≡_, refl, ap, sym, _∙_}
 use mathlib.Core.Bool.{Bool, true, false, not, _&&_, _||_}
 use mathlib.Core.List.{List}
-use Prim.Native.Nat.{ℕ, _+_, _≤_, _<_}
+use Prim.Native.Nat.{ℕ, _+_, _-_, _≤_, _<_}
 use native.Mathlib.Omega.{arith}
 use native.Mathlib.Decide.{decLt, ℕ-discrete}
 use lib.Dec.{eqb, leb, ltb}
-use lib.ListN.{length, getD, List·getD-eq-default}
+use lib.ListN.{length, getD, set, List·getD-eq-default}
+use lib.Seq.{getD-set-same, getD-set-other}
 use borrow.Author.Tests.{eqb-false, eq-eqb, ne-eqb, leb-true, le-leb, ltb-true, ltb-false, lt-ltb, not-true}
 use Rattle.ground.specs.Sorted.{any}
 use Rattle.ground.proofs.Bools.{clash, off, same-test, both, and-on}
@@ -34,6 +35,7 @@ use Rattle.history.specs.Index.{
   placeOf,
   Indexed,
   latestSeen,
+  tornBy,
   tornAt,
   tornByLatest,
   targetHeld,
@@ -65,6 +67,13 @@ record Latest (es : List Edit) (e : Edit) (s : ℕ) : Type 0 where
   seen : latestSeen e s ≤ getD (e .vector) s 0
   most : (q : ℕ) → q ≤ getD (e .vector) s 0 → q ≤ countFrom s es → q ≤ latestSeen e s
 
+one-before :
+    (v : List ℕ) (i s n : ℕ) → i ≡ s → getD v s 0 ≡ n + 1 → getD (set v i (getD v i 0 - 1)) s 0 ≡ n
+one-before v i s n y h = elim (decLt s (length v)) [
+  | yes l ↦ rw y (getD-set-same v s (getD v s 0 - 1) 0 l ∙ omega arith)
+  | no l ↦ absurd (omega (arith, List·getD-eq-default v 0 {n = s} (omega arith)))
+]
+
 latest :
     (sites : ℕ) (es : List Edit) (e : Edit) → InTurn sites es e → (s : ℕ) → s < mostSites → Latest es e s
 unfolding latestSeen
@@ -73,11 +82,11 @@ latest sites es e turn s l = go (ℕ-discrete (e .site .0) s)
     go : Dec (e .site .0 ≡ s) → Latest es e s
     go (yes y) =
         let next : getD (e .vector) s 0 ≡ countFrom s es + 1 = rw (← y) (sym (turn .formed .own) ∙ turn .next) in
-        let is : latestSeen e s ≡ countFrom s es
-        = rw (eq-eqb (e .site .0) s y, lt-ltb 0 (getD (e .vector) s 0) (omega arith)) (omega arith) in
+        let is : latestSeen e s ≡ countFrom s es = one-before (e .vector) (e .site .0) s (countFrom s es) y next in
         record { held = omega arith; seen = omega arith; most = λ q a b. omega arith }
     go (no d) =
-        let is : latestSeen e s ≡ getD (e .vector) s 0 = rw (ne-eqb (e .site .0) s d) in
+        let is : latestSeen e s ≡ getD (e .vector) s 0
+        = getD-set-other (e .vector) (e .site .0) s (getD (e .vector) (e .site .0) 0 - 1) 0 (λ y. d (sym y)) in
         let low = turn .others s l (λ y. d (sym y)) in
         record { held = omega arith; seen = omega arith; most = λ q a b. omega arith }
 
@@ -124,7 +133,7 @@ module _
 
     module _ (e : Edit) (turn : InTurn sites (editsOf rs n) e) where
       torn-latest : isTorn (editsOf rs n) e ≡ true → tornByLatest rs ps e ≡ true
-      unfolding isTorn tornByLatest tornAt
+      unfolding isTorn tornByLatest tornBy
       torn-latest h =
           let (i, li, t) = any-edit-at (tears e) rs n h in
           let f = recordAt rs i in
@@ -146,7 +155,7 @@ module _
           (along i p li lp (sym es) (omega arith)) larger)))
 
       latest-torn : tornByLatest rs ps e ≡ true → isTorn (editsOf rs n) e ≡ true
-      unfolding isTorn tornByLatest tornAt
+      unfolding isTorn tornByLatest tornBy
       latest-torn h =
           let (s, low, t) = some-at mostSites (tornAt rs ps e) h in
           let q = latestSeen e s in

@@ -3,10 +3,11 @@
 use Prim.Native.Nat.{ℕ, _+_, _-_, _*_, _<_}
 use mathlib.Core.Path.{_≡_}
 use mathlib.Core.List.{List}
-use mathlib.Core.Bool.{Bool, true, not, _&&_, _||_, cond}
-use lib.ListN.{getD, length}
+use mathlib.Core.Bool.{Bool, true, not, _&&_, _||_}
+use lib.ListN.{getD, set, length}
 use lib.Dec.{eqb, leb, ltb}
 use Rattle.ground.specs.Below.{some}
+use Rattle.record.specs.declared.Site.{Site}
 use Rattle.record.specs.declared.Edit.{Edit}
 use Rattle.record.specs.Layout.{mostSites}
 use Rattle.record.specs.Form.{isCreate, isSet, entryOf, unfit}
@@ -30,17 +31,21 @@ Indexed rs n ps = (p : ℕ) → p < n → placeOf ps (recordAt rs p .site .0) (r
 
 -- ---- 4 and 5 by the index
 
--- the sequence number of the latest edit of site s that e has seen, e itself left out; 0 is none
-unfoldable pub latestSeen : Edit → ℕ → ℕ
-latestSeen e s =
-    let q = getD (e .vector) s 0 in
-    cond (eqb (e .site .0) s && ltb 0 q) (q - 1) q
+-- for each site the sequence number of the latest edit that an edit of site s with the vector v has seen, itself left
+-- out; 0 is none
+abbrev pub seenBefore : List ℕ → Site → List ℕ
+seenBefore v s = set v (s .0) (getD v (s .0) 0 - 1)
 
--- that edit's vector has a larger entry somewhere
-unfoldable pub tornAt : List ℕ → List ℕ → Edit → ℕ → Bool
-tornAt rs ps e s =
-    not (eqb (latestSeen e s) 0)
-    && largerSomewhere (recordAt rs (placeOf ps s (latestSeen e s)) .vector) (e .vector)
+unfoldable pub latestSeen : Edit → ℕ → ℕ
+latestSeen e s = getD (seenBefore (e .vector) (e .site)) s 0
+
+-- there is an edit s.q, and its vector has an entry larger than w's
+unfoldable pub tornBy : List ℕ → List ℕ → List ℕ → ℕ → ℕ → Bool
+tornBy rs ps w s q = not (eqb q 0) && largerSomewhere (recordAt rs (placeOf ps s q) .vector) w
+
+-- the latest edit of site s that e has seen is such
+abbrev pub tornAt : List ℕ → List ℕ → Edit → ℕ → Bool
+tornAt rs ps e s = tornBy rs ps (e .vector) s (latestSeen e s)
 
 unfoldable pub tornByLatest : List ℕ → List ℕ → Edit → Bool
 tornByLatest rs ps e = some mostSites (tornAt rs ps e)

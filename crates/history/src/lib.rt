@@ -16,14 +16,14 @@ use record::Seq;
 use record::Site;
 ghost use mathlib.Core.Path.{_≡_};
 ghost use mathlib.Core.Bool.{true, cond};
-ghost use Prim.Native.Nat.{_+_, _^_, _≤_, _<_};
+ghost use Prim.Native.Nat.{_+_, _-_, _^_, _≤_, _<_};
 ghost use lib.ListN.{length, getD};
 ghost use Rattle.record.specs.Layout.{mostSites};
 ghost use Rattle.history.specs.History.{mostRecords, recordAt, editsOf, isSetOn, setsOn, isTarget};
 ghost use Rattle.history.specs.Answers.{largerSomewhere, tears};
 ghost use Rattle.history.specs.Code.{bump, aheadElsewhere, repeatedAgainst, earlyAgainst};
 ghost use Rattle.history.specs.Code.{markBits, surveyOf, surveyWith, Room};
-ghost use Rattle.history.specs.Index.{placesLength, placeOf, latestSeen, tornAt, tornByLatest};
+ghost use Rattle.history.specs.Index.{placesLength, placeOf, seenBefore, tornBy, tornByLatest};
 ghost use Rattle.history.specs.Index.{targetHeld, passesAgainst, WalkedOver};
 
 // The records held, Creates included, are at most so many.
@@ -226,51 +226,67 @@ pub fn target_place(recs: &[u8], places: &[u16], p: usize) -> u16
     place_at(places, Site(site), Seq(seq))
 }
 
-// The latest edit of site s that e has seen, e itself left out; 0 is none.
-fn latest_seen(e: Edit, s: Site) -> Seq
-    ensures { λ r. ⌜ r .0 ≡ latestSeen e (s .0) ⌝ }
+// The number before q, and 0 before 0.
+fn one_less(q: u16) -> u16
+    ensures { λ r. ⌜ r ≡ q - 1 ⌝ }
 {
-    let v = e.vector;
-    let q = record::entry(v, s);
-    if (e.site.0 == s.0) & (0 < q.0) {
-        Seq(q.0 - 1)
-    } else {
-        q
-    }
+    if 0 < q { q - 1 } else { 0 }
 }
 
-// Whether the vector of the record in place p has an entry larger than w's; the entries are read where they stand.
+// The latest edit of each site that an edit of site s with the vector v has seen, itself left out; 0 is none.
+fn seen_before(v: [u16; SITES], s: Site) -> [u16; SITES]
+    ensures { λ r. ⌜ r ≡ seenBefore v s ⌝ }
+{
+    let mut w = v;
+    let i = s.0 as usize;
+    if i < SITES {
+        w[i] = one_less(w[i]);
+    }
+    w
+}
+
+// Whether the vector of the record in place p has an entry larger than w's. Where all of it is there, the entries are
+// read where they stand, with one test of the bound.
 fn is_larger_at(recs: &[u8], p: u16, w: [u16; SITES]) -> bool
     ensures { λ r. ⌜ r ≡ largerSomewhere (recordAt (now (recs .entry)) p .vector) w ⌝ }
 {
     let at = p as usize * RECORD + AT_VECTOR;
+    if recs.len() < at + 2 * SITES {
+        let a = decode_at(recs, p as usize);
+        let v = a.vector;
+        return is_larger_somewhere(v, w);
+    }
     let mut found = false;
     let mut s: usize = 0;
     while s < SITES {
-        found = found | (w[s] < record::two_at(recs, at + 2 * s));
+        found = found | (w[s] < record::pair_at(recs, at + 2 * s));
         s += 1;
     }
     found
 }
 
-// Whether the latest edit of site s that e has seen has a vector with a larger entry somewhere.
-fn is_torn_at(recs: &[u8], places: &[u16], e: Edit, s: Site) -> bool
-    ensures { λ r. ⌜ r ≡ tornAt (now (recs .entry)) (now (places .entry)) e (s .0) ⌝ }
+// Whether there is an edit s.q, and its vector has an entry larger than w's.
+fn is_torn_at(recs: &[u8], places: &[u16], w: [u16; SITES], s: Site, q: Seq) -> bool
+    ensures { λ r. ⌜ r ≡ tornBy (now (recs .entry)) (now (places .entry)) w (s .0) (q .0) ⌝ }
 {
-    let w = e.vector;
-    let q = latest_seen(e, s);
+    if q.0 == 0 {
+        return false;
+    }
     let p = place_at(places, s, q);
-    (q.0 != 0) & is_larger_at(recs, p, w)
+    is_larger_at(recs, p, w)
 }
 
 // Whether answer 4 is given to the edit, by the latest edit of each site that it has seen.
 fn is_torn_by_latest(recs: &[u8], places: &[u16], e: Edit) -> bool
     ensures { λ r. ⌜ r ≡ tornByLatest (now (recs .entry)) (now (places .entry)) e ⌝ }
 {
+    let w = e.vector;
+    let seen = seen_before(w, e.site);
     let mut found = false;
     let mut s: u8 = 0;
     while (s as usize) < SITES {
-        found = found | is_torn_at(recs, places, e, Site(s));
+        let q = seen[s as usize];
+        found = found | is_torn_at(recs, places, w, Site(s), Seq(q));
         s += 1;
     }
     found
@@ -288,16 +304,21 @@ fn is_target_held(held: [u16; SITES], recs: &[u8], places: &[u16], e: Edit) -> b
     (0 < e.tseq.0) & (e.tseq.0 <= seen.0) & (e.tseq.0 <= have.0) & (kind == CREATE)
 }
 
-// Whether none of answers 1 to 5 is given to the edit, by the counts and the index of the records before it.
+// Whether none of answers 1 to 5 is given to the edit, by the counts and the index of the records before it. What costs
+// more is tested where the rest has passed.
 fn is_passing(sites: u8, held: [u16; SITES], recs: &[u8], places: &[u16], e: Edit) -> bool
     ensures { λ r. ⌜ r ≡ passesAgainst sites held (now (recs .entry)) (now (places .entry)) e ⌝ }
 {
-    let astray = (e.kind == SET) & !is_target_held(held, recs, places, e);
-    !(record::is_unfit(sites, e)
-        | is_repeated(held, e)
-        | is_early(held, e)
-        | is_torn_by_latest(recs, places, e)
-        | astray)
+    if record::is_unfit(sites, e) | is_repeated(held, e) | is_early(held, e) {
+        return false;
+    }
+    if is_torn_by_latest(recs, places, e) {
+        return false;
+    }
+    if e.kind == SET {
+        return is_target_held(held, recs, places, e);
+    }
+    true
 }
 
 // The first n records in turn: whether each passes 1 to 5 after those before it, and then their counts and index.

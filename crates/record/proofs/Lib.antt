@@ -1,4 +1,6 @@
 pub mod Bytes
+pub mod OwnBytes
+pub mod Past
 pub mod RoundTrip
 pub mod WellFormed
 pub mod Agree

@@ -1,9 +1,9 @@
 // The edit record of document 01: sites and sequence numbers, 28 bytes to an edit and back, and answer 1.
 ghost use mathlib.Core.Path.{_≡_};
-ghost use Prim.Native.Nat.{_<_, _^_};
-ghost use lib.ListN.{getD, drop};
-ghost use Rattle.record.specs.Layout.{mostSites, vectorAt};
-ghost use Rattle.record.specs.Record.{two, four, counts, decodeOf, encodeOf};
+ghost use Prim.Native.Nat.{ℕ, _+_, _*_, _≤_, _<_, _^_};
+ghost use lib.ListN.{length, getD, drop};
+ghost use Rattle.record.specs.Layout.{mostSites, vectorAt, recordLength};
+ghost use Rattle.record.specs.Record.{two, counts, decodeOf, encodeOf};
 ghost use Rattle.record.specs.Form.{entryOf, nonzeroPast, lastEightZero, unfit, malformed};
 
 // The sites that a drawing has at most: the entries of a vector.
@@ -69,41 +69,77 @@ pub fn two_at(s: &[u8], i: usize) -> u16
     byte_at(s, i) as u16 + byte_at(s, i + 1) as u16 * 256
 }
 
-// The number in the four bytes from i on.
-fn four_at(s: &[u8], i: usize) -> u32
-    requires { ⌜ i < 2 ^ 32 ⌝ }
-    ensures { λ r. ⌜ r ≡ four (now (s .entry)) i ⌝ }
+// The number in two bytes.
+fn both(low: u8, high: u8) -> u16
+    ensures { λ r. ⌜ r ≡ low + high * 256 ⌝ }
 {
-    two_at(s, i) as u32 + two_at(s, i + 2) as u32 * 65536
+    low as u16 + high as u16 * 256
 }
 
-// The vector of a record.
+// The number in the two bytes from i on, which are both there.
+pub fn pair_at(s: &[u8], i: usize) -> u16
+    requires { ⌜ i + 1 < length (now s) ⌝ }
+    ensures { λ r. ⌜ r ≡ two (now (s .entry)) i ⌝ }
+{
+    both(s[i], s[i + 1])
+}
+
+// The vector of a record that is there whole.
 fn vector_of(rec: &[u8]) -> [u16; SITES]
+    requires { ⌜ recordLength ≤ length (now rec) ⌝ }
     ensures { λ r. ⌜ r ≡ counts mostSites (drop vectorAt (now (rec .entry))) ⌝ }
 {
     let mut v = [0u16; SITES];
     let mut i: usize = 0;
     while i < SITES {
-        v[i] = two_at(rec, AT_VECTOR + 2 * i);
+        v[i] = pair_at(rec, AT_VECTOR + 2 * i);
         i += 1;
     }
     v
 }
 
-// The edit in the first bytes of rec; a byte past the end counts as 0.
+// The edit in the first bytes of rec, where a record is there whole.
+fn decode_whole(rec: &[u8]) -> Edit
+    requires { ⌜ recordLength ≤ length (now rec) ⌝ }
+    ensures { λ r. ⌜ r ≡ decodeOf (now (rec .entry)) ⌝ }
+{
+    let low = pair_at(rec, AT_VALUE);
+    let high = pair_at(rec, AT_VALUE + 2);
+    Edit {
+        kind: rec[AT_KIND],
+        site: Site(rec[AT_SITE]),
+        seq: Seq(pair_at(rec, AT_SEQ)),
+        vector: vector_of(rec),
+        tsite: Site(rec[AT_TARGET]),
+        key: rec[AT_KEY],
+        tseq: Seq(pair_at(rec, AT_TARGET_SEQ)),
+        value: low as u32 + high as u32 * 65536,
+    }
+}
+
+// The bytes of a record that is not there whole, with zeros after them.
+fn padded(rec: &[u8]) -> [u8; RECORD]
+    requires { ⌜ length (now rec) ≤ recordLength ⌝ }
+    ensures { λ r. ⌜ ((i : ℕ) → getD r i 0 ≡ getD (now (rec .entry)) i 0) ⌝ }
+{
+    let mut whole = [0u8; RECORD];
+    let mut i: usize = 0;
+    while i < rec.len() {
+        whole[i] = rec[i];
+        i += 1;
+    }
+    whole
+}
+
+// The edit in the first bytes of rec; a byte past the end counts as 0. The bound is tested once, not for each byte.
 pub fn decode(rec: &[u8]) -> Edit
     ensures { λ r. ⌜ r ≡ decodeOf (now (rec .entry)) ⌝ }
 {
-    Edit {
-        kind: byte_at(rec, AT_KIND),
-        site: Site(byte_at(rec, AT_SITE)),
-        seq: Seq(two_at(rec, AT_SEQ)),
-        vector: vector_of(rec),
-        tsite: Site(byte_at(rec, AT_TARGET)),
-        key: byte_at(rec, AT_KEY),
-        tseq: Seq(two_at(rec, AT_TARGET_SEQ)),
-        value: four_at(rec, AT_VALUE),
+    if RECORD <= rec.len() {
+        return decode_whole(rec);
     }
+    let whole = padded(rec);
+    decode_whole(&whole)
 }
 
 // The bytes of an edit.
@@ -158,9 +194,9 @@ fn is_nonzero_past(n: u8, v: [u16; SITES]) -> bool
     ensures { λ r. ⌜ r ≡ nonzeroPast n v ⌝ }
 {
     let mut found = false;
-    let mut i: usize = 0;
+    let mut i = n as usize;
     while i < SITES {
-        found = found | ((n as usize <= i) & (v[i] != 0));
+        found = found | (v[i] != 0);
         i += 1;
     }
     found

@@ -1,11 +1,11 @@
 -- The tests of soundness put together. Assumes nothing.
 use mathlib.Core.Path.{_≡_, refl, sym, ap, _∙_}
-use mathlib.Core.Bool.{Bool, true, false, _&&_, _||_, and-assoc, and-true, and-false, or-false}
+use mathlib.Core.Bool.{Bool, true, false, not, _&&_, _||_, and-assoc, and-true, and-false, or-false}
 use mathlib.Core.List.{List}
 use Prim.Native.Nat.{ℕ, _*_, _≤_, _<_}
 use lib.Dec.{eqb, leb, ltb}
 use lib.ListN.{getD, length}
-use borrow.Author.Tests.{leb-true, lt-ltb, le-ltb, le-leb, lt-leb}
+use borrow.Author.Tests.{eqb-true, leb-true, lt-ltb, le-ltb, le-leb, lt-leb, not-false}
 use Rattle.ground.specs.Below.{all}
 use Rattle.ground.proofs.Bools.{both}
 use Rattle.ground.proofs.Below.{all-same}
@@ -18,7 +18,7 @@ use Rattle.history.proofs.History.{target-parts}
 use Rattle.history.proofs.Passed.{target-before}
 use Rattle.group.specs.Row.{mostObjects, mostGroups}
 use Rattle.tables.specs.declared.Counters.{Counters}
-use Rattle.tables.specs.Tables.{Tables, entryLength, heldBy}
+use Rattle.tables.specs.Tables.{Tables, entryLength, heldBy, recordsLength, objectsLength, groupsLength}
 use Rattle.tables.specs.Sound.{
   lengthsRight,
   sitesRight,
@@ -49,7 +49,17 @@ unused-place g i z a b l = rw (le-leb g i l, le-ltb i g l) (or-false z)
 pub used-place : (g i : ℕ) (z a b : Bool) → i < g → (leb g i && z || ltb i g && a && b) ≡ (a && b)
 used-place g i z a b l = rw (lt-leb g i l, lt-ltb i g l)
 
--- ---- the limits
+-- ---- the lengths and the limits
+
+pub group-room : (rs os gs : List ℕ) → lengthsRight rs os gs ≡ true → length gs ≡ groupsLength
+group-room rs os gs h =
+    eqb-true (length gs) groupsLength
+    (both (eqb (length rs) recordsLength && eqb (length os) objectsLength) (eqb (length gs) groupsLength) h .1)
+
+pub few-groups : (g : ℕ) → not (leb 1 g && leb g mostGroups) ≡ false → g ≤ mostGroups
+few-groups g h =
+    let t = not-false (leb 1 g && leb g mostGroups) h in
+    leb-true g mostGroups (both (leb 1 g) (leb g mostGroups) t .1)
 
 pub few : (c : Counters) → withinLimits c ≡ true → (c .records ≤ mostRecords) × (c .objects ≤ mostObjects)
 few c h =

@@ -16,6 +16,7 @@ ghost use lib.ListN.{length};
 ghost use Rattle.ground.specs.Below.{all};
 ghost use Rattle.group.specs.Row.{mostObjects, mostGroups};
 ghost use Rattle.history.specs.History.{mostRecords, editsOf, creates};
+ghost use Rattle.tables.specs.Tables.{groupsLength};
 ghost use Rattle.tables.specs.Sound.{slotSound, rowSound, entrySound, objectSound};
 ghost use Rattle.history.specs.Index.{Indexed};
 ghost use Rattle.tables.specs.Passes.{Targeted, Numbered, Aimed, Tallied};
@@ -40,34 +41,38 @@ fn is_below(g: u64, k: u64) -> bool
     if k < SETS as u64 { g >> k == 0 } else { true }
 }
 
-// Whether place i of the row of object o, which has g groups of k Sets, is sound. Most places of a row are unused, and
-// of those only the group itself is read.
+// Whether place i of the row of object o, which has g groups of k Sets, is sound; the place is used.
 fn slot_sound(groups: &[u64], o: usize, k: u64, g: usize, i: usize) -> bool
-    requires { ⌜ (o < mostObjects) × (i < mostGroups) ⌝ }
+    requires { ⌜ (o < mostObjects) × (i < g) × (g ≤ mostGroups) ⌝ }
     ensures { λ r. ⌜ r ≡ slotSound (now (groups .entry)) o k g i ⌝ }
 {
     let at = o * GROUPS + i;
     let here = at64(groups, at);
-    if g <= i {
-        return here == 0;
-    }
     let next = at64(groups, at + 1);
     let below = is_below(here, k);
     below & ((g <= i + 1) | (here < next))
 }
 
-// Whether the row of object o, which has g groups of k Sets, is sound.
+// Whether the row of object o, which has g groups of k Sets, is sound. Most places of a row are unused, and are only
+// held against 0.
 fn row_sound(groups: &[u64], o: usize, k: u64, g: usize) -> bool
-    requires { ⌜ o < mostObjects ⌝ }
+    requires { ⌜ (o < mostObjects) × (length (now groups) ≡ groupsLength) ⌝ }
     ensures { λ r. ⌜ r ≡ rowSound (now (groups .entry)) o k g ⌝ }
 {
+    if !((1 <= g) & (g <= GROUPS)) {
+        return false;
+    }
     let mut sound = true;
     let mut i: usize = 0;
-    while i < GROUPS {
+    while i < g {
         sound = sound & slot_sound(groups, o, k, g, i);
         i += 1;
     }
-    (1 <= g) & (g <= GROUPS) & sound
+    while i < GROUPS {
+        sound = sound & (groups[o * GROUPS + i] == 0);
+        i += 1;
+    }
+    sound
 }
 
 // The Creates among the first n records, numbered.
@@ -136,7 +141,8 @@ fn object_sound(
     tallies: &[u16],
     o: usize,
 ) -> bool
-    requires { ⌜ (o < mostObjects) × Numbered (now recs) n (now numbers) × Tallied (now recs) n (now tallies) ⌝ }
+    requires { ⌜ (o < mostObjects) × (length (now groups) ≡ groupsLength) × Numbered (now recs) n (now numbers)
+        × Tallied (now recs) n (now tallies) ⌝ }
     ensures { λ r. ⌜ r ≡ objectSound (now (recs .entry)) n (now (objects .entry)) (now (groups .entry)) o ⌝ }
 {
     let at = o * ENTRY;
@@ -158,7 +164,8 @@ fn objects_sound(
     tallies: &[u16],
     m: usize,
 ) -> bool
-    requires { ⌜ (m ≤ mostObjects) × Numbered (now recs) n (now numbers) × Tallied (now recs) n (now tallies) ⌝ }
+    requires { ⌜ (m ≤ mostObjects) × (length (now groups) ≡ groupsLength) × Numbered (now recs) n (now numbers)
+        × Tallied (now recs) n (now tallies) ⌝ }
     ensures { λ r. ⌜ r ≡ all m (objectSound (now (recs .entry)) n (now (objects .entry)) (now (groups .entry))) ⌝ }
 {
     let mut sound = true;
@@ -179,7 +186,8 @@ pub fn drawing_sound(
     groups: &[u64],
     m: usize,
 ) -> bool
-    requires { ⌜ (n ≤ mostRecords) × (m ≤ mostObjects) × Indexed (now recs) n (now places) × Targeted (now recs) n ⌝ }
+    requires { ⌜ (n ≤ mostRecords) × (m ≤ mostObjects) × (length (now groups) ≡ groupsLength)
+        × Indexed (now recs) n (now places) × Targeted (now recs) n ⌝ }
     ensures { λ r. ⌜ r ≡ (eqb m (length (creates (editsOf (now (recs .entry)) n)))
         && all m (objectSound (now (recs .entry)) n (now (objects .entry)) (now (groups .entry)))) ⌝ }
 {

@@ -1,6 +1,6 @@
 -- `history::is_larger_at` meets its contract: `found` is what the definition says of the first s entries, as they
 -- stand in the table. Assumes nothing.
-use mathlib.Core.Path.{_≡_, _∙_}
+use mathlib.Core.Path.{_≡_, ap, _∙_}
 use Prim.Native.Nat.{_+_, _*_, _≤_, _-_}
 use native.Mathlib.Numerals.{add-one}
 use native.Mathlib.Omega.{arith}
@@ -10,6 +10,7 @@ use denote.Ref.{now}
 use borrow.Author.Needs.{needs}
 use Rattle.ground.specs.Below.{some}
 use Rattle.ground.proofs.Below.{some-same}
+use Rattle.record.specs.declared.Edit.{Edit}
 use Rattle.record.specs.Layout.{mostSites, vectorAt, recordLength}
 use Rattle.record.specs.Record.{two}
 use Rattle.history.specs.History.{recordAt}
@@ -31,6 +32,24 @@ mul-at c = search needs
 add-at : tie.Need-add-at Inv-loop μ-loop
 add-at c = search needs
 
+mul-if1 : tie.Need-mul-if1 Inv-loop μ-loop
+mul-if1 c = search needs
+
+add-if1 : tie.Need-add-if1 Inv-loop μ-loop
+add-if1 c = search needs
+
+decode-at-requires : tie.Need-decode-at-requires Inv-loop μ-loop
+decode-at-requires c κs = search needs
+
+is-larger-somewhere-requires : tie.Need-is-larger-somewhere-requires Inv-loop μ-loop
+is-larger-somewhere-requires c κs = search needs
+
+returns : tie.Need-returns Inv-loop μ-loop
+returns c =
+    let w = c .before .before .before .before .before .args .t3 in
+    let d = c .before .before .decode-at in
+    c .is-larger-somewhere .ensures ∙ ap (λ (a : Edit). largerSomewhere (a .vector) w) (d .ensures)
+
 loop-holds : tie.Need-loop-holds Inv-loop μ-loop
 unfolding some
 loop-holds c = search needs
@@ -41,14 +60,14 @@ mul-found c = search needs
 array-read-found : tie.Need-array-read-found Inv-loop μ-loop
 array-read-found c = search needs
 
-mul-two-at : tie.Need-mul-two-at Inv-loop μ-loop
-mul-two-at c = search needs
+mul-pair-at : tie.Need-mul-pair-at Inv-loop μ-loop
+mul-pair-at c = search needs
 
-add-two-at : tie.Need-add-two-at Inv-loop μ-loop
-add-two-at c = search needs
+add-pair-at : tie.Need-add-pair-at Inv-loop μ-loop
+add-pair-at c = search needs
 
-two-at-requires : tie.Need-two-at-requires Inv-loop μ-loop
-two-at-requires c κs = search needs
+pair-at-requires : tie.Need-pair-at-requires Inv-loop μ-loop
+pair-at-requires c κs = search needs
 
 add-s : tie.Need-add-s Inv-loop μ-loop
 add-s c = search needs
@@ -58,12 +77,12 @@ loop-less c = search needs
 
 loop-again : tie.Need-loop-again Inv-loop μ-loop
 unfolding some
-loop-again c = (omega arith, rw (add-one, c .before .before .loop .inv .1, c .two-at .ensures))
+loop-again c = (omega arith, rw (add-one, c .before .before .loop .inv .1, c .pair-at .ensures))
 
-returns : tie.Need-returns Inv-loop μ-loop
+returns-2 : tie.Need-returns-2 Inv-loop μ-loop
 unfolding largerSomewhere
-returns c =
-    let a = c .before .before .before .args in
+returns-2 c =
+    let a = c .before .before .before .before .args in
     let rs = now (a .recs) in
     let k : c .before .loop .s ≡ mostSites = omega arith in
     (rw k at (c .before .loop .inv .1))
@@ -79,13 +98,18 @@ is-larger-at-spec =
     μ-loop
     mul-at
     add-at
+    mul-if1
+    add-if1
+    decode-at-requires
+    is-larger-somewhere-requires
+    returns
     loop-holds
     mul-found
     array-read-found
-    mul-two-at
-    add-two-at
-    two-at-requires
+    mul-pair-at
+    add-pair-at
+    pair-at-requires
     add-s
     loop-less
     loop-again
-    returns)
+    returns-2)

@@ -1,45 +1,40 @@
--- `record::decode` meets its contract. Assumes nothing.
+-- `record::decode` meets its contract: a record that is not there whole is its bytes with zeros after them.
+-- Assumes nothing.
+use mathlib.Core.Path.{_∙_}
+use denote.Ref.{now}
 use borrow.Author.Needs.{needs}
+use Rattle.record.proofs.OwnBytes.{decode-same}
 use Rattle.record.proofs.decode.Statement.{statement}
 use Rattle.record.proofs.decode.Tie as tie
 
-byte-at-requires : tie.Need-byte-at-requires
-byte-at-requires c κs = search needs
-
-byte-at-requires-2 : tie.Need-byte-at-requires-2
-byte-at-requires-2 c κs = search needs
-
-two-at-requires : tie.Need-two-at-requires
-two-at-requires c κs = search needs
-
-vector-of-requires : tie.Need-vector-of-requires
-vector-of-requires c κs = search needs
-
-byte-at-requires-3 : tie.Need-byte-at-requires-3
-byte-at-requires-3 c κs = search needs
-
-byte-at-requires-4 : tie.Need-byte-at-requires-4
-byte-at-requires-4 c κs = search needs
-
-two-at-requires-2 : tie.Need-two-at-requires-2
-two-at-requires-2 c κs = search needs
-
-four-at-requires : tie.Need-four-at-requires
-four-at-requires c κs = search needs
+decode-whole-requires : tie.Need-decode-whole-requires
+decode-whole-requires c κs = search needs
 
 returns : tie.Need-returns
-returns c = cc
+returns c = search needs
+
+padded-requires : tie.Need-padded-requires
+padded-requires c κs = search needs
+
+slice-aggregate-decode-whole : tie.Need-slice-aggregate-decode-whole
+slice-aggregate-decode-whole c = search needs
+
+decode-whole-requires-2 : tie.Need-decode-whole-requires-2
+decode-whole-requires-2 c κs = search needs
+
+returns-2 : tie.Need-returns-2
+returns-2 c =
+    let p = c .before .before .padded in
+    c .decode-whole2 .ensures
+    ∙ decode-same (p .result) (now (c .before .before .before .before .before .args .rec)) (p .ensures)
 
 pub decode-spec : {M : Type 1} → statement M
 decode-spec =
     tie.close
     (tie.spec
-    byte-at-requires
-    byte-at-requires-2
-    two-at-requires
-    vector-of-requires
-    byte-at-requires-3
-    byte-at-requires-4
-    two-at-requires-2
-    four-at-requires
-    returns)
+    decode-whole-requires
+    returns
+    padded-requires
+    slice-aggregate-decode-whole
+    decode-whole-requires-2
+    returns-2)

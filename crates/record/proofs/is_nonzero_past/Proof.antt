@@ -1,28 +1,26 @@
--- `record::is_nonzero_past` meets its contract: `found` is what the definition says of the first i entries. Assumes
--- nothing.
-use mathlib.Core.Bool.{not, _&&_}
-use mathlib.Core.Path.{_≡_}
-use Prim.Native.Nat.{_≤_, _-_}
+-- `record::is_nonzero_past` meets its contract: `found` is what the definition says of the first i entries, of
+-- which those before n do not count. Assumes nothing.
+use mathlib.Core.Path.{_≡_, sym, _∙_}
+use Prim.Native.Nat.{_≤_, _<_, _-_}
 use native.Mathlib.Numerals.{add-one}
 use native.Mathlib.Omega.{arith}
-use lib.ListN.{getD}
-use lib.Dec.{eqb, leb}
 use borrow.Author.Needs.{needs}
 use Rattle.ground.specs.Below.{some}
-use Rattle.record.specs.Form.{nonzeroPast}
 use Rattle.record.specs.Layout.{mostSites}
+use Rattle.record.proofs.Past.{isPast, none-before, one-past, all-past}
 use Rattle.record.proofs.is_nonzero_past.Statement.{statement}
 use Rattle.record.proofs.is_nonzero_past.Tie as tie
 
 abbrev Inv-loop : tie.InvT-loop
-Inv-loop n v found₀ i₀ found i = (i ≤ mostSites) × (found ≡ some i (λ j. leb n j && not (eqb (getD v j 0) 0)))
+Inv-loop n v found₀ i₀ found i = (n ≤ i) × (mostSites < i → i ≤ n) × (found ≡ some i (isPast n v))
 
 abbrev μ-loop : tie.MeasureT-loop
 μ-loop n v found₀ i₀ found i = mostSites - i
 
 loop-holds : tie.Need-loop-holds Inv-loop μ-loop
-unfolding some
-loop-holds c = search needs
+loop-holds c =
+    let a = c .args in
+    (omega arith, λ l. omega arith, sym (none-before (a .n) (a .n) (a .t2) (omega arith)))
 
 mul-found : tie.Need-mul-found Inv-loop μ-loop
 mul-found c = search needs
@@ -38,13 +36,19 @@ loop-less c = search needs
 
 loop-again : tie.Need-loop-again Inv-loop μ-loop
 unfolding some
-loop-again c = (omega arith, rw (add-one, c .before .loop .inv .1))
+loop-again c =
+    let a = c .before .before .args in
+    let i = c .before .loop .i in (
+      omega arith,
+      λ l. absurd (omega arith),
+      rw (add-one, c .before .loop .inv .2, one-past (a .n) i (a .t2) (c .before .loop .inv .0)),
+    )
 
 returns : tie.Need-returns Inv-loop μ-loop
-unfolding nonzeroPast
 returns c =
-    let k : c .before .loop .i ≡ mostSites = omega arith in
-    rw k at (c .before .loop .inv .1)
+    let a = c .before .before .args in
+    c .before .loop .inv .2
+    ∙ all-past (a .n) (c .before .loop .i) (a .t2) (omega arith) (c .before .loop .inv .1)
 
 pub is-nonzero-past-spec : {M : Type 1} → statement M
 is-nonzero-past-spec =

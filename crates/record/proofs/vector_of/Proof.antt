@@ -24,14 +24,14 @@ loop-holds : tie.Need-loop-holds Inv-loop μ-loop
 unfolding counts
 loop-holds c = search needs
 
-mul-two-at : tie.Need-mul-two-at Inv-loop μ-loop
-mul-two-at c = search needs
+mul-pair-at : tie.Need-mul-pair-at Inv-loop μ-loop
+mul-pair-at c = search needs
 
-add-two-at : tie.Need-add-two-at Inv-loop μ-loop
-add-two-at c = search needs
+add-pair-at : tie.Need-add-pair-at Inv-loop μ-loop
+add-pair-at c = search needs
 
-two-at-requires : tie.Need-two-at-requires Inv-loop μ-loop
-two-at-requires c κs = search needs
+pair-at-requires : tie.Need-pair-at-requires Inv-loop μ-loop
+pair-at-requires c κs = search needs
 
 mul-v : tie.Need-mul-v Inv-loop μ-loop
 mul-v c = search needs
@@ -51,11 +51,11 @@ loop-again c =
     let i = c .before .before .loop .i in
     let s = now (c .before .before .before .before .args .rec) in
     let l : i < length v = omega arith in
-    let e : c .two-at .result ≡ two (drop vectorAt s) (2 * i) = c .two-at .ensures ∙ sym
+    let e : c .pair-at .result ≡ two (drop vectorAt s) (2 * i) = c .pair-at .ensures ∙ sym
     (two-drop vectorAt s (2 * i)) in (
       omega arith,
       simp length-set (c .before .before .loop .inv .1),
-      rw (add-one, take-suc-set v i (c .two-at .result) l, c .before .before .loop .inv .2, e)
+      rw (add-one, take-suc-set v i (c .pair-at .result) l, c .before .before .loop .inv .2, e)
           (sym (counts-more i (drop vectorAt s))),
     )
 
@@ -72,9 +72,9 @@ vector-of-spec =
     Inv-loop
     μ-loop
     loop-holds
-    mul-two-at
-    add-two-at
-    two-at-requires
+    mul-pair-at
+    add-pair-at
+    pair-at-requires
     mul-v
     array-write-v
     add-i

@@ -2,7 +2,7 @@
 use denote.Ref.{now}
 use borrow.Author.Needs.{needs}
 use Rattle.tables.specs.Tables.{tablesOf}
-use Rattle.tables.proofs.Sound.{few, rest-is}
+use Rattle.tables.proofs.Sound.{few, group-room, rest-is}
 use Rattle.tables.proofs.rest_sound.Statement.{statement}
 use Rattle.tables.proofs.rest_sound.Tie as tie
 
@@ -19,7 +19,9 @@ drawing-sound-requires : tie.Need-drawing-sound-requires
 drawing-sound-requires c κs =
     let s = c .before .before .before .before .before .before .before .before in
     let (n, m) = few (s .args .c) (s .pre .limits) in
-    (n, m, s .pre .index, s .pre .targets)
+    let a = s .args in
+    let room = group-room (now (a .records)) (now (a .objects)) (now (a .groups)) (s .pre .lengths) in
+    (n, m, room, s .pre .index, s .pre .targets)
 
 unused-zero-requires : tie.Need-unused-zero-requires
 unused-zero-requires c κs =

@@ -23,8 +23,8 @@ objects-sound-requires c κs =
     let t = c .before .before .tally-sets in
     let k = c .before .before .before .before .number-creates in
     let s = c .before .before .before .before .before .before .before .before .before in
-    let ts = tallied (now (s .args .recs)) (now (s .args .places)) (s .args .n) (s .pre .2) (s .pre .3) in
-    (s .pre .1, k .ensures .1, ts (t .result) (s .pre .0) (t .ensures))
+    let ts = tallied (now (s .args .recs)) (now (s .args .places)) (s .args .n) (s .pre .3) (s .pre .4) in
+    (s .pre .1, s .pre .2, k .ensures .1, ts (t .result) (s .pre .0) (t .ensures))
 
 cast-result : tie.Need-cast-result
 cast-result c = search needs

@@ -1,4 +1,4 @@
--- `tables::objects::slot_sound` meets its contract: an unused place is only held against 0. Assumes nothing.
+-- `tables::objects::slot_sound` meets its contract: the place is used. Assumes nothing.
 use mathlib.Core.Path.{sym}
 use mathlib.Core.Bool.{_||_}
 use Prim.Native.Nat.{_+_, _*_, _^_}
@@ -6,9 +6,9 @@ use native.Mathlib.Omega.{arith}
 use lib.Dec.{eqb, leb, ltb}
 use lib.ListN.{getD}
 use denote.Ref.{now}
-use borrow.Author.Needs.{needs}
 use Rattle.group.specs.Row.{mostGroups}
-use Rattle.tables.proofs.Sound.{unused-place, used-place}
+use Rattle.tables.proofs.Sound.{used-place}
+use borrow.Author.Needs.{needs}
 use Rattle.tables.proofs.objects.slot_sound.Statement.{statement}
 use Rattle.tables.proofs.objects.slot_sound.Tie as tie
 
@@ -20,16 +20,6 @@ add-at c = search needs
 
 at64-requires : tie.Need-at64-requires
 at64-requires c κs = search needs
-
-returns : tie.Need-returns
-returns c =
-    let a = c .before .before .before .args in
-    let gs = now (a .groups) in
-    let at = a .o * mostGroups + a .i in
-    let here = getD gs at 0 in
-    rw (c .before .at64 .ensures)
-    (sym (unused-place (a .g) (a .i) (eqb here 0) (ltb here (2 ^ a .k))
-    (leb (a .g) (a .i + 1) || ltb here (getD gs (at + 1) 0)) (omega arith)))
 
 add-at64 : tie.Need-add-at64
 add-at64 c = search needs
@@ -43,13 +33,13 @@ is-below-requires c κs = search needs
 add-result : tie.Need-add-result
 add-result c = search needs
 
-returns-2 : tie.Need-returns-2
-returns-2 c =
-    let a = c .before .before .before .before .before .args in
+returns : tie.Need-returns
+returns c =
+    let a = c .before .before .before .before .args in
     let gs = now (a .groups) in
     let at = a .o * mostGroups + a .i in
     let here = getD gs at 0 in
-    rw (c .is-below .ensures, c .before .at642 .ensures, c .before .before .before .at64 .ensures)
+    rw (c .is-below .ensures, c .before .at642 .ensures, c .before .before .at64 .ensures)
     (sym (used-place (a .g) (a .i) (eqb here 0) (ltb here (2 ^ a .k))
     (leb (a .g) (a .i + 1) || ltb here (getD gs (at + 1) 0)) (omega arith)))
 
@@ -60,9 +50,8 @@ slot-sound-spec =
     mul-at
     add-at
     at64-requires
-    returns
     add-at64
     at64-requires-2
     is-below-requires
     add-result
-    returns-2)
+    returns)
