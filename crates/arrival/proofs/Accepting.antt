@@ -11,12 +11,13 @@ use Rattle.record.specs.Layout.{recordLength}
 use Rattle.record.specs.Record.{decodeOf}
 use Rattle.record.specs.Form.{isCreate, isSet}
 use Rattle.history.specs.declared.Surveyed.{Surveyed}
-use Rattle.history.specs.History.{mostRecords, editsOf, setsOn}
-use Rattle.history.specs.Code.{markBits, surveyOf}
+use Rattle.history.specs.History.{mostRecords}
+use Rattle.history.specs.Code.{surveyOf}
 use Rattle.group.specs.Row.{mostObjects}
 use Rattle.tables.specs.Tables.{Tables, Outcome, outcomeOf, tablesOf, heldBy, recordsLength, objectsLength}
 use Rattle.tables.specs.Sound.{sound}
 use Rattle.tables.proofs.Facts.{Sound, sound-at}
+use Rattle.index.specs.Index.{Holds}
 use Rattle.arrival.specs.Arrival.{firstOf, counted, putRecord, putEntry, withCreate, acceptanceOf}
 use Rattle.arrival.specs.Code.{sixBy, sixth, Ready}
 use Rattle.arrival.proofs.Six.{six-are}
@@ -25,12 +26,19 @@ use Rattle.arrival.proofs.Objects.{sets-few}
 use Rattle.arrival.proofs.Outcomes.{create-is, count-room}
 
 module _ (t : Tables) (h : sound t ≡ true) where
-  -- the records may be surveyed for any edit
-  pub surveyable :
-      (e : Edit) →
-      (t .counters .records ≤ mostRecords)
-      × (length (setsOn (e .tsite) (e .tseq) (editsOf (t .records) (t .counters .records))) ≤ markBits)
-  surveyable e = (sound-at t h .few-records, sets-few t (sound-at t h) (e .tsite) (e .tseq))
+  -- the counters are those of the records
+  pub holds : Holds (t .counters) (t .records)
+  holds =
+      let s = sound-at t h in
+      record {
+        few-sites = s .few-sites;
+        few-records = s .few-records;
+        few-objects = s .few-objects;
+        pass = s .pass;
+        held = s .held;
+        objects = s .objects;
+        few-sets = sets-few t s;
+      }
 
   module _ (b : List ℕ) (e : Edit) (de : e ≡ decodeOf b) where
     -- the code's 1 to 6 are the definition's

@@ -18,7 +18,8 @@ use Rattle.group.specs.Row.{mostGroups}
 use Rattle.tables.specs.Tables.{Tables, heldBy, placeAt, setsAt, groupsAt}
 use Rattle.tables.proofs.Facts.{Sound, Row}
 use Rattle.arrival.specs.Arrival.{matesOf, rowOf, groupsAfter}
-use Rattle.arrival.proofs.Objects.{target-object, same-site, same-seq}
+use Rattle.arrival.proofs.Objects.{target-object}
+use Rattle.causal.proofs.Identities.{same-site, same-seq}
 use Rattle.arrival.proofs.Rows.{used-ascending, used-below, used-some}
 
 module _ (t : Tables) (s : Sound t) (e : Edit) (h : any (isTarget e) (heldBy t) ≡ true) where

@@ -27,7 +27,8 @@ use Rattle.tables.proofs.Facts.{Sound, Entry, Row, Object}
 use Rattle.arrival.specs.Arrival.{putEntry, putRecord, withCreate}
 use Rattle.arrival.proofs.Admitted.{Admitted}
 use Rattle.arrival.proofs.Records.{put-here, put-edits-before}
-use Rattle.arrival.proofs.Objects.{same-parts, chosen-none}
+use Rattle.causal.proofs.Identities.{same-parts}
+use Rattle.arrival.proofs.Objects.{chosen-none}
 use Rattle.arrival.proofs.Entries.{object-of, entry-long, entry-past, entry-here, entry-other}
 use Rattle.arrival.proofs.Kept.{
   creates-snoc,

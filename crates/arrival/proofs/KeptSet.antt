@@ -27,7 +27,7 @@ use Rattle.tables.specs.Tables.{Tables, heldBy, placeAt, setsAt, groupsAt, entr
 use Rattle.tables.proofs.Facts.{Sound, Entry, Row, Object}
 use Rattle.arrival.specs.Arrival.{matesOf, rowOf, groupsAfter, putCounts, putRecord, withSet}
 use Rattle.arrival.proofs.Admitted.{Accepted, admitted-target}
-use Rattle.arrival.proofs.Objects.{same-parts}
+use Rattle.causal.proofs.Identities.{same-parts}
 use Rattle.arrival.proofs.Aimed.{
   object-less,
   target,

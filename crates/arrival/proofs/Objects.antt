@@ -20,32 +20,13 @@ use Rattle.record.specs.declared.Seq.{Seq}
 use Rattle.record.specs.declared.Edit.{Edit}
 use Rattle.record.specs.Form.{isCreate, isSet}
 use Rattle.causal.specs.Causal.{sameEdit}
+use Rattle.causal.proofs.Identities.{same-site, same-seq, same-parts}
 use Rattle.history.specs.History.{recordAt, editsOf, creates, isSetOn, setsOn, isTarget, indexOf, objectOf}
-use Rattle.history.proofs.History.{
-  Target,
-  target-parts,
-  any-edit-on,
-  any-edit-at,
-  chosen-more,
-  chosen-grow,
-}
+use Rattle.history.proofs.History.{Target, target-parts, any-edit-on, any-edit-at, chosen-more, create-less}
 use Rattle.history.proofs.Passed.{target-before}
 use Rattle.group.specs.Row.{mostSets}
 use Rattle.tables.specs.Tables.{Tables, placeAt, setsAt, heldBy}
 use Rattle.tables.proofs.Facts.{Sound}
-
--- ---- identities
-
-pub same-site : (s t : Site) → s .0 ≡ t .0 → s ≡ t
-same-site s t h = ap (λ (n : ℕ). record { 0 = n }) h
-
-pub same-seq : (q p : Seq) → q .0 ≡ p .0 → q ≡ p
-same-seq q p h = ap (λ (n : ℕ). record { 0 = n }) h
-
-pub same-parts : (s : Site) (q : Seq) (t : Site) (p : Seq) → sameEdit s q t p ≡ true → (s ≡ t) × (q ≡ p)
-same-parts s q t p h =
-    let (a, b) = both (eqb (s .0) (t .0)) (eqb (q .0) (p .0)) h in
-    (same-site s t (eqb-true (s .0) (t .0) a), same-seq q p (eqb-true (q .0) (p .0) b))
 
 -- ---- the first that passes
 
@@ -63,14 +44,6 @@ index-at f d (a ∷ es) h = go (f a) refl h (index-at f d es)
     go false e h ih = (omega (arith, ih h .0), ih h .1)
 
 -- ---- the Create in place p is the object with as many Creates before it
-
-create-less :
-    (rs : List ℕ) (p n : ℕ) → p < n → isCreate (recordAt rs p) ≡ true →
-    length (creates (editsOf rs p)) < length (creates (editsOf rs n))
-unfolding creates
-create-less rs p n l h =
-    let one : _≡_ {A = ℕ} (cond (isCreate (recordAt rs p)) 1 0) 1 = ap (λ (b : Bool). cond b 1 0) h in
-    omega (arith, chosen-more isCreate rs p, chosen-grow isCreate rs (suc p) n l)
 
 pub create-at :
     (d : Edit) (rs : List ℕ) (n p : ℕ) → p < n → isCreate (recordAt rs p) ≡ true →

@@ -30,7 +30,7 @@ use Rattle.history.proofs.Ranks.{before-ranks}
 use Rattle.tables.specs.Tables.{Tables, heldBy}
 use Rattle.tables.proofs.Facts.{Sound}
 use Rattle.arrival.specs.Truth.{noEdit, trueGroups}
-use Rattle.arrival.proofs.Objects.{same-parts}
+use Rattle.causal.proofs.Identities.{same-parts}
 
 -- ---- the edits by their places
 

@@ -1,2 +1,3 @@
 pub mod Laws
 pub mod Vectors
+pub mod Identities

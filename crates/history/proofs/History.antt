@@ -95,6 +95,15 @@ pub count-few : (s : ℕ) (rs : List ℕ) (n : ℕ) → countFrom s (editsOf rs 
 unfolding countFrom
 count-few s rs n = chosen-few (λ a. eqb (a .site .0) s) rs n
 
+-- a Create in place p counts for every n past it
+pub create-less :
+    (rs : List ℕ) (p n : ℕ) → p < n → isCreate (recordAt rs p) ≡ true →
+    length (creates (editsOf rs p)) < length (creates (editsOf rs n))
+unfolding creates
+create-less rs p n l h =
+    let one : _≡_ {A = ℕ} (cond (isCreate (recordAt rs p)) 1 0) 1 = ap (λ (b : Bool). cond b 1 0) h in
+    omega (arith, chosen-more isCreate rs p, chosen-grow isCreate rs (suc p) n l)
+
 -- ---- the target
 
 -- what a target is made of

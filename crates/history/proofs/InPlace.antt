@@ -1,11 +1,21 @@
--- The kind, the vector and the target of a record, as the bytes where they stand in the table. Assumes nothing.
+-- The fields of a record, as the bytes where they stand in the table. Assumes nothing.
 use mathlib.Core.Path.{_≡_, refl, ap, _∙_}
 use mathlib.Core.List.{List}
 use Prim.Native.Nat.{ℕ, zero, suc, _+_, _*_, _<_}
 use native.Mathlib.Omega.{arith}
 use lib.ListN.{getD, drop}
 use lib.Seq.{getD-drop}
-use Rattle.record.specs.Layout.{mostSites, kindAt, vectorAt, targetAt, targetSeqAt, recordLength}
+use Rattle.record.specs.Layout.{
+  mostSites,
+  kindAt,
+  siteAt,
+  seqAt,
+  vectorAt,
+  targetAt,
+  keyAt,
+  targetSeqAt,
+  recordLength,
+}
 use Rattle.record.specs.Record.{two, counts}
 use Rattle.record.proofs.Bytes.{two-drop}
 use Rattle.history.specs.History.{recordAt}
@@ -19,6 +29,15 @@ counts-at (suc n) s (suc i) l =
 
 pub kind-in-place : (rs : List ℕ) (p : ℕ) → recordAt rs p .kind ≡ getD rs (p * recordLength + kindAt) 0
 kind-in-place rs p = getD-drop (p * recordLength) rs kindAt 0
+
+pub site-in-place : (rs : List ℕ) (p : ℕ) → recordAt rs p .site .0 ≡ getD rs (p * recordLength + siteAt) 0
+site-in-place rs p = getD-drop (p * recordLength) rs siteAt 0
+
+pub seq-in-place : (rs : List ℕ) (p : ℕ) → recordAt rs p .seq .0 ≡ two rs (p * recordLength + seqAt)
+seq-in-place rs p = two-drop (p * recordLength) rs seqAt
+
+pub key-in-place : (rs : List ℕ) (p : ℕ) → recordAt rs p .key ≡ getD rs (p * recordLength + keyAt) 0
+key-in-place rs p = getD-drop (p * recordLength) rs keyAt 0
 
 pub target-in-place : (rs : List ℕ) (p : ℕ) → recordAt rs p .tsite .0 ≡ getD rs (p * recordLength + targetAt) 0
 target-in-place rs p = getD-drop (p * recordLength) rs targetAt 0

@@ -44,6 +44,50 @@ walking-starts sites rs ps long =
       indexed = λ p l. absurd (omega arith);
     }
 
+-- ---- one record more in the index
+
+module _
+    (sites : ℕ)
+    (few : sites ≤ mostSites)
+    (rs : List ℕ)
+    (n : ℕ)
+    (pass : recordsPass sites rs (suc n) ≡ true) where
+  site-low : (p : ℕ) → p < suc n → recordAt rs p .site .0 < mostSites
+  site-low p l = omega (arith, formed-at sites rs (suc n) pass p l .site)
+
+  seq-low : (p : ℕ) → p < suc n → recordAt rs p .seq .0 ≤ suc p
+  seq-low p l = omega (arith, next-at sites rs (suc n) pass p l, count-few (recordAt rs p .site .0) rs p)
+
+  -- the place of the record's edit is one of the index's
+  pub spot : n < mostRecords → recordAt rs n .site .0 * mostRecords + recordAt rs n .seq .0 < placesLength
+  spot room = omega (arith, site-low n (omega arith), seq-low n (omega arith))
+
+  pub indexed-more :
+      (ps : List ℕ) → n < mostRecords → length ps ≡ placesLength → Indexed rs n ps →
+      Indexed rs (suc n) (set ps (recordAt rs n .site .0 * mostRecords + recordAt rs n .seq .0) n)
+  indexed-more ps room entries indexed p l = go (last l)
+    where
+      at : ℕ → ℕ
+      at q = recordAt rs q .site .0 * mostRecords + recordAt rs q .seq .0
+
+      apart : p < n → Dec (recordAt rs p .site .0 ≡ recordAt rs n .site .0) → at p ≡ at n → ⊥
+      apart m (yes y) e = omega (arith, seq-later sites rs (suc n) pass p n m (omega arith) y)
+      apart m (no d) e =
+          omega (
+            arith,
+            seq-low p l,
+            seq-low n (omega arith),
+            formed-at sites rs (suc n) pass p l .seq,
+            formed-at sites rs (suc n) pass n (omega arith) .seq,
+          )
+
+      go : (p < n) ⊎ (p ≡ n) → getD (set ps (at n) n) (at p) 0 ≡ p
+      go (inl m) =
+          getD-set-other ps (at n) (at p) n 0
+          (apart m (ℕ-discrete (recordAt rs p .site .0) (recordAt rs n .site .0)))
+          ∙ indexed p m
+      go (inr e) = rw e (getD-set-same ps (at n) n 0 (omega (arith, spot room)))
+
 -- ---- one record more
 
 module _
@@ -88,39 +132,8 @@ module _
     pass-more =
         and-on (recordsPass sites rs n) (passes sites (editsOf rs n) (recordAt rs n)) (w .pass) (sym decided ∙ next)
 
-    site-low : (p : ℕ) → p < suc n → recordAt rs p .site .0 < mostSites
-    site-low p l = omega (arith, formed-at sites rs (suc n) pass-more p l .site)
-
-    seq-low : (p : ℕ) → p < suc n → recordAt rs p .seq .0 ≤ suc p
-    seq-low p l = omega (arith, next-at sites rs (suc n) pass-more p l, count-few (recordAt rs p .site .0) rs p)
-
-    -- the place of the record's edit is one of the index's
-    pub spot : recordAt rs n .site .0 * mostRecords + recordAt rs n .seq .0 < placesLength
-    spot = omega (arith, site-low n (omega arith), seq-low n (omega arith))
-
-    indexed-more : Indexed rs (suc n) (set ps (recordAt rs n .site .0 * mostRecords + recordAt rs n .seq .0) n)
-    indexed-more p l = go (last l)
-      where
-        at : ℕ → ℕ
-        at q = recordAt rs q .site .0 * mostRecords + recordAt rs q .seq .0
-
-        apart : p < n → Dec (recordAt rs p .site .0 ≡ recordAt rs n .site .0) → at p ≡ at n → ⊥
-        apart m (yes y) e = omega (arith, seq-later sites rs (suc n) pass-more p n m (omega arith) y)
-        apart m (no d) e =
-            omega (
-              arith,
-              seq-low p l,
-              seq-low n (omega arith),
-              formed-at sites rs (suc n) pass-more p l .seq,
-              formed-at sites rs (suc n) pass-more n (omega arith) .seq,
-            )
-
-        go : (p < n) ⊎ (p ≡ n) → getD (set ps (at n) n) (at p) 0 ≡ p
-        go (inl m) =
-            getD-set-other ps (at n) (at p) n 0
-            (apart m (ℕ-discrete (recordAt rs p .site .0) (recordAt rs n .site .0)))
-            ∙ w .indexed p m
-        go (inr e) = rw e (getD-set-same ps (at n) n 0 (let k = w .entries in omega (arith, spot)))
+    pub spot-more : recordAt rs n .site .0 * mostRecords + recordAt rs n .seq .0 < placesLength
+    spot-more = spot sites few rs n pass-more room
 
     pub walking-more :
         Walking sites rs (suc n) (bump held (recordAt rs n .site))
@@ -130,6 +143,6 @@ module _
           pass = pass-more;
           wide = simp length-set (w .wide);
           entries = simp length-set (w .entries);
-          counted = counted-more held rs n (w .wide) (site-low n (omega arith)) (w .counted);
-          indexed = indexed-more;
+          counted = counted-more held rs n (w .wide) (site-low sites few rs n pass-more n (omega arith)) (w .counted);
+          indexed = indexed-more sites few rs n pass-more ps room (w .entries) (w .indexed);
         }

@@ -157,7 +157,7 @@ fn one_if(b: bool) -> usize
 }
 
 // The marks m with bit k, if b holds.
-fn marked_if(b: bool, m: u64, k: usize) -> u64
+pub fn marked_if(b: bool, m: u64, k: usize) -> u64
     requires { ⌜ (m < 2 ^ k) × (b ≡ true → k < markBits) ⌝ }
     ensures { λ r. ⌜ r ≡ m + cond b (2 ^ k) 0 ⌝ }
 {
@@ -207,7 +207,7 @@ pub fn survey(recs: &[u8], n: usize, e: Edit) -> Surveyed
 }
 
 // The place of the edit s.q by the index.
-fn place_at(places: &[u16], s: Site, q: Seq) -> u16
+pub fn place_at(places: &[u16], s: Site, q: Seq) -> u16
     ensures { λ r. ⌜ r ≡ placeOf (now (places .entry)) (s .0) (q .0) ⌝ }
 {
     let at = s.0 as usize * RECORDS + q.0 as usize;
@@ -277,7 +277,7 @@ fn is_torn_at(recs: &[u8], places: &[u16], w: [u16; SITES], s: Site, q: Seq) -> 
 }
 
 // Whether answer 4 is given to the edit, by the latest edit of each site that it has seen.
-fn is_torn_by_latest(recs: &[u8], places: &[u16], e: Edit) -> bool
+pub fn is_torn_by_latest(recs: &[u8], places: &[u16], e: Edit) -> bool
     ensures { λ r. ⌜ r ≡ tornByLatest (now (recs .entry)) (now (places .entry)) e ⌝ }
 {
     let w = e.vector;
@@ -293,7 +293,7 @@ fn is_torn_by_latest(recs: &[u8], places: &[u16], e: Edit) -> bool
 }
 
 // Whether the edit's target was seen, is held, and is a Create.
-fn is_target_held(held: [u16; SITES], recs: &[u8], places: &[u16], e: Edit) -> bool
+pub fn is_target_held(held: [u16; SITES], recs: &[u8], places: &[u16], e: Edit) -> bool
     ensures { λ r. ⌜ r ≡ targetHeld held (now (recs .entry)) (now (places .entry)) e ⌝ }
 {
     let w = e.vector;

@@ -34,7 +34,7 @@ use Rattle.history.specs.History.{creates, isSetOn, setsOn, mostRecords}
 use Rattle.history.specs.Answers.{largerSomewhere, tears}
 use Rattle.group.specs.Row.{mostObjects, mostSets, mostGroups}
 use Rattle.arrival.specs.Truth.{noEdit, trueGroups}
-use Rattle.arrival.proofs.Objects.{same-parts}
+use Rattle.causal.proofs.Identities.{same-parts}
 use Rattle.arrival.proofs.Kept.{creates-snoc, sets-snoc}
 use Rattle.order.specs.Rearranged.{Mem}
 use Rattle.order.specs.Settled.{named, AllAccepted, MayPrecede, Causal, Differ, Apart, Settled}

@@ -32,7 +32,7 @@ use Rattle.history.proofs.History.{Target, target-parts}
 use Rattle.history.proofs.Passed.{InTurn}
 use Rattle.group.specs.Row.{mostSets, mostGroups}
 use Rattle.arrival.specs.Truth.{trueGroups}
-use Rattle.arrival.proofs.Objects.{same-site, same-seq}
+use Rattle.causal.proofs.Identities.{same-site, same-seq}
 use Rattle.order.specs.Rearranged.{Mem}
 use Rattle.order.specs.Settled.{named, AllAccepted, MayPrecede, Causal, Differ, Apart, Settled}
 use Rattle.order.proofs.Members.{here, chosen-more, mem-along, mem-middle, fronts}

@@ -62,6 +62,26 @@ well-formed n e h =
       key = leb-false keys (e .key) key-off;
     }
 
+-- a Create that is no misfit has no target
+pub create-aims-nowhere : (n : ℕ) (e : Edit) → unfit n e ≡ false → isCreate e ≡ true → e .tseq .0 ≡ 0
+unfolding unfit
+create-aims-nowhere n e h create =
+    let rest =
+    not (isCreate e) && not (isSet e)
+    || leb n (e .site .0)
+    || nonzeroPast n (e .vector)
+    || eqb (e .seq .0) 0
+    || not (eqb (e .seq .0) (entryOf (e .vector) (e .site) .0))
+    || leb keys (e .key)
+    || isSet e && eqb (e .tseq .0) 0 in
+    let zeros = lastEightZero e in
+    let (_, last) = neither rest (isCreate e && not zeros) h in
+    let front = eqb (e .tsite .0) 0 && eqb (e .key) 0 in
+    let seq = eqb (e .tseq .0) 0 in
+    let (three, _) = both (front && seq) (eqb (e .value) 0) (not-false zeros (rw create at last)) in
+    let (_, zero) = both front seq three in
+    eqb-true (e .tseq .0) 0 zero
+
 -- ---- the last eight bytes
 
 -- a number is zero where its two digits are

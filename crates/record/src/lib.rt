@@ -19,15 +19,15 @@ pub const SET: u8 = 2;
 // Where each field of a record starts.
 pub const AT_KIND: usize = 0;
 
-const AT_SITE: usize = 1;
+pub const AT_SITE: usize = 1;
 
-const AT_SEQ: usize = 2;
+pub const AT_SEQ: usize = 2;
 
 pub const AT_VECTOR: usize = 4;
 
 pub const AT_TARGET: usize = AT_VECTOR + 2 * SITES;
 
-const AT_KEY: usize = AT_TARGET + 1;
+pub const AT_KEY: usize = AT_TARGET + 1;
 
 pub const AT_TARGET_SEQ: usize = AT_TARGET + 2;
 

@@ -39,6 +39,10 @@ pub opened-sites : (t : Tables) (sites : ℕ) → t ≡ emptyDrawing sites → t
 unfolding emptyDrawing
 opened-sites t sites h = ap (λ (x : Tables). x .counters .sites) h
 
+pub opened-records : (t : Tables) (sites : ℕ) → t ≡ emptyDrawing sites → t .counters .records ≡ 0
+unfolding emptyDrawing
+opened-records t sites h = ap (λ (x : Tables). x .counters .records) h
+
 pub going-start : (sites : ℕ) (rs : List ℕ) (t : Tables) → t ≡ emptyDrawing sites → Going sites rs 0 t
 unfolding replayOf
 going-start sites rs t h = ap (replayed 0 0) h

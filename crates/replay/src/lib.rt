@@ -1,8 +1,11 @@
 // Records taken one after another from an empty drawing, and the separate check of document 01, which holds tables
 // against what their records give.
+use arrival::Arrived;
 use group::GROUPS;
 use group::OBJECTS;
+use history::PLACES;
 use history::RECORDS;
+use index::MEMBERS;
 use record::RECORD;
 use record::SITES;
 use tables::Answer;
@@ -12,10 +15,12 @@ ghost use mathlib.Core.Path.{_≡_};
 ghost use mathlib.Core.Bool.{true};
 ghost use Prim.Native.Nat.{_*_, _≤_};
 ghost use lib.ListN.{length};
-ghost use Rattle.record.specs.Layout.{recordLength};
+ghost use Rattle.record.specs.Layout.{mostSites, recordLength};
 ghost use Rattle.history.specs.History.{mostRecords};
-ghost use Rattle.tables.specs.Tables.{tablesOf, numberOf, emptyDrawing};
-ghost use Rattle.tables.specs.Sound.{lengthsRight, sitesRight, withinLimits};
+ghost use Rattle.tables.specs.Tables.{tablesOf, outcomeOf, numberOf, emptyDrawing};
+ghost use Rattle.tables.specs.Sound.{lengthsRight, sitesRight, withinLimits, sound};
+ghost use Rattle.index.specs.Index.{IndexOf};
+ghost use Rattle.arrival.specs.Arrival.{acceptanceOf};
 ghost use Rattle.replay.specs.Replay.{replayed, replayOf, sameList, sameCounters, givesBack, checkOf};
 
 // The answer to the first refused record and its index, or 0 and 0; and the counters after the records before it.
@@ -25,16 +30,69 @@ pub struct Taken {
     pub counters: Counters,
 }
 
+// Takes one record at tables that are sound, by the index of their records, and puts it into the index if it is taken.
+fn take_next(
+    c: Counters,
+    records: &mut [u8],
+    objects: &mut [u16],
+    groups: &mut [u64],
+    places: &mut [u16],
+    numbers: &mut [u16],
+    counts: &mut [u16],
+    members: &mut [u16],
+    rec: &[u8],
+) -> Arrived
+    requires { ⌜ (sound (tablesOf c (now records) (now objects) (now groups)) ≡ true)
+        × (length (c .held) ≡ mostSites)
+        × IndexOf (now records) (c .records) (now places) (now numbers) (now counts) (now members) ⌝ }
+    ensures { λ r. ⌜ (outcomeOf (numberOf (r .answer))
+        (tablesOf (r .counters) (now (records .exit)) (now (objects .exit)) (now (groups .exit)))
+        ≡ acceptanceOf (tablesOf c (now (records .entry)) (now (objects .entry)) (now (groups .entry)))
+        (now (rec .entry)))
+        × (numberOf (r .answer) ≡ 0 → IndexOf (now (records .exit)) (r .counters .records) (now (places .exit))
+        (now (numbers .exit)) (now (counts .exit)) (now (members .exit))) ⌝ }
+{
+    let a = arrival::accept(
+        c,
+        records,
+        objects,
+        groups,
+        places,
+        numbers,
+        counts,
+        members,
+        rec,
+    );
+    let answer = a.answer;
+    if tables::number(answer) == 0 {
+        index::add(
+            records,
+            c.records as usize,
+            c.objects,
+            places,
+            numbers,
+            counts,
+            members,
+        );
+    }
+    a
+}
+
 // Takes the first n records of recs, one after another, into an empty drawing.
 fn take_records(
     empty: Counters,
     records: &mut [u8],
     objects: &mut [u16],
     groups: &mut [u64],
+    places: &mut [u16],
+    numbers: &mut [u16],
+    counts: &mut [u16],
+    members: &mut [u16],
     recs: &[u8],
     n: usize,
 ) -> Taken
     requires { ⌜ (tablesOf empty (now records) (now objects) (now groups) ≡ emptyDrawing (empty .sites))
+        × IndexOf (now records) (empty .records) (now places) (now numbers) (now counts) (now members)
         × (sitesRight (empty .sites) ≡ true)
         × (n ≤ mostRecords)
         × (n * recordLength ≤ length (now recs)) ⌝ }
@@ -47,7 +105,17 @@ fn take_records(
     while i < n {
         let at = i * RECORD;
         let end = at + RECORD;
-        let a = arrival::accept(c, records, objects, groups, &recs[at..end]);
+        let a = take_next(
+            c,
+            records,
+            objects,
+            groups,
+            places,
+            numbers,
+            counts,
+            members,
+            &recs[at..end],
+        );
         let next = a.counters;
         let answer = a.answer;
         if tables::number(answer) != 0 {
@@ -93,7 +161,22 @@ pub fn replay(
     };
     let opened = tables::open(none, records, objects, groups, sites);
     let empty = opened.counters;
-    take_records(empty, records, objects, groups, recs, n)
+    let mut places = [0u16; PLACES];
+    let mut numbers = [0u16; RECORDS];
+    let mut counts = [0u16; OBJECTS];
+    let mut members = [0u16; MEMBERS];
+    take_records(
+        empty,
+        records,
+        objects,
+        groups,
+        &mut places,
+        &mut numbers,
+        &mut counts,
+        &mut members,
+        recs,
+        n,
+    )
 }
 
 // Whether two tables of bytes are the same.

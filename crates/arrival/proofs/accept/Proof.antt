@@ -2,27 +2,23 @@
 use mathlib.Core.Path.{_≡_, sym, _∙_}
 use denote.Ref.{now}
 use borrow.Author.Tests.{eq-eqb, ne-eqb}
-use borrow.Author.Needs.{needs}
 use Rattle.tables.specs.Tables.{tablesOf, numberOf}
 use Rattle.record.specs.Layout.{createKind}
-use Rattle.arrival.proofs.Accepting.{surveyable, sixth-is, create-given, create-taken, set-ready}
+use Rattle.arrival.proofs.Accepting.{holds, sixth-is, create-given, create-taken, set-ready}
 use Rattle.arrival.proofs.Outcomes.{refused-is}
 use Rattle.arrival.specs.Code.{sixth}
+use borrow.Author.Needs.{needs}
 use Rattle.arrival.proofs.accept.Statement.{statement}
 use Rattle.arrival.proofs.accept.Tie as tie
 
 decode-requires : tie.Need-decode-requires
 decode-requires c κs = search needs
 
-cast-survey : tie.Need-cast-survey
-cast-survey c = search needs
-
 survey-requires : tie.Need-survey-requires
 survey-requires c κs =
-    let s7 = c .before .before .before .before .before .before .before in
-    let a = s7 .args in
-    surveyable (tablesOf (a .c) (now (a .records)) (now (a .objects)) (now (a .groups))) (s7 .pre)
-    (c .before .before .decode .result)
+    let s = c .before .before .before .before .before .before .before .before .before .before in
+    let a = s .args in
+    (holds (tablesOf (a .c) (now (a .records)) (now (a .objects)) (now (a .groups))) (s .pre .0), s .pre .1)
 
 refusal-requires : tie.Need-refusal-requires
 refusal-requires c κs = search needs
@@ -35,15 +31,16 @@ same-length c = search needs
 
 returns : tie.Need-returns
 returns c =
-    let s = c .before .before .before .before .before .before .before .before .before .before .before in
+    let s5 = c .before .before .before .before .before in
+    let s = s5 .before .before .before .before .before .before .before .before .before in
     let a = s .args in
     let t = tablesOf (a .c) (now (a .records)) (now (a .objects)) (now (a .groups)) in
     let b = now (a .rec) in
     let v = c .before .before .before .survey in
-    let d = c .before .before .before .before .before .before .decode in
+    let d = s5 .decode in
     let r = c .before .before .refusal in
     let q : numberOf (r .result) ≡ sixth t b
-    = r .ensures ∙ sixth-is t (s .pre) b (d .result) (d .ensures) (v .result) (v .ensures) in
+    = r .ensures ∙ sixth-is t (s .pre .0) b (d .result) (d .ensures) (v .result) (v .ensures) in
     let other : sixth t b ≡ 0 → ⊥ = λ z. c .if1 .taken (c .before .number .ensures ∙ q ∙ z) in
     rw q (refused-is t b other)
 
@@ -52,19 +49,18 @@ take-create-requires c κs =
     let s5 = c .before .before .before .before .before in
     let s6 = s5 .before in
     let s7 = s6 .before in
-    let s10 = s7 .before .before .before in
-    let s15 = s10 .before .before .before .before .before in
-    let s = s15 in
+    let s9 = s7 .before .before in
+    let s = s9 .before .before .before .before .before .before .before .before .before in
     let a = s .args in
     let t = tablesOf (a .c) (now (a .records)) (now (a .objects)) (now (a .groups)) in
     let b = now (a .rec) in
     let v = s7 .survey in
-    let d = s10 .decode in
+    let d = s9 .decode in
     let r = s6 .refusal in
     let q : numberOf (r .result) ≡ sixth t b
-    = r .ensures ∙ sixth-is t (s .pre) b (d .result) (d .ensures) (v .result) (v .ensures) in
+    = r .ensures ∙ sixth-is t (s .pre .0) b (d .result) (d .ensures) (v .result) (v .ensures) in
     let z : sixth t b ≡ 0 = sym q ∙ sym (s5 .number .ensures) ∙ c .before .before .before .before .if1 .left in
-    create-given t (s .pre) b (d .result) (d .ensures) z
+    create-given t (s .pre .0) b (d .result) (d .ensures) z
     (eq-eqb (d .result .kind) createKind (c .before .before .if2 .taken))
 
 same-length-2 : tie.Need-same-length-2
@@ -80,21 +76,20 @@ returns-2 c =
     let s10 = s9 .before in
     let s11 = s10 .before in
     let s12 = s11 .before in
-    let s15 = s12 .before .before .before in
-    let s20 = s15 .before .before .before .before .before in
-    let s = s20 in
+    let s14 = s12 .before .before in
+    let s = s14 .before .before .before .before .before .before .before .before .before in
     let a = s .args in
     let t = tablesOf (a .c) (now (a .records)) (now (a .objects)) (now (a .groups)) in
     let b = now (a .rec) in
     let v = s12 .survey in
-    let d = s15 .decode in
+    let d = s14 .decode in
     let r = s11 .refusal in
     let q : numberOf (r .result) ≡ sixth t b
-    = r .ensures ∙ sixth-is t (s .pre) b (d .result) (d .ensures) (v .result) (v .ensures) in
+    = r .ensures ∙ sixth-is t (s .pre .0) b (d .result) (d .ensures) (v .result) (v .ensures) in
     let z : sixth t b ≡ 0 = sym q ∙ sym (s10 .number .ensures) ∙ s9 .if1 .left in
     let m = c .before .before .before .before .take-create in
     rw (m .ensures .0, m .ensures .1, m .ensures .2)
-    (create-taken t (s .pre) b (d .result) (d .ensures) z (eq-eqb (d .result .kind) createKind (s7 .if2 .taken)))
+    (create-taken t (s .pre .0) b (d .result) (d .ensures) z (eq-eqb (d .result .kind) createKind (s7 .if2 .taken)))
 
 take-set-requires : tie.Need-take-set-requires
 take-set-requires c κs =
@@ -102,19 +97,18 @@ take-set-requires c κs =
     let s6 = s5 .before in
     let s7 = s6 .before in
     let s8 = s7 .before in
-    let s11 = s8 .before .before .before in
-    let s16 = s11 .before .before .before .before .before in
-    let s = s16 in
+    let s10 = s8 .before .before in
+    let s = s10 .before .before .before .before .before .before .before .before .before in
     let a = s .args in
     let t = tablesOf (a .c) (now (a .records)) (now (a .objects)) (now (a .groups)) in
     let b = now (a .rec) in
     let v = s8 .survey in
-    let d = s11 .decode in
+    let d = s10 .decode in
     let r = s7 .refusal in
     let q : numberOf (r .result) ≡ sixth t b
-    = r .ensures ∙ sixth-is t (s .pre) b (d .result) (d .ensures) (v .result) (v .ensures) in
+    = r .ensures ∙ sixth-is t (s .pre .0) b (d .result) (d .ensures) (v .result) (v .ensures) in
     let z : sixth t b ≡ 0 = sym q ∙ sym (s6 .number .ensures) ∙ s5 .if1 .left in
-    set-ready t (s .pre) b (d .result) (d .ensures) z (v .result) (v .ensures)
+    set-ready t (s .pre .0) b (d .result) (d .ensures) z (v .result) (v .ensures)
     (ne-eqb (d .result .kind) createKind (c .before .before .before .if2 .left))
 
 same-length-4 : tie.Need-same-length-4
@@ -127,14 +121,15 @@ same-length-6 : tie.Need-same-length-6
 same-length-6 c = search needs
 
 returns-3 : tie.Need-returns-3
-returns-3 c = c .before .before .before .before .before .before .take-set .ensures
+returns-3 c =
+    let s6 = c .before .before .before .before .before .before in
+    s6 .take-set .ensures
 
 pub accept-spec : {M : Type 1} → statement M
 accept-spec =
     tie.close
     (tie.spec
     decode-requires
-    cast-survey
     survey-requires
     refusal-requires
     number-requires

@@ -9,7 +9,7 @@ use borrow.Author.Tests.{not-true, not-false}
 use borrow.Author.Needs.{needs}
 use Rattle.ground.proofs.Bools.{clash}
 use Rattle.history.specs.History.{mostRecords}
-use Rattle.history.proofs.Walking.{Walking, walking-starts, walking-more, told, refused, held-few, spot}
+use Rattle.history.proofs.Walking.{Walking, walking-starts, walking-more, told, refused, held-few, spot-more}
 use Rattle.history.proofs.walk.Statement.{statement}
 use Rattle.history.proofs.walk.Tie as tie
 
@@ -75,7 +75,7 @@ slice-write-places c =
     let d = c .before .before .before .before .before .decode-at in
     let p = c .before .before .before .is-passing in
     let t = told few w (d .ensures) (p .ensures) ∙ not-false (p .result) (c .before .before .if1 .left) in
-    rw (d .ensures, w .entries) (spot few w room t)
+    rw (d .ensures, w .entries) (spot-more few w room t)
 
 bumped-requires : tie.Need-bumped-requires Inv-loop μ-loop
 bumped-requires c κs =

@@ -31,7 +31,8 @@ decode-requires c κs = search needs
 returns : tie.Need-returns
 unfolding takenAt
 returns c =
-    let a = c .before .before .before .before .before .args in
+    let s5 = c .before .before .before .before .before in
+    let a = s5 .args in
     let s = c .before .before .before .is-left in
     let none : leb (a .place + recordLength) (length (now (a .stretch))) ≡ false = sym
     (s .ensures) ∙ not-true (s .result) (c .before .before .if1 .taken) in
@@ -57,14 +58,20 @@ decode-requires-2 c κs = search needs
 
 add-t8 : tie.Need-add-t8
 add-t8 c =
-    let a = c .before .before .before .before .before .args in
+    let s5 = c .before .before .before .before .before in
+    let a = s5 .args in
     let s = c .before .before .before .is-left in
-    search (needs, enough (s .result) (a .place) (length (now (a .stretch))) (s .ensures) (c .before .before .if1 .left))
+    search (
+      needs,
+      enough (s .result) (a .place) (length (now (a .stretch))) (s .ensures)
+          (c .before .before .if1 .left),
+    )
 
 returns-2 : tie.Need-returns-2
 unfolding takenAt
 returns-2 c =
-    let a = c .before .before .before .before .before .args in
+    let s5 = c .before .before .before .before .before in
+    let a = s5 .args in
     let s = c .before .before .before .is-left in
     let rs = now (a .stretch) in
     let some : leb (a .place + recordLength) (length rs) ≡ true = sym

@@ -1,0 +1,5 @@
+pub mod Places
+pub mod Added
+pub mod Same
+pub mod Marks
+pub mod Surveyed
