@@ -11,8 +11,8 @@ use Rattle.record.specs.Layout.{recordLength}
 use Rattle.record.specs.Record.{decodeOf}
 use Rattle.record.specs.Form.{isCreate, isSet}
 use Rattle.history.specs.declared.Surveyed.{Surveyed}
-use Rattle.history.specs.History.{mostRecords}
-use Rattle.history.specs.Code.{surveyOf}
+use Rattle.history.specs.History.{mostRecords, editsOf, setsOn}
+use Rattle.history.specs.Code.{markBits, surveyOf}
 use Rattle.group.specs.Row.{mostObjects}
 use Rattle.tables.specs.Tables.{Tables, Outcome, outcomeOf, tablesOf, heldBy, recordsLength, objectsLength}
 use Rattle.tables.specs.Sound.{sound}
@@ -26,6 +26,13 @@ use Rattle.arrival.proofs.Objects.{sets-few}
 use Rattle.arrival.proofs.Outcomes.{create-is, count-room}
 
 module _ (t : Tables) (h : sound t ≡ true) where
+  -- the records may be surveyed for any edit
+  pub surveyable :
+      (e : Edit) →
+      (t .counters .records ≤ mostRecords)
+      × (length (setsOn (e .tsite) (e .tseq) (editsOf (t .records) (t .counters .records))) ≤ markBits)
+  surveyable e = (sound-at t h .few-records, sets-few t (sound-at t h) (e .tsite) (e .tseq))
+
   -- the counters are those of the records
   pub holds : Holds (t .counters) (t .records)
   holds =

@@ -1,9 +1,7 @@
 // What an arriving edit does to the tables: document 01, 'Numbers given back' and 'Conflict, groups, identifiers'.
 use group::OBJECTS;
-use history::PLACES;
 use history::RECORDS;
 use history::Surveyed;
-use index::MEMBERS;
 use record::CREATE;
 use record::Edit;
 use record::RECORD;
@@ -18,11 +16,12 @@ ghost use mathlib.Core.List.{[], _∷_};
 ghost use Prim.Native.Nat.{_+_, _≤_, _<_};
 ghost use lib.ListN.{length, getD};
 ghost use Rattle.record.specs.Layout.{recordLength};
-ghost use Rattle.history.specs.History.{mostRecords};
+ghost use Rattle.record.specs.Record.{decodeOf};
+ghost use Rattle.history.specs.History.{mostRecords, editsOf};
+ghost use Rattle.history.specs.Code.{surveyOf};
 ghost use Rattle.group.specs.Row.{mostObjects};
 ghost use Rattle.tables.specs.Tables.{tablesOf, outcomeOf, numberOf, recordsLength, objectsLength};
 ghost use Rattle.tables.specs.Sound.{sound};
-ghost use Rattle.index.specs.Index.{IndexOf};
 ghost use Rattle.arrival.specs.Arrival.{
   firstOf,
   counted,
@@ -230,27 +229,25 @@ fn take_set(
     }
 }
 
-// An arrival at tables that are known to be sound, as those that an arrival left are, by the index of their records.
+// An arrival at tables that are known to be sound, as those that an arrival left are, of the record's edit e with its
+// survey v.
 pub fn accept(
     c: Counters,
     records: &mut [u8],
     objects: &mut [u16],
     groups: &mut [u64],
-    places: &[u16],
-    numbers: &[u16],
-    counts: &[u16],
-    members: &[u16],
     rec: &[u8],
+    e: Edit,
+    v: Surveyed,
 ) -> Arrived
     requires { ⌜ (sound (tablesOf c (now records) (now objects) (now groups)) ≡ true)
-        × IndexOf (now records) (c .records) (now places) (now numbers) (now counts) (now members) ⌝ }
+        × (e ≡ decodeOf (now rec))
+        × (v ≡ surveyOf (editsOf (now records) (c .records)) e) ⌝ }
     ensures { λ r. ⌜ outcomeOf (numberOf (r .answer))
         (tablesOf (r .counters) (now (records .exit)) (now (objects .exit)) (now (groups .exit)))
         ≡ acceptanceOf (tablesOf c (now (records .entry)) (now (objects .entry)) (now (groups .entry)))
         (now (rec .entry)) ⌝ }
 {
-    let e = record::decode(rec);
-    let v = index::survey(c, records, places, numbers, counts, members, e);
     let answer = refusal(c, rec.len(), e, v);
     if tables::number(answer) != 0 {
         return Arrived {
@@ -287,28 +284,7 @@ pub fn arrive(
             counters: c,
         };
     }
-    let mut places = [0u16; PLACES];
-    let mut numbers = [0u16; RECORDS];
-    let mut counts = [0u16; OBJECTS];
-    let mut members = [0u16; MEMBERS];
-    let n = c.records as usize;
-    index::build(
-        records,
-        n,
-        &mut places,
-        &mut numbers,
-        &mut counts,
-        &mut members,
-    );
-    accept(
-        c,
-        records,
-        objects,
-        groups,
-        &places,
-        &numbers,
-        &counts,
-        &members,
-        rec,
-    )
+    let e = record::decode(rec);
+    let v = history::survey(records, c.records as usize, e);
+    accept(c, records, objects, groups, rec, e, v)
 }

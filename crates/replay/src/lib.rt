@@ -52,17 +52,9 @@ fn take_next(
         × (numberOf (r .answer) ≡ 0 → IndexOf (now (records .exit)) (r .counters .records) (now (places .exit))
         (now (numbers .exit)) (now (counts .exit)) (now (members .exit))) ⌝ }
 {
-    let a = arrival::accept(
-        c,
-        records,
-        objects,
-        groups,
-        places,
-        numbers,
-        counts,
-        members,
-        rec,
-    );
+    let e = record::decode(rec);
+    let v = index::survey(c, records, places, numbers, counts, members, e);
+    let a = arrival::accept(c, records, objects, groups, rec, e, v);
     let answer = a.answer;
     if tables::number(answer) == 0 {
         index::add(

@@ -4,21 +4,12 @@ use denote.Ref.{now}
 use borrow.Author.Tests.{eq-eqb, ne-eqb}
 use Rattle.tables.specs.Tables.{tablesOf, numberOf}
 use Rattle.record.specs.Layout.{createKind}
-use Rattle.arrival.proofs.Accepting.{holds, sixth-is, create-given, create-taken, set-ready}
+use Rattle.arrival.proofs.Accepting.{sixth-is, create-given, create-taken, set-ready}
 use Rattle.arrival.proofs.Outcomes.{refused-is}
 use Rattle.arrival.specs.Code.{sixth}
 use borrow.Author.Needs.{needs}
 use Rattle.arrival.proofs.accept.Statement.{statement}
 use Rattle.arrival.proofs.accept.Tie as tie
-
-decode-requires : tie.Need-decode-requires
-decode-requires c κs = search needs
-
-survey-requires : tie.Need-survey-requires
-survey-requires c κs =
-    let s = c .before .before .before .before .before .before .before .before .before .before in
-    let a = s .args in
-    (holds (tablesOf (a .c) (now (a .records)) (now (a .objects)) (now (a .groups))) (s .pre .0), s .pre .1)
 
 refusal-requires : tie.Need-refusal-requires
 refusal-requires c κs = search needs
@@ -26,21 +17,15 @@ refusal-requires c κs = search needs
 number-requires : tie.Need-number-requires
 number-requires c κs = search needs
 
-same-length : tie.Need-same-length
-same-length c = search needs
-
 returns : tie.Need-returns
 returns c =
-    let s5 = c .before .before .before .before .before in
-    let s = s5 .before .before .before .before .before .before .before .before .before in
+    let s = c .before .before .before .before .before .before .before in
     let a = s .args in
     let t = tablesOf (a .c) (now (a .records)) (now (a .objects)) (now (a .groups)) in
     let b = now (a .rec) in
-    let v = c .before .before .before .survey in
-    let d = s5 .decode in
     let r = c .before .before .refusal in
     let q : numberOf (r .result) ≡ sixth t b
-    = r .ensures ∙ sixth-is t (s .pre .0) b (d .result) (d .ensures) (v .result) (v .ensures) in
+    = r .ensures ∙ sixth-is t (s .pre .0) b (a .e) (s .pre .1) (a .v) (s .pre .2) in
     let other : sixth t b ≡ 0 → ⊥ = λ z. c .if1 .taken (c .before .number .ensures ∙ q ∙ z) in
     rw q (refused-is t b other)
 
@@ -48,26 +33,21 @@ take-create-requires : tie.Need-take-create-requires
 take-create-requires c κs =
     let s5 = c .before .before .before .before .before in
     let s6 = s5 .before in
-    let s7 = s6 .before in
-    let s9 = s7 .before .before in
-    let s = s9 .before .before .before .before .before .before .before .before .before in
+    let s = s6 .before .before .before .before .before in
     let a = s .args in
     let t = tablesOf (a .c) (now (a .records)) (now (a .objects)) (now (a .groups)) in
     let b = now (a .rec) in
-    let v = s7 .survey in
-    let d = s9 .decode in
     let r = s6 .refusal in
     let q : numberOf (r .result) ≡ sixth t b
-    = r .ensures ∙ sixth-is t (s .pre .0) b (d .result) (d .ensures) (v .result) (v .ensures) in
+    = r .ensures ∙ sixth-is t (s .pre .0) b (a .e) (s .pre .1) (a .v) (s .pre .2) in
     let z : sixth t b ≡ 0 = sym q ∙ sym (s5 .number .ensures) ∙ c .before .before .before .before .if1 .left in
-    create-given t (s .pre .0) b (d .result) (d .ensures) z
-    (eq-eqb (d .result .kind) createKind (c .before .before .if2 .taken))
+    create-given t (s .pre .0) b (a .e) (s .pre .1) z (eq-eqb (a .e .kind) createKind (c .before .before .if2 .taken))
+
+same-length : tie.Need-same-length
+same-length c = search needs
 
 same-length-2 : tie.Need-same-length-2
 same-length-2 c = search needs
-
-same-length-3 : tie.Need-same-length-3
-same-length-3 c = search needs
 
 returns-2 : tie.Need-returns-2
 returns-2 c =
@@ -75,50 +55,42 @@ returns-2 c =
     let s9 = s7 .before .before in
     let s10 = s9 .before in
     let s11 = s10 .before in
-    let s12 = s11 .before in
-    let s14 = s12 .before .before in
-    let s = s14 .before .before .before .before .before .before .before .before .before in
+    let s = s11 .before .before .before .before .before in
     let a = s .args in
     let t = tablesOf (a .c) (now (a .records)) (now (a .objects)) (now (a .groups)) in
     let b = now (a .rec) in
-    let v = s12 .survey in
-    let d = s14 .decode in
     let r = s11 .refusal in
     let q : numberOf (r .result) ≡ sixth t b
-    = r .ensures ∙ sixth-is t (s .pre .0) b (d .result) (d .ensures) (v .result) (v .ensures) in
+    = r .ensures ∙ sixth-is t (s .pre .0) b (a .e) (s .pre .1) (a .v) (s .pre .2) in
     let z : sixth t b ≡ 0 = sym q ∙ sym (s10 .number .ensures) ∙ s9 .if1 .left in
     let m = c .before .before .before .before .take-create in
     rw (m .ensures .0, m .ensures .1, m .ensures .2)
-    (create-taken t (s .pre .0) b (d .result) (d .ensures) z (eq-eqb (d .result .kind) createKind (s7 .if2 .taken)))
+    (create-taken t (s .pre .0) b (a .e) (s .pre .1) z (eq-eqb (a .e .kind) createKind (s7 .if2 .taken)))
 
 take-set-requires : tie.Need-take-set-requires
 take-set-requires c κs =
     let s5 = c .before .before .before .before .before in
     let s6 = s5 .before in
     let s7 = s6 .before in
-    let s8 = s7 .before in
-    let s10 = s8 .before .before in
-    let s = s10 .before .before .before .before .before .before .before .before .before in
+    let s = s7 .before .before .before .before .before in
     let a = s .args in
     let t = tablesOf (a .c) (now (a .records)) (now (a .objects)) (now (a .groups)) in
     let b = now (a .rec) in
-    let v = s8 .survey in
-    let d = s10 .decode in
     let r = s7 .refusal in
     let q : numberOf (r .result) ≡ sixth t b
-    = r .ensures ∙ sixth-is t (s .pre .0) b (d .result) (d .ensures) (v .result) (v .ensures) in
+    = r .ensures ∙ sixth-is t (s .pre .0) b (a .e) (s .pre .1) (a .v) (s .pre .2) in
     let z : sixth t b ≡ 0 = sym q ∙ sym (s6 .number .ensures) ∙ s5 .if1 .left in
-    set-ready t (s .pre .0) b (d .result) (d .ensures) z (v .result) (v .ensures)
-    (ne-eqb (d .result .kind) createKind (c .before .before .before .if2 .left))
+    set-ready t (s .pre .0) b (a .e) (s .pre .1) z (a .v) (s .pre .2)
+    (ne-eqb (a .e .kind) createKind (c .before .before .before .if2 .left))
+
+same-length-3 : tie.Need-same-length-3
+same-length-3 c = search needs
 
 same-length-4 : tie.Need-same-length-4
 same-length-4 c = search needs
 
 same-length-5 : tie.Need-same-length-5
 same-length-5 c = search needs
-
-same-length-6 : tie.Need-same-length-6
-same-length-6 c = search needs
 
 returns-3 : tie.Need-returns-3
 returns-3 c =
@@ -129,18 +101,15 @@ pub accept-spec : {M : Type 1} → statement M
 accept-spec =
     tie.close
     (tie.spec
-    decode-requires
-    survey-requires
     refusal-requires
     number-requires
-    same-length
     returns
     take-create-requires
+    same-length
     same-length-2
-    same-length-3
     returns-2
     take-set-requires
+    same-length-3
     same-length-4
     same-length-5
-    same-length-6
     returns-3)

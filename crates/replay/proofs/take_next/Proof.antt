@@ -4,16 +4,27 @@ use mathlib.Core.Path.{_≡_, sym, _∙_}
 use native.Mathlib.Omega.{arith}
 use denote.Ref.{now}
 use Rattle.tables.specs.Tables.{tablesOf, numberOf}
+use Rattle.arrival.proofs.Accepting.{holds}
 use Rattle.replay.proofs.Indexed.{counted-on, holds-on, index-on, numbered-on}
 use borrow.Author.Needs.{needs}
 use Rattle.replay.proofs.take_next.Statement.{statement}
 use Rattle.replay.proofs.take_next.Tie as tie
 
+decode-requires : tie.Need-decode-requires
+decode-requires c κs = search needs
+
+survey-requires : tie.Need-survey-requires
+survey-requires c κs =
+    let s10 = c .before .before .before .before .before .before .before .before .before .before in
+    let s = s10 .before .before .before .before in
+    let a = s .args in
+    (holds (tablesOf (a .c) (now (a .records)) (now (a .objects)) (now (a .groups))) (s .pre .0), s .pre .2)
+
 accept-requires : tie.Need-accept-requires
 accept-requires c κs =
-    let s10 = c .before .before .before .before .before .before .before .before .before .before in
-    let s = s10 .before .before .before .before .before in
-    (s .pre .0, s .pre .2)
+    let s9 = c .before .before .before .before .before .before .before .before .before in
+    let s = s9 .before .before .before .before .before .before .before .before .before in
+    (s .pre .0, s9 .decode .ensures, c .before .before .before .survey .ensures)
 
 number-requires : tie.Need-number-requires
 number-requires c κs = search needs
@@ -27,7 +38,7 @@ add-requires c κs =
     let s7 = s6 .before in
     let s14 = s7 .before .before .before .before .before .before .before in
     let s24 = s14 .before .before .before .before .before .before .before .before .before .before in
-    let s = s24 .before .before .before .before .before .before in
+    let s = s24 .before .before .before .before .before .before .before .before .before in
     let a = s .args in
     let t = tablesOf (a .c) (now (a .records)) (now (a .objects)) (now (a .groups)) in
     let b = now (a .rec) in
@@ -74,7 +85,7 @@ returns c =
     let s16 = s15 .before in
     let s23 = s16 .before .before .before .before .before .before .before in
     let s33 = s23 .before .before .before .before .before .before .before .before .before .before in
-    let s = s33 .before .before .before .before .before .before in
+    let s = s33 .before .before .before .before .before .before .before .before .before in
     let a = s .args in
     let t = tablesOf (a .c) (now (a .records)) (now (a .objects)) (now (a .groups)) in
     let b = now (a .rec) in
@@ -113,6 +124,8 @@ pub take-next-spec : {M : Type 1} → statement M
 take-next-spec =
     tie.close
     (tie.spec
+    decode-requires
+    survey-requires
     accept-requires
     number-requires
     cast-add
