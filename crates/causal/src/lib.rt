@@ -1,5 +1,5 @@
-// The causal tests of document 01: before, concurrent, conflict, and the total order. Each answers the definition's
-// Bool for every edit, well formed or not.
+// The causal tests of document 01: before, concurrent, conflict; and the sum by which the total order goes first. Each
+// answers what the definition says for every edit, well formed or not.
 use record::Edit;
 use record::SET;
 use record::SITES;
@@ -13,7 +13,6 @@ ghost use Rattle.causal.specs.Causal.{
   areConcurrent,
   doConflict,
   vectorSum,
-  ranksBefore,
 };
 
 // Whether s.q and t.p are one edit.
@@ -68,15 +67,4 @@ pub fn vector_sum(v: [u16; SITES]) -> u32
         i += 1;
     }
     total
-}
-
-// Whether a stands before b in the total order: by the smaller vector sum, then by the smaller site.
-pub fn is_ranked_before(a: Edit, b: Edit) -> bool
-    ensures { λ r. ⌜ r ≡ ranksBefore a b ⌝ }
-{
-    let v = a.vector;
-    let w = b.vector;
-    let m = vector_sum(v);
-    let n = vector_sum(w);
-    (m < n) | ((m == n) & (a.site.0 < b.site.0))
 }

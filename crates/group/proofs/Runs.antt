@@ -1,6 +1,6 @@
 -- A loop that goes through the n first numbers of a list: what it has passed stands in front, `take i s`, and what is
 -- left is `slice i n s`. Assumes nothing.
-use mathlib.Core.Path.{_≡_, sym, _∙_}
+use mathlib.Core.Path.{_≡_, sym, ap, _∙_}
 use mathlib.Core.List.{List, [], _∷_, _++_, append-nil}
 use Prim.Native.Nat.{ℕ, suc, _+_, _≤_, _<_}
 use native.Mathlib.Nat.{le-antisymm}
@@ -48,6 +48,11 @@ none-left s i n h l = rw (le-antisymm h l) (slice-empty n s)
 
 pub passed-and-left : (s : List ℕ) (i n : ℕ) → i ≤ n → take i s ++ slice i n s ≡ take n s
 passed-and-left s i n h = rw (← take-take i n s) (take-append-drop i (take n s))
+
+-- a number, those passed before it, and those left behind it
+pub split :
+    (s : List ℕ) (i n : ℕ) → i < n → n ≤ length s → take n s ≡ take i s ++ (getD s i 0 ∷ slice (i + 1) n s)
+split s i n h l = sym (passed-and-left s i n (omega arith)) ∙ ap (λ (r : List ℕ). take i s ++ r) (next s i n h l)
 
 -- ---- a copy from the front, and a list filled from the front
 

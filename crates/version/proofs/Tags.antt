@@ -2,7 +2,7 @@
 -- not disputed, since a disputed Set has a sequence number above 0. Assumes nothing.
 use mathlib.Core.Path.{_≡_, refl, sym, ap, _∙_, fun-ext}
 use mathlib.Core.Bool.{Bool, true, false, not, _&&_, cond}
-use mathlib.Core.List.{List, [], _∷_, _++_, map, map-map}
+use mathlib.Core.List.{List, [], map, map-map}
 use Prim.Native.Nat.{ℕ, _+_, _<_}
 use native.Mathlib.Omega.{arith}
 use borrow.Author.Tests.{le-leb, ne-eqb, not-true}
@@ -18,6 +18,7 @@ use Rattle.record.specs.declared.Edit.{Edit}
 use Rattle.causal.specs.Causal.{sameEdit, hasSeen, comesBefore, doConflict}
 use Rattle.causal.proofs.Laws.{conflict-parts}
 use Rattle.maximal.specs.Groups.{bit}
+use Rattle.group.proofs.Through.{gather-snoc}
 use Rattle.arrival.specs.Truth.{noEdit}
 use Rattle.arrival.specs.Versions.{isDisputed}
 use Rattle.version.specs.Version.{nameOf, membersOf, identifierOf}
@@ -26,11 +27,6 @@ use Rattle.version.specs.Code.{tagOf, tagsOf, isTagged, taggedBelow, ide
 use Rattle.version.proofs.Members.{map-place, one-more, none-more, map-keep-same, filter-keep}
 
 -- ---- the tags one by one
-
-gather-snoc : (sorted xs : List ℕ) (x : ℕ) → gather sorted (xs ++ (x ∷ [])) ≡ insert x (gather sorted xs)
-unfolding gather
-gather-snoc sorted [] x = refl
-gather-snoc sorted (y ∷ xs) x = gather-snoc (insert y sorted) xs x
 
 -- of the first t tags, i are passed
 module _ (tags : List ℕ) (t g i : ℕ) (low : i < t) (have : List ℕ) (inv : have ≡ taggedBelow (take t tags) g i) where

@@ -1,12 +1,14 @@
 -- `version::identifiers::identifier` meets its contract: the tags of the members passed that are not 0 stand at the
 -- front of out. Assumes nothing.
-use mathlib.Core.Path.{_≡_, refl, _∙_, ap}
+use mathlib.Core.Path.{_≡_, refl, sym, ap, subst, _∙_}
 use mathlib.Core.Logic.{⊎-elim}
 use Prim.Native.Nat.{_-_, _≤_}
 use native.Mathlib.Omega.{arith}
 use borrow.Author.Needs.{needs}
 use lib.ListN.{length, take}
 use lib.Seq.{length-take-le}
+use Rattle.ground.specs.Sorted.{Ascending}
+use Rattle.ground.proofs.Sorted.{is-ascending}
 use Rattle.version.specs.Code.{taggedBelow}
 use Rattle.version.proofs.Tags.{tag-more, no-tag-more, no-tags}
 use Rattle.version.proofs.identifiers.identifier.Statement.{statement}
@@ -32,7 +34,10 @@ is-member-requires : tie.Need-is-member-requires Inv-loop μ-loop
 is-member-requires c κs = search needs
 
 put-in-requires : tie.Need-put-in-requires Inv-loop μ-loop
-put-in-requires c κs = search needs
+unfolding taggedBelow
+put-in-requires c κs =
+    let l = c .before .before .before .before .before .loop in
+    (omega arith, subst Ascending (sym (l .inv .3)) (is-ascending _))
 
 add-i : tie.Need-add-i Inv-loop μ-loop
 add-i c = search needs
