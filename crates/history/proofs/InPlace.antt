@@ -1,11 +1,11 @@
--- The kind, the vector and the target of a record, as the bytes where they stand in the table. Assumes nothing.
+-- The kind, vector, target and key of a record, as the bytes where they stand in the table. Assumes nothing.
 use mathlib.Core.Path.{_≡_, refl, ap, _∙_}
 use mathlib.Core.List.{List}
 use Prim.Native.Nat.{ℕ, zero, suc, _+_, _*_, _<_}
 use native.Mathlib.Omega.{arith}
 use lib.ListN.{getD, drop}
 use lib.Seq.{getD-drop}
-use Rattle.record.specs.Layout.{mostSites, kindAt, vectorAt, targetAt, targetSeqAt, recordLength}
+use Rattle.record.specs.Layout.{mostSites, kindAt, vectorAt, targetAt, keyAt, targetSeqAt, recordLength}
 use Rattle.record.specs.Record.{two, counts}
 use Rattle.record.proofs.Bytes.{two-drop}
 use Rattle.history.specs.History.{recordAt}
@@ -22,6 +22,9 @@ kind-in-place rs p = getD-drop (p * recordLength) rs kindAt 0
 
 pub target-in-place : (rs : List ℕ) (p : ℕ) → recordAt rs p .tsite .0 ≡ getD rs (p * recordLength + targetAt) 0
 target-in-place rs p = getD-drop (p * recordLength) rs targetAt 0
+
+pub key-in-place : (rs : List ℕ) (p : ℕ) → recordAt rs p .key ≡ getD rs (p * recordLength + keyAt) 0
+key-in-place rs p = getD-drop (p * recordLength) rs keyAt 0
 
 pub target-seq-in-place :
     (rs : List ℕ) (p : ℕ) → recordAt rs p .tseq .0 ≡ two rs (p * recordLength + targetSeqAt)

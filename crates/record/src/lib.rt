@@ -27,7 +27,7 @@ pub const AT_VECTOR: usize = 4;
 
 pub const AT_TARGET: usize = AT_VECTOR + 2 * SITES;
 
-const AT_KEY: usize = AT_TARGET + 1;
+pub const AT_KEY: usize = AT_TARGET + 1;
 
 pub const AT_TARGET_SEQ: usize = AT_TARGET + 2;
 
