@@ -4,6 +4,7 @@ use super::lines::put_version;
 use group::OBJECTS;
 use objects::gather;
 use objects::sort_objects;
+use sorting::ROWS;
 use tables::Counters;
 use tables::ENTRY;
 use tables::entries::at16;
@@ -80,7 +81,8 @@ fn put_found(
         ≡ getD (linesFor (tablesOf c (now (records .entry)) (now (objects .entry)) (now (groups .entry))) o) v [])
         × (r ≤ lineLength) ⌝ }
 {
-    let g = gather(c, records, objects, groups, o);
+    let mut rows = [0u64; ROWS];
+    let g = gather(&mut rows, c, records, objects, groups, o);
     put_version(out, records, g, v)
 }
 

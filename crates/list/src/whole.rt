@@ -6,12 +6,13 @@ use line::LINE;
 use objects::gather;
 use objects::sort_objects;
 use output::copy_in;
+use sorting::ROWS;
 use tables::Counters;
 ghost use mathlib.Core.Path.{_≡_};
 ghost use mathlib.Core.Bool.{true};
 ghost use Prim.Native.Nat.{_+_, _*_, _≤_, _<_};
 ghost use lib.ListN.{length};
-ghost use Rattle.group.specs.Row.{mostObjects, mostGroups};
+ghost use Rattle.group.specs.Row.{mostObjects, mostSets, mostGroups};
 ghost use Rattle.tables.specs.Tables.{tablesOf};
 ghost use Rattle.tables.specs.Sound.{sound};
 ghost use Rattle.version.specs.Line.{lineLength};
@@ -30,9 +31,10 @@ fn put_head(out: &mut [u8], n: usize, c: Counters, objects: &[u16]) -> usize
     n + k
 }
 
-// Puts the lines of object o behind the first n bytes.
+// Puts the lines of object o behind the first n bytes; rows are work space, made once for all objects.
 fn put_object(
     out: &mut [u8],
+    rows: &mut [u64],
     n: usize,
     c: Counters,
     records: &[u8],
@@ -42,18 +44,20 @@ fn put_object(
 ) -> usize
     requires { ⌜ (sound (tablesOf c (now records) (now objects) (now groups)) ≡ true)
         × (o < c .objects)
-        × (n + mostGroups * lineLength ≤ length (now out)) ⌝ }
+        × (n + mostGroups * lineLength ≤ length (now out))
+        × (length (now rows) ≡ mostGroups * mostSets) ⌝ }
     ensures { λ r. ⌜ Behind (now (out .entry)) n
         (joined (linesFor (tablesOf c (now (records .entry)) (now (objects .entry)) (now (groups .entry))) o))
         (mostGroups * lineLength) (now (out .exit)) r ⌝ }
 {
-    let g = gather(c, records, objects, groups, o);
+    let g = gather(rows, c, records, objects, groups, o);
     put_versions(out, n, records, g)
 }
 
 // Puts the lines of all objects behind the first n bytes, in their order.
 fn put_objects(
     out: &mut [u8],
+    rows: &mut [u64],
     n: usize,
     c: Counters,
     records: &[u8],
@@ -61,7 +65,8 @@ fn put_objects(
     groups: &[u64],
 ) -> usize
     requires { ⌜ (sound (tablesOf c (now records) (now objects) (now groups)) ≡ true)
-        × (n + mostObjects * (mostGroups * lineLength) ≤ length (now out)) ⌝ }
+        × (n + mostObjects * (mostGroups * lineLength) ≤ length (now out))
+        × (length (now rows) ≡ mostGroups * mostSets) ⌝ }
     ensures { λ r. ⌜ Behind (now (out .entry)) n
         (allLines (tablesOf c (now (records .entry)) (now (objects .entry)) (now (groups .entry))))
         (mostObjects * (mostGroups * lineLength)) (now (out .exit)) r ⌝ }
@@ -72,7 +77,7 @@ fn put_objects(
     let mut w = n;
     let mut i: usize = 0;
     while i < m {
-        w = put_object(out, w, c, records, objects, groups, order[i] as usize);
+        w = put_object(out, rows, w, c, records, objects, groups, order[i] as usize);
         i += 1;
     }
     w
@@ -94,5 +99,6 @@ pub fn put_list(
         listLength (now (out .exit)) r ⌝ }
 {
     let w = put_head(out, n, c, objects);
-    put_objects(out, w, c, records, objects, groups)
+    let mut rows = [0u64; ROWS];
+    put_objects(out, &mut rows, w, c, records, objects, groups)
 }

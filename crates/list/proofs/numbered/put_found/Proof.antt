@@ -9,13 +9,16 @@ use borrow.Author.Needs.{needs}
 use Rattle.list.proofs.numbered.put_found.Statement.{statement}
 use Rattle.list.proofs.numbered.put_found.Tie as tie
 
+slice-aggregate-gather : tie.Need-slice-aggregate-gather
+slice-aggregate-gather c = search needs
+
 gather-requires : tie.Need-gather-requires
 gather-requires c κs = search needs
 
 put-version-requires : tie.Need-put-version-requires
 put-version-requires c κs =
-    let g = c .before in
-    let s = g .before .before .before .before .before in
+    let g = c .before .before in
+    let s = g .before .before .before .before .before .before in
     let a = s .args in
     let t = tablesOf (a .c) (now (a .records)) (now (a .objects)) (now (a .groups)) in
     let f = g .gather .ensures in (
@@ -30,12 +33,13 @@ same-length c = search needs
 returns : tie.Need-returns
 returns c =
     let v = c .before .before in
-    let g = v .before .before in
-    let s = g .before .before .before .before .before in
+    let g = v .before .before .before in
+    let s = g .before .before .before .before .before .before in
     let a = s .args in
     let t = tablesOf (a .c) (now (a .records)) (now (a .objects)) (now (a .groups)) in
     let e = v .put-version .ensures in
     (e .0 ∙ gathered-line t (a .o) _ (g .gather .ensures) (a .v) (s .pre .2), e .1)
 
 pub put-found-spec : {M : Type 1} → statement M
-put-found-spec = tie.close (tie.spec gather-requires put-version-requires same-length returns)
+put-found-spec =
+    tie.close (tie.spec slice-aggregate-gather gather-requires put-version-requires same-length returns)

@@ -16,20 +16,23 @@ put-head-requires c κs =
     let t = tablesOf (a .c) (now (a .records)) (now (a .objects)) (now (a .groups)) in
     (sound-at t (s .pre .0) .few-objects, omega (arith, s .pre .1))
 
+slice-aggregate-put-objects : tie.Need-slice-aggregate-put-objects
+slice-aggregate-put-objects c = search needs
+
 put-objects-requires : tie.Need-put-objects-requires
 put-objects-requires c κs =
-    let h = c .before .before .before .put-head in
-    let s = c .before .before .before .before .before .before .before .before .before in
-    (s .pre .0, omega (arith, s .pre .1, h .kept .0, h .ensures .end, h .ensures .few))
+    let h = c .before .before .before .before .put-head in
+    let s = c .before .before .before .before .before .before .before .before .before .before in
+    (s .pre .0, omega (arith, s .pre .1, h .kept .0, h .ensures .end, h .ensures .few), search needs)
 
 same-length : tie.Need-same-length
 same-length c = search needs
 
 returns : tie.Need-returns
 returns c =
-    let p = c .before .before in
-    let h = p .before .before .before .before .put-head in
-    let s = p .before .before .before .before .before .before .before .before .before .before in
+    let p = c .before .before .before in
+    let h = p .before .before .before .before .before .put-head in
+    let s = p .before .before .before .before .before .before .before .before .before .before .before in
     let a = s .args in
     let t = tablesOf (a .c) (now (a .records)) (now (a .objects)) (now (a .groups)) in
     rw (list-split t)
@@ -38,4 +41,11 @@ returns c =
     (p .put-objects .ensures)))
 
 pub put-list-spec : {M : Type 1} → statement M
-put-list-spec = tie.close (tie.spec put-head-requires put-objects-requires same-length returns)
+put-list-spec =
+    tie.close
+    (tie.spec
+    put-head-requires
+    slice-aggregate-put-objects
+    put-objects-requires
+    same-length
+    returns)

@@ -13,8 +13,8 @@ gather-requires c κs = search needs
 
 put-versions-requires : tie.Need-put-versions-requires
 put-versions-requires c κs =
-    let g = c .before in
-    let s = g .before .before .before .before .before in
+    let g = c .before .before .before in
+    let s = g .before .before .before .before .before .before .before in
     let a = s .args in
     let t = tablesOf (a .c) (now (a .records)) (now (a .objects)) (now (a .groups)) in
     let f = g .gather .ensures in
@@ -23,15 +23,18 @@ put-versions-requires c κs =
 same-length : tie.Need-same-length
 same-length c = search needs
 
+same-length-2 : tie.Need-same-length-2
+same-length-2 c = search needs
+
 returns : tie.Need-returns
 returns c =
     let v = c .before .before in
-    let g = v .before .before in
-    let a = g .before .before .before .before .before .args in
+    let g = v .before .before .before .before in
+    let a = g .before .before .before .before .before .before .before .args in
     let t = tablesOf (a .c) (now (a .records)) (now (a .objects)) (now (a .groups)) in
     let f = g .gather .ensures in
     rw (← gathered-lines t (a .o) _ f)
     (fewer-behind (now (a .out)) (a .n) (omega (arith, f .few-groups)) (v .put-versions .ensures))
 
 pub put-object-spec : {M : Type 1} → statement M
-put-object-spec = tie.close (tie.spec gather-requires put-versions-requires same-length returns)
+put-object-spec = tie.close (tie.spec gather-requires put-versions-requires same-length same-length-2 returns)

@@ -21,13 +21,13 @@ use Rattle.list.proofs.whole.put_objects.Statement.{statement}
 use Rattle.list.proofs.whole.put_objects.Tie as tie
 
 abbrev Inv-loop : tie.InvT-loop
-Inv-loop out₀ n c records objects groups m order w₀ i₀ out w i =
-    (i ≤ m) × (length out ≡ length out₀)
+Inv-loop out₀ rows₀ n c records objects groups m order w₀ i₀ out rows w i =
+    (i ≤ m) × (length out ≡ length out₀) × (length rows ≡ length rows₀)
     × Behind out₀ n (joined (map (λ o. joined (linesFor (tablesOf c records objects groups) o)) (take i order)))
     (i * (mostGroups * lineLength)) out w
 
 abbrev μ-loop : tie.MeasureT-loop
-μ-loop out₀ n c records objects groups m order w₀ i₀ out w i = m - i
+μ-loop out₀ rows₀ n c records objects groups m order w₀ i₀ out rows w i = m - i
 
 cast-m : tie.Need-cast-m Inv-loop μ-loop
 cast-m c = search needs
@@ -37,7 +37,7 @@ slice-aggregate-sort-objects c = search needs
 
 sort-objects-requires : tie.Need-sort-objects-requires Inv-loop μ-loop
 sort-objects-requires c κs =
-    let s = c .before .before .before .before .before .before in
+    let s = c .before .before .before .before .before .before .before in
     let a = s .args in
     let t = tablesOf (a .c) (now (a .records)) (now (a .objects)) (now (a .groups)) in
     let few = sound-at t (s .pre .0) .few-objects in
@@ -45,17 +45,19 @@ sort-objects-requires c κs =
 
 loop-holds : tie.Need-loop-holds Inv-loop μ-loop
 loop-holds c =
-    let a = c .before .before .before .before .before .before .before .before .args in
+    let a = c .before .before .before .before .before .before .before .before .before .args in
     let t = tablesOf (a .c) (now (a .records)) (now (a .objects)) (now (a .groups)) in
     let order = c .before .sort-objects .last .0 in
-    (search needs, refl, no-piece (λ o. joined (linesFor t o)) (mostGroups * lineLength) (now (a .out)) order (a .n))
+    let none = no-piece (λ o. joined (linesFor t o)) (mostGroups * lineLength) (now (a .out)) order (a .n) in
+    (search needs, refl, refl, none)
 
 mul-put-object : tie.Need-mul-put-object Inv-loop μ-loop
 mul-put-object c = search needs
 
 array-read-put-object : tie.Need-array-read-put-object Inv-loop μ-loop
 array-read-put-object c =
-    let s = c .before .before .before .before .before .before .before .before .before .before .before in
+    let o = c .before .before .before .before .before in
+    let s = o .before .before .before .before .before .before .before .before in
     let a = s .args in
     let t = tablesOf (a .c) (now (a .records)) (now (a .objects)) (now (a .groups)) in
     let few = sound-at t (s .pre .0) .few-objects in
@@ -64,25 +66,27 @@ array-read-put-object c =
 cast-put-object : tie.Need-cast-put-object Inv-loop μ-loop
 unfolding objectsOf
 cast-put-object c =
-    let s = c .before .before .before .before .before .before .before .before .before .before .before in
+    let o = c .before .before .before .before .before in
+    let s = o .before .before .before .before .before .before .before .before in
     let a = s .args in
     let t = tablesOf (a .c) (now (a .records)) (now (a .objects)) (now (a .groups)) in
     let low =
-    sorted-low t _ (c .before .before .before .before .sort-objects .ensures) (c .before .before .loop .i)
-    (omega arith) in
+    sorted-low t _ (o .sort-objects .ensures) (c .before .before .before .loop .i) (omega arith) in
     search (needs, low)
 
 put-object-requires : tie.Need-put-object-requires Inv-loop μ-loop
 unfolding objectsOf
 put-object-requires c κs =
-    let l = c .before .before .loop in
-    let s = c .before .before .before .before .before .before .before .before .before .before .before in
+    let l = c .before .before .before .loop in
+    let o = c .before .before .before .before .before in
+    let s = o .before .before .before .before .before .before .before .before in
     let a = s .args in
     let t = tablesOf (a .c) (now (a .records)) (now (a .objects)) (now (a .groups)) in
     let few = sound-at t (s .pre .0) .few-objects in (
       s .pre .0,
-      sorted-low t _ (c .before .before .before .before .sort-objects .ensures) (l .i) (omega arith),
-      omega (arith, few, s .pre .1, l .inv .1, l .inv .2 .end, l .inv .2 .few),
+      sorted-low t _ (o .sort-objects .ensures) (l .i) (omega arith),
+      omega (arith, few, s .pre .1, l .inv .1, l .inv .3 .end, l .inv .3 .few),
+      l .inv .2 ∙ s .pre .2,
     )
 
 add-i : tie.Need-add-i Inv-loop μ-loop
@@ -93,32 +97,37 @@ loop-less c = omega arith
 
 loop-again : tie.Need-loop-again Inv-loop μ-loop
 loop-again c =
-    let p = c .before .before in
-    let l = p .before .before .before .loop in
-    let o = p .before .before .before .before .before .sort-objects in
-    let s = p .before .before .before .before .before .before .before .before .before .before .before .before in
+    let p = c .before .before .before .before in
+    let l = p .before .before .before .before .loop in
+    let sorted = p .before .before .before .before .before .before in
+    let o = sorted .sort-objects in
+    let s = sorted .before .before .before .before .before .before .before .before in
     let a = s .args in
     let t = tablesOf (a .c) (now (a .records)) (now (a .objects)) (now (a .groups)) in
     let few = sound-at t (s .pre .0) .few-objects in (
       omega arith,
       p .put-object .kept .0 ∙ l .inv .1,
+      p .put-object .kept .1 .0 ∙ l .inv .2,
       piece-behind (λ o. joined (linesFor t o)) (mostGroups * lineLength) (now (a .out)) _ (a .n) (l .i)
-          (omega (arith, few, o .kept .0)) (omega (arith, few, s .pre .1)) (l .inv .2) (p .put-object .ensures),
+          (omega (arith, few, o .kept .0)) (omega (arith, few, s .pre .1)) (l .inv .3) (p .put-object .ensures),
     )
 
 same-length : tie.Need-same-length Inv-loop μ-loop
 same-length c = c .before .loop .inv .1
 
+same-length-2 : tie.Need-same-length-2 Inv-loop μ-loop
+same-length-2 c = c .before .loop .inv .2
+
 returns : tie.Need-returns Inv-loop μ-loop
 unfolding objectsOf
 returns c =
     let l = c .before .loop in
-    let s = c .before .before .before .before .before .before .before .before .before .before in
+    let s = c .before .before .before .before .before .before .before .before .before .before .before in
     let a = s .args in
     let t = tablesOf (a .c) (now (a .records)) (now (a .objects)) (now (a .groups)) in
     let few = sound-at t (s .pre .0) .few-objects in
     rw (← sorted-lines t _ (c .before .before .before .sort-objects .ensures) (l .i) (omega arith))
-    (fewer-behind (now (a .out)) (a .n) (omega (arith, few)) (l .inv .2))
+    (fewer-behind (now (a .out)) (a .n) (omega (arith, few)) (l .inv .3))
 
 pub put-objects-spec : {M : Type 1} → statement M
 put-objects-spec =
@@ -138,4 +147,5 @@ put-objects-spec =
     loop-less
     loop-again
     same-length
+    same-length-2
     returns)
