@@ -164,6 +164,22 @@ decimal-more m h =
     let tenth = decimal (m / 10) in
     sym (only-decimal m (tenth ++ ((zeroDigit + m % 10) ∷ [])) (digit-more m tenth h (is-decimal (m / 10))))
 
-pub digits-left : (f m : ℕ) → 10 ≤ m → m < 10 ^ f → (0 < f - 1) × (m / 10 < 10 ^ (f - 1))
-digits-left zero m k h = absurd (omega arith)
-digits-left (suc f) m k h = let e : suc f - 1 ≡ f = omega arith in rw e (room f m k h)
+-- ---- and how many digits there are
+
+pub length-one : (m : ℕ) → m < 10 → length (decimal m) ≡ 1
+length-one m h = ap length (decimal-one m h)
+
+pub length-more : (m : ℕ) → 10 ≤ m → length (decimal m) ≡ length (decimal (m / 10)) + 1
+length-more m h =
+    ap length (decimal-more m h) ∙ length-append (decimal (m / 10)) ((zeroDigit + m % 10) ∷ [])
+
+-- a number below 10 ^ f has at most f digits
+pub digits-fit : (f m : ℕ) → 0 < f → m < 10 ^ f → length (decimal m) ≤ f
+digits-fit zero m p h = absurd (omega arith)
+digits-fit (suc f) m p h = go (decLt m 10) (digits-fit f (m / 10))
+  where
+    go : Dec (m < 10) → (0 < f → m / 10 < 10 ^ f → length (decimal (m / 10)) ≤ f) → length (decimal m) ≤ suc f
+    go (yes k) ih = omega (arith, length-one m k)
+    go (no k) ih =
+        let (some, fits) = room f m (omega arith) h in
+        omega (arith, ih some fits, length-more m (omega arith))

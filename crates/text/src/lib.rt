@@ -68,16 +68,35 @@ pub fn put_bytes(out: &mut [u8], n: usize, s: &[u8]) -> usize
     n + i
 }
 
-// Puts the decimal of m, which has at most f digits.
-fn put_decimal(out: &mut [u8], n: usize, f: usize, m: u32) -> usize
-    requires { ⌜ (0 < f) × (m < 10 ^ f) × (n + f ≤ length (now out)) ⌝ }
-    ensures { λ r. ⌜ (take r (now (out .exit)) ≡ take n (now (out .entry)) ++ decimal m) × (r ≤ n + f) ⌝ }
+// How many digits the decimal of m has.
+fn digits(m: u32) -> usize
+    ensures { λ r. ⌜ r ≡ length (decimal m) ⌝ }
 {
-    if m < 10 {
-        return put_byte(out, n, ZERO + m as u8);
+    let mut d: usize = 1;
+    let mut rest = m;
+    while 10 <= rest {
+        rest = rest / 10;
+        d += 1;
     }
-    let k = put_decimal(out, n, f - 1, m / 10);
-    put_byte(out, k, ZERO + (m % 10) as u8)
+    d
+}
+
+// Puts the decimal of m, from the last digit to the first.
+fn put_decimal(out: &mut [u8], n: usize, m: u32) -> usize
+    requires { ⌜ n + length (decimal m) ≤ length (now out) ⌝ }
+    ensures { λ r. ⌜ (take r (now (out .exit)) ≡ take n (now (out .entry)) ++ decimal m)
+        × (r ≡ n + length (decimal m)) ⌝ }
+{
+    let end = n + digits(m);
+    let mut i = end;
+    let mut left = m;
+    while 10 <= left {
+        i -= 1;
+        out[i] = ZERO + (left % 10) as u8;
+        left = left / 10;
+    }
+    out[n] = ZERO + left as u8;
+    end
 }
 
 // Puts `a.b`.
@@ -85,9 +104,9 @@ pub fn put_dotted(out: &mut [u8], n: usize, a: u8, b: u16) -> usize
     requires { ⌜ n + dottedLength ≤ length (now out) ⌝ }
     ensures { λ r. ⌜ (take r (now (out .exit)) ≡ take n (now (out .entry)) ++ dotted a b) × (r ≤ n + dottedLength) ⌝ }
 {
-    let k = put_decimal(out, n, BYTE_DIGITS, a as u32);
+    let k = put_decimal(out, n, a as u32);
     let l = put_byte(out, k, DOT);
-    put_decimal(out, l, PAIR_DIGITS, b as u32)
+    put_decimal(out, l, b as u32)
 }
 
 // Puts `a=b`, where a has no more digits than a key.
@@ -95,9 +114,9 @@ pub fn put_equated(out: &mut [u8], n: usize, a: u8, b: u32) -> usize
     requires { ⌜ (a < 10 ^ keyDigits) × (n + equatedLength ≤ length (now out)) ⌝ }
     ensures { λ r. ⌜ (take r (now (out .exit)) ≡ take n (now (out .entry)) ++ equated a b) × (r ≤ n + equatedLength) ⌝ }
 {
-    let k = put_decimal(out, n, KEY_DIGITS, a as u32);
+    let k = put_decimal(out, n, a as u32);
     let l = put_byte(out, k, EQUALS);
-    put_decimal(out, l, WORD_DIGITS, b)
+    put_decimal(out, l, b)
 }
 
 // Puts a fixed word and a number.
@@ -107,7 +126,7 @@ fn put_labelled(out: &mut [u8], n: usize, word: &[u8], m: u32) -> usize
         × (r ≤ n + length (now (word .entry)) + wordDigits) ⌝ }
 {
     let k = put_bytes(out, n, word);
-    put_decimal(out, k, WORD_DIGITS, m)
+    put_decimal(out, k, m)
 }
 
 // Puts line 0 at the front.

@@ -2,6 +2,8 @@
 use native.Mathlib.Omega.{arith}
 use lib.ListN.{take}
 use Rattle.text.specs.Decimal.{decimal}
+use Rattle.text.specs.Words.{wordDigits}
+use Rattle.text.proofs.Decimals.{digits-fit}
 use Rattle.text.proofs.Lines.{two}
 use borrow.Author.Needs.{needs}
 use Rattle.text.proofs.put_labelled.Statement.{statement}
@@ -11,7 +13,8 @@ put-bytes-requires : tie.Need-put-bytes-requires
 put-bytes-requires c κs = search needs
 
 put-decimal-requires : tie.Need-put-decimal-requires
-put-decimal-requires c κs = search needs
+put-decimal-requires c κs =
+    omega (arith, digits-fit wordDigits (c .before .before .before .before .before .before .before .args .m) (omega arith) (omega arith))
 
 same-length : tie.Need-same-length
 same-length c = search needs
@@ -22,7 +25,7 @@ returns c =
     let a = word .before .before .before .before .args in (
       two (take (a .n) (a .out .now)) (a .word .now) (decimal (a .m)) (word .put-bytes .ensures .0)
           (c .before .before .put-decimal .ensures .0),
-      omega arith,
+      omega (arith, digits-fit wordDigits (a .m) (omega arith) (omega arith)),
     )
 
 pub put-labelled-spec : {M : Type 1} → statement M
