@@ -17,7 +17,6 @@ ghost use Rattle.tables.specs.Tables.{tablesOf};
 ghost use Rattle.tables.specs.Sound.{sound};
 ghost use Rattle.version.specs.Line.{lineLength};
 ghost use Rattle.list.specs.Listing.{linesFor, linesOf};
-ghost use Rattle.objects.specs.Objects.{objectsOf};
 ghost use Rattle.list.specs.Code.{FoundIn, NumberedAs};
 
 // Where a line of a version is found: whether there is one, the object, and which of its versions it is.
@@ -83,7 +82,7 @@ fn put_found(
 {
     let mut rows = [0u64; ROWS];
     let g = gather(&mut rows, c, records, objects, groups, o);
-    put_version(out, records, g, v)
+    put_version(out, g, v)
 }
 
 // Puts line k at the front of out, if there is one.
