@@ -1,5 +1,5 @@
-// The line of a version. The Sets of the object are given by their places in the table of records, in the order of
-// arrival: bit i of a group stands for the i-th place.
+// The line of a version. The Sets of the object are given by their tags and their stamps, in the order of arrival: bit i
+// of a group stands for the i-th Set.
 use group::SETS;
 use record::Edit;
 use record::KEYS;
@@ -17,7 +17,7 @@ use version::SEQ_NUMBERS;
 use version::SITE_NUMBERS;
 use version::identifiers::identifier;
 use version::values::VALUES;
-use version::values::stamps;
+use version::values::largest;
 ghost use mathlib.Core.Path.{_≡_};
 ghost use mathlib.Core.List.{_∷_, _++_};
 ghost use Prim.Native.Nat.{_+_, _≤_, _<_};
@@ -25,10 +25,9 @@ ghost use lib.ListN.{length, take};
 ghost use Rattle.record.specs.Layout.{keys};
 ghost use Rattle.group.specs.Row.{mostSets};
 ghost use Rattle.text.specs.Words.{space, plus, dottedLength, equatedLength};
-ghost use Rattle.version.specs.Version.{setsAt};
-ghost use Rattle.version.specs.Line.{nameText, identifierText, settingsText, versionLine};
+ghost use Rattle.version.specs.Line.{nameText, identifierText};
 ghost use Rattle.version.specs.Line.{namesLength, identifierLength, settingsLength, lineLength};
-ghost use Rattle.version.specs.Code.{tagsOf, identifierBy, stampText};
+ghost use Rattle.version.specs.Code.{identifierBy, stampText, settingsBy, lineBy};
 
 // The bytes that a line has at most: the Create; for each Set a separator and its name; for each key a space, the key,
 // `=` and the value; and a newline.
@@ -103,15 +102,14 @@ fn put_setting(out: &mut [u8], n: usize, key: u8, s: u64) -> usize
     put_equated(out, w, key, ((s - 1) % VALUES) as u32)
 }
 
-// Puts ` key=value` for each key set in the group g of the Sets in the t first places, ascending.
-fn put_settings(out: &mut [u8], n: usize, recs: &[u8], places: &[u16], t: usize, g: u64) -> usize
-    requires { ⌜ (t ≤ length (now places)) × (t ≤ mostSets) × (n + settingsLength ≤ length (now out)) ⌝ }
+// Puts ` key=value` for each key set in the group g, ascending, by the t stamps of the object's Sets.
+fn put_settings(out: &mut [u8], n: usize, stamps: &[u64], t: usize, g: u64) -> usize
+    requires { ⌜ (t ≤ length (now stamps)) × (t ≤ mostSets) × (n + settingsLength ≤ length (now out)) ⌝ }
     ensures { λ r.
-        ⌜ (take r (now (out .exit))
-        ≡ take n (now (out .entry)) ++ settingsText (setsAt (now (recs .entry)) (take t (now (places .entry)))) g keys)
+        ⌜ (take r (now (out .exit)) ≡ take n (now (out .entry)) ++ settingsBy (take t (now (stamps .entry))) g keys)
         × (r ≤ n + settingsLength) ⌝ }
 {
-    let best = stamps(recs, places, t, g);
+    let best = largest(stamps, t, g);
     let mut w = n;
     let mut k: u8 = 0;
     while k < KEYS {
@@ -121,28 +119,19 @@ fn put_settings(out: &mut [u8], n: usize, recs: &[u8], places: &[u16], t: usize,
     w
 }
 
-// Puts at the front the line of the version g of the object that c created; says how many bytes it has. The Sets of the
-// object stand in the t first places, and tags are theirs.
-pub fn put_line(
-    out: &mut [u8],
-    recs: &[u8],
-    c: Edit,
-    places: &[u16],
-    t: usize,
-    tags: &[u64],
-    g: u64,
-) -> usize
-    requires { ⌜ (t ≤ length (now places))
-        × (t ≤ length (now tags))
+// Puts at the front the line of the version g of the object that c created, by the t tags and stamps of the object's
+// Sets; says how many bytes it has.
+pub fn put_line(out: &mut [u8], c: Edit, tags: &[u64], stamps: &[u64], t: usize, g: u64) -> usize
+    requires { ⌜ (t ≤ length (now tags))
+        × (t ≤ length (now stamps))
         × (t ≤ mostSets)
-        × (lineLength ≤ length (now out))
-        × (take t (now tags) ≡ tagsOf (setsAt (now recs) (take t (now places)))) ⌝ }
+        × (lineLength ≤ length (now out)) ⌝ }
     ensures { λ r.
-        ⌜ (take r (now (out .exit)) ≡ versionLine c (setsAt (now (recs .entry)) (take t (now (places .entry)))) g)
+        ⌜ (take r (now (out .exit)) ≡ lineBy c (take t (now (tags .entry))) (take t (now (stamps .entry))) g)
         × (r ≤ lineLength) ⌝ }
 {
     let a = put_dotted(out, 0, c.site.0, c.seq.0);
     let b = put_identifier(out, a, tags, t, g);
-    let d = put_settings(out, b, recs, places, t, g);
+    let d = put_settings(out, b, stamps, t, g);
     put_byte(out, d, NEWLINE)
 }

@@ -1,6 +1,6 @@
 -- The lines of the list from what the code gathers: those of an object, the objects' numbers, and all lines joined.
 -- Assumes nothing.
-use mathlib.Core.Path.{_≡_, refl, sym, ap, ap₂, _∙_}
+use mathlib.Core.Path.{_≡_, refl, sym, ap, _∙_, fun-ext}
 use mathlib.Core.Bool.{true, false}
 use mathlib.Core.List.{List, [], _∷_, _++_, map, flatMap}
 use Prim.Native.Nat.{ℕ, zero, suc, _+_, _-_, _<_}
@@ -18,7 +18,6 @@ use Rattle.ground.proofs.Below.{keep-at}
 use Rattle.ground.proofs.Lists.{any-off}
 use Rattle.ground.proofs.Places.{any-place-on}
 use Rattle.ground.proofs.Gathered.{any-gathered, gathered-length}
-use Rattle.record.specs.declared.Edit.{Edit}
 use Rattle.tables.specs.Tables.{Tables}
 use Rattle.arrival.specs.Arrival.{rowOf}
 use Rattle.tables.specs.Sound.{sound}
@@ -26,8 +25,9 @@ use Rattle.output.specs.Output.{writing}
 use Rattle.version.specs.Order.{versionsOf}
 use Rattle.version.specs.Line.{versionLine, objectLines}
 use Rattle.version.proofs.Members.{map-place}
+use Rattle.version.proofs.Stamps.{line-by}
 use Rattle.objects.specs.declared.Gathered.{Gathered}
-use Rattle.objects.specs.Objects.{setsFor, createdBefore, objectsOf}
+use Rattle.objects.specs.Objects.{createOf, setsFor, createdBefore, objectsOf}
 use Rattle.list.specs.Listing.{linesFor, versionTotal, linesOf}
 use Rattle.list.specs.Printing.{joined, listOf, listLength, listingOf}
 use Rattle.objects.specs.Code.{GatheredOf}
@@ -37,39 +37,44 @@ use Rattle.list.proofs.Behind.{joined-append}
 -- ---- what is gathered of an object
 
 module _ (t : Tables) (o : ℕ) (g : Gathered) (f : GatheredOf t o g) where
-  pub gathered-ready : Ready (t .records) g
+  pub gathered-ready : Ready g
   gathered-ready =
       record {
         few = f .few-sets;
-        places-long = f .places-long;
         tags-long = f .tags-long;
+        stamps-long = f .stamps-long;
         versions-long = f .versions-long;
-        tagged = rw (f .places) (f .tags);
       }
 
-  pub gathered-lines : map (lineIn (t .records) g) (take (g .count) (g .versions)) ≡ linesFor t o
+  line-is : (v : ℕ) → lineIn g v ≡ versionLine (createOf t o) (setsFor t o) v
+  line-is v =
+      let stamps = take (g .sets) (g .stamps) in
+      let long : length stamps ≡ length (setsFor t o)
+      = length-take-le (g .sets) (g .stamps) (omega (arith, f .few-sets, f .stamps-long)) ∙ f .sets in
+      rw (f .create, f .tags) (line-by (setsFor t o) stamps (f .stamps) v (createOf t o) long)
+
+  pub gathered-lines : map (lineIn g) (take (g .count) (g .versions)) ≡ linesFor t o
   unfolding linesFor objectLines
   gathered-lines =
-      ap (map (lineIn (t .records) g)) (f .versions)
-      ∙ ap₂ (λ (c : Edit) (ms : List Edit). map (versionLine c ms) (versionsOf (setsFor t o) (rowOf t o)))
-      (f .create) (f .places)
+      ap (map (lineIn g)) (f .versions)
+      ∙ ap (λ (h : ℕ → List ℕ). map h (versionsOf (setsFor t o) (rowOf t o))) (fun-ext line-is)
 
   pub gathered-count : length (linesFor t o) ≡ g .count
   gathered-count =
       ap length (sym gathered-lines)
-      ∙ length-map (take (g .count) (g .versions)) (lineIn (t .records) g)
+      ∙ length-map (take (g .count) (g .versions)) (lineIn g)
       ∙ length-take-le (g .count) (g .versions) (omega (arith, f .versions-long, f .few-groups))
 
   pub gathered-line :
       (v : ℕ) → v < length (linesFor t o) →
-      lineIn (t .records) g (getD (g .versions) v 0) ≡ getD (linesFor t o) v []
+      lineIn g (getD (g .versions) v 0) ≡ getD (linesFor t o) v []
   gathered-line v l =
       let low : v < g .count = omega (arith, gathered-count) in
       let front = take (g .count) (g .versions) in
       let long = length-take-le (g .count) (g .versions) (omega (arith, f .versions-long, f .few-groups)) in
       sym (ap (λ (ls : List (List ℕ)). getD ls v []) (sym gathered-lines)
-      ∙ map-place (lineIn (t .records) g) front v 0 [] (omega (arith, long))
-      ∙ ap (lineIn (t .records) g) (getD-take (g .count) (g .versions) v 0 low))
+      ∙ map-place (lineIn g) front v 0 [] (omega (arith, long))
+      ∙ ap (lineIn g) (getD-take (g .count) (g .versions) v 0 low))
 
 -- ---- the objects in their order are the numbers below their count, each once
 

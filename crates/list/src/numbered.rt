@@ -82,7 +82,7 @@ fn put_found(
 {
     let mut rows = [0u64; ROWS];
     let g = gather(&mut rows, c, records, objects, groups, o);
-    put_version(out, records, g, v)
+    put_version(out, g, v)
 }
 
 // Puts line k at the front of out, if there is one.

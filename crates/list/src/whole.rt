@@ -20,20 +20,22 @@ ghost use Rattle.list.specs.Listing.{linesFor};
 ghost use Rattle.list.specs.Printing.{joined, listOf, listLength};
 ghost use Rattle.list.specs.Code.{headOf, allLines, Behind};
 
-// Puts line 0 behind the first n bytes; says how many bytes stand there then.
-fn put_head(out: &mut [u8], n: usize, c: Counters, objects: &[u16]) -> usize
-    requires { ⌜ (c .objects ≤ mostObjects) × (n + lineLength ≤ length (now out)) ⌝ }
+// Puts line 0 behind the first n bytes; says how many bytes stand there then. The line is formed in a buffer of its own.
+fn put_head(out: &mut [u8], line: &mut [u8], n: usize, c: Counters, objects: &[u16]) -> usize
+    requires { ⌜ (c .objects ≤ mostObjects)
+        × (n + lineLength ≤ length (now out))
+        × (lineLength ≤ length (now line)) ⌝ }
     ensures { λ r. ⌜ Behind (now (out .entry)) n (headOf c (now (objects .entry))) lineLength (now (out .exit)) r ⌝ }
 {
-    let mut line = [0u8; LINE];
-    let k = head(&mut line, c, objects);
-    copy_in(&mut out[n..], &line, k);
+    let k = head(line, c, objects);
+    copy_in(&mut out[n..], line, k);
     n + k
 }
 
-// Puts the lines of object o behind the first n bytes; rows are work space, made once for all objects.
+// Puts the lines of object o behind the first n bytes; line and rows are work space, made once for all objects.
 fn put_object(
     out: &mut [u8],
+    line: &mut [u8],
     rows: &mut [u64],
     n: usize,
     c: Counters,
@@ -45,18 +47,20 @@ fn put_object(
     requires { ⌜ (sound (tablesOf c (now records) (now objects) (now groups)) ≡ true)
         × (o < c .objects)
         × (n + mostGroups * lineLength ≤ length (now out))
-        × (length (now rows) ≡ mostGroups * mostSets) ⌝ }
+        × (length (now rows) ≡ mostGroups * mostSets)
+        × (lineLength ≤ length (now line)) ⌝ }
     ensures { λ r. ⌜ Behind (now (out .entry)) n
         (joined (linesFor (tablesOf c (now (records .entry)) (now (objects .entry)) (now (groups .entry))) o))
         (mostGroups * lineLength) (now (out .exit)) r ⌝ }
 {
     let g = gather(rows, c, records, objects, groups, o);
-    put_versions(out, n, records, g)
+    put_versions(out, line, n, g)
 }
 
 // Puts the lines of all objects behind the first n bytes, in their order.
 fn put_objects(
     out: &mut [u8],
+    line: &mut [u8],
     rows: &mut [u64],
     n: usize,
     c: Counters,
@@ -66,7 +70,8 @@ fn put_objects(
 ) -> usize
     requires { ⌜ (sound (tablesOf c (now records) (now objects) (now groups)) ≡ true)
         × (n + mostObjects * (mostGroups * lineLength) ≤ length (now out))
-        × (length (now rows) ≡ mostGroups * mostSets) ⌝ }
+        × (length (now rows) ≡ mostGroups * mostSets)
+        × (lineLength ≤ length (now line)) ⌝ }
     ensures { λ r. ⌜ Behind (now (out .entry)) n
         (allLines (tablesOf c (now (records .entry)) (now (objects .entry)) (now (groups .entry))))
         (mostObjects * (mostGroups * lineLength)) (now (out .exit)) r ⌝ }
@@ -77,7 +82,8 @@ fn put_objects(
     let mut w = n;
     let mut i: usize = 0;
     while i < m {
-        w = put_object(out, rows, w, c, records, objects, groups, order[i] as usize);
+        let o = order[i] as usize;
+        w = put_object(out, line, rows, w, c, records, objects, groups, o);
         i += 1;
     }
     w
@@ -98,7 +104,8 @@ pub fn put_list(
         (listOf (tablesOf c (now (records .entry)) (now (objects .entry)) (now (groups .entry))))
         listLength (now (out .exit)) r ⌝ }
 {
-    let w = put_head(out, n, c, objects);
+    let mut line = [0u8; LINE];
+    let w = put_head(out, &mut line, n, c, objects);
     let mut rows = [0u64; ROWS];
-    put_objects(out, &mut rows, w, c, records, objects, groups)
+    put_objects(out, &mut line, &mut rows, w, c, records, objects, groups)
 }

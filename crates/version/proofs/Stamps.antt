@@ -1,25 +1,30 @@
--- Stamps go by the total order, then by value: the largest stamp of the members with a key is that of the last one, and
--- it holds its value. Assumes nothing.
-use mathlib.Core.Path.{_≡_, refl, sym, ap, _∙_}
+-- Stamps of one key go by the total order, then by value: the largest stamp of the members with a key is that of the
+-- last one, and it holds its value. So the line from tags and stamps is the version's line. Assumes nothing.
+use mathlib.Core.Path.{_≡_, refl, sym, ap, ap₂, subst, _∙_}
 use mathlib.Core.Bool.{Bool, true, false, not, _&&_, _||_, cond}
-use mathlib.Core.List.{List, [], _∷_}
-use Prim.Native.Nat.{ℕ, _+_, _*_, _-_, _%_, _≤_, _<_, max}
+use mathlib.Core.List.{List, [], _∷_, _++_}
+use Prim.Native.Nat.{ℕ, zero, suc, _+_, _*_, _-_, _/_, _%_, _≤_, _<_, max}
+use native.Mathlib.Numerals.{add-one}
 use native.Mathlib.Omega.{arith}
 use native.Mathlib.Decide.{decLt}
 use borrow.Author.Tests.{lt-ltb, le-ltb, eq-eqb, ne-eqb, eqb-true, eqb-false, ltb-true, ltb-false}
 use lib.Dec.{eqb, ltb}
-use lib.ListN.{length, getD, set}
-use lib.Seq.{getD-set-same, getD-set-other}
+use lib.ListN.{length, getD, take, set}
+use lib.Seq.{getD-take, getD-set-same, getD-set-other}
 use Rattle.ground.proofs.Below.{sum-below}
 use Rattle.record.specs.declared.Edit.{Edit}
 use Rattle.record.specs.Layout.{mostSites, keys}
 use Rattle.causal.specs.Causal.{vectorSum}
+use Rattle.history.specs.History.{recordAt}
 use Rattle.maximal.specs.Groups.{bit}
 use Rattle.arrival.specs.Truth.{noEdit}
-use Rattle.version.specs.Version.{siteNumbers, seqNumbers, hasKey, standsBefore, later}
-use Rattle.version.specs.Line.{settingText}
-use Rattle.version.specs.Code.{values, stampOf, stampWith, Small, Stamps, stampText}
-use Rattle.version.proofs.Last.{lastBelow, last-member, last-other}
+use Rattle.version.specs.Version.{siteNumbers, seqNumbers, setsAt, hasKey, standsBefore, later, lastWith}
+use Rattle.version.specs.Line.{settingText, settingsText, versionLine}
+use Rattle.version.specs.Code.{values, placedOf, placings, stampOf, Small, Stamped, stampText}
+use Rattle.version.specs.Code.{tagsOf, largestBelow, largestBy, settingsBy, lineBy}
+use Rattle.version.proofs.Members.{sets-length, set-place}
+use Rattle.version.proofs.Last.{lastBelow, last-none, last-member, last-other, last-all}
+use Rattle.version.proofs.Tags.{identifier-by}
 
 -- ---- the order of stamps
 
@@ -73,63 +78,174 @@ by-number m n i j v w hi hj hv hw = go (decLt m n) (decLt n m) (decLt i j) (decL
         value (yes h) = rw (lt-ltb v w h, lt-ltb a b (omega arith))
         value (no h) = rw (le-ltb v w (omega arith), le-ltb a b (omega arith))
 
-stamp-order : (a b : Edit) → Small a → Small b → standsBefore a b ≡ ltb (stampOf a) (stampOf b)
-stamp-order a b (sa, va) (sb, vb) =
+placed-order : (a b : Edit) → Small a → Small b → standsBefore a b ≡ ltb (placedOf a) (placedOf b)
+placed-order a b (ma, sa, va) (mb, sb, vb) =
     by-number (vectorSum (a .vector)) (vectorSum (b .vector)) (a .site .0) (b .site .0) (a .value) (b .value) sa sb va
     vb
 
 -- ---- one edit more
 
-stamps-later : (s : ℕ) (l : List Edit) (x : Edit) → Stamps s l → Small x → Stamps (max s (stampOf x)) (later l x)
+-- s is the stamp of the last member with the key k, or 0 for none
+abbrev Lasts : ℕ → ℕ → List Edit → Type 0
+Lasts k s [] = s ≡ 0
+Lasts k s (e ∷ es) = (s ≡ k * placings + placedOf e) × Small e
+
+lasts-later :
+    (k s : ℕ) (l : List Edit) (x : Edit) → Lasts k s l → Small x →
+    Lasts k (max s (k * placings + placedOf x)) (later l x)
 unfolding later
-stamps-later s [] x e h = (omega arith, h)
-stamps-later s (e ∷ es) x (q, p) h =
-    rw (stamp-order e x p h) (go (ltb (stampOf e) (stampOf x)) refl)
+lasts-later k s [] x e h = (omega arith, h)
+lasts-later k s (e ∷ es) x (q, p) h =
+    rw (placed-order e x p h) (go (ltb (placedOf e) (placedOf x)) refl)
   where
-    go : (b : Bool) → ltb (stampOf e) (stampOf x) ≡ b → Stamps (max s (stampOf x)) (cond b (x ∷ []) (e ∷ []))
-    go true t = let l = ltb-true (stampOf e) (stampOf x) t in (omega arith, h)
-    go false t = let l = ltb-false (stampOf e) (stampOf x) t in (omega arith, p)
+    go : (b : Bool) → ltb (placedOf e) (placedOf x) ≡ b →
+        Lasts k (max s (k * placings + placedOf x)) (cond b (x ∷ []) (e ∷ []))
+    go true t = let l = ltb-true (placedOf e) (placedOf x) t in (omega arith, h)
+    go false t = let l = ltb-false (placedOf e) (placedOf x) t in (omega arith, p)
 
--- the list of those with key k, with one edit more
-stamps-with :
-    (best : List ℕ) (x : Edit) (k : ℕ) (l : List Edit) → length best ≡ keys → k < keys → Stamps (getD best k 0) l →
-    Small x → Stamps (getD (stampWith best x) k 0) (cond (hasKey k x) (later l x) l)
-stamps-with best x k l long low p h = go (eqb (x .key) k) refl
+-- a stamp tells its key
+key-told : (e : Edit) → Small e → (e .key * placings + placedOf e) / placings ≡ e .key
+key-told e (m, s, v) = omega arith
+
+lasts-more :
+    (k s : ℕ) (l : List Edit) (x : Edit) → k < keys → Lasts k s l → Small x →
+    Lasts k (cond (eqb (stampOf x / placings) k) (max s (stampOf x)) s) (cond (hasKey k x) (later l x) l)
+lasts-more k s l x low p h = go (decLt (x .key) keys)
   where
-    new : ℕ
-    new = max (getD best (x .key) 0) (stampOf x)
+    keyed : ℕ
+    keyed = x .key * placings + placedOf x
 
-    go : (b : Bool) → eqb (x .key) k ≡ b → Stamps (getD (stampWith best x) k 0) (cond b (later l x) l)
-    go true t =
-        let e : x .key ≡ k = eqb-true (x .key) k t in
-        let own : getD (stampWith best x) k 0 ≡ max (getD best k 0) (stampOf x)
-        = ap (λ (j : ℕ). getD (set best j (max (getD best j 0) (stampOf x))) k 0) e
-        ∙ getD-set-same best k (max (getD best k 0) (stampOf x)) 0 (omega arith) in
-        rw own (stamps-later (getD best k 0) l x p h)
-    go false t = rw (getD-set-other best (x .key) k new 0 (λ e. eqb-false (x .key) k t (sym e))) p
+    own : (b : Bool) → eqb (x .key) k ≡ b → Lasts k (cond b (max s keyed) s) (cond b (later l x) l)
+    own true t =
+        subst (λ (j : ℕ). Lasts k (max s (j * placings + placedOf x)) (later l x)) (sym (eqb-true (x .key) k t))
+        (lasts-later k s l x p h)
+    own false t = p
 
--- ---- among the first i Sets
+    none : (b : Bool) → Lasts k (cond b (max s 0) s) l
+    none true = let e : max s 0 ≡ s = omega arith in rw e p
+    none false = p
 
-module _
-    (ms : List Edit)
-    (g : ℕ)
-    (best : List ℕ)
-    (i : ℕ)
-    (inv : (k : ℕ) → k < keys → Stamps (getD best k 0) (lastBelow ms g k i)) where
-  pub member-stamped :
-      (x : Edit) → getD ms i noEdit ≡ x → bit g i ≡ true → length best ≡ keys → Small x → (k : ℕ) → k < keys →
-      Stamps (getD (stampWith best x) k 0) (lastBelow ms g k (i + 1))
-  member-stamped x e b long h k low =
-      rw (last-member ms g k i x e b) (stamps-with best x k (lastBelow ms g k i) long low (inv k low) h)
-
-  pub other-stamped : bit g i ≡ false → (k : ℕ) → k < keys → Stamps (getD best k 0) (lastBelow ms g k (i + 1))
-  other-stamped b k low = rw (last-other ms g k i b) (inv k low)
+    go : Dec (x .key < keys) →
+        Lasts k (cond (eqb (stampOf x / placings) k) (max s (stampOf x)) s) (cond (hasKey k x) (later l x) l)
+    go (yes i) = rw (lt-ltb (x .key) keys i, key-told x h) (own (eqb (x .key) k) refl)
+    go (no i) =
+        rw (le-ltb (x .key) keys (omega arith), ne-eqb (x .key) k (λ e. omega arith)) (none (eqb (0 / placings) k))
 
 -- ---- the value
 
-pub stamp-text : (k s : ℕ) (l : List Edit) → Stamps s l → stampText k s ≡ settingText k l
+stamp-text : (k s : ℕ) (l : List Edit) → Lasts k s l → stampText k s ≡ settingText k l
 unfolding settingText
 stamp-text k s [] e = rw e
-stamp-text k s (e ∷ es) (q, (hs, hv)) =
+stamp-text k s (e ∷ es) (q, (hm, hs, hv)) =
     let v : (s - 1) % values ≡ e .value = omega arith in
     rw (ne-eqb s 0 (λ z. omega arith), v)
+
+-- ---- the line
+
+module _ (ms : List Edit) (stamps : List ℕ) (all : Stamped ms stamps) (g : ℕ) where
+  lasts-below :
+      (k : ℕ) → k < keys → (i : ℕ) → i ≤ length ms → Lasts k (largestBelow stamps g k i) (lastBelow ms g k i)
+  unfolding largestBelow
+  lasts-below k low zero h = rw (last-none ms g k) refl
+  lasts-below k low (suc i) h = go (bit g i) refl (lasts-below k low i (omega arith))
+    where
+      x : Edit
+      x = getD ms i noEdit
+
+      best : ℕ
+      best = largestBelow stamps g k i
+
+      next : lastBelow ms g k (suc i) ≡ lastBelow ms g k (i + 1)
+      next = ap (lastBelow ms g k) (sym (add-one i))
+
+      go : (b : Bool) → bit g i ≡ b → Lasts k best (lastBelow ms g k i) →
+          Lasts k (cond (b && eqb (getD stamps i 0 / placings) k) (max best (getD stamps i 0)) best)
+          (lastBelow ms g k (suc i))
+      go true b ih =
+          rw (all i (omega arith) .0, next, last-member ms g k i x refl b)
+          (lasts-more k best (lastBelow ms g k i) x low ih (all i (omega arith) .1))
+      go false b ih = rw (next, last-other ms g k i b) ih
+
+  settings-by : length stamps ≡ length ms → (k : ℕ) → k ≤ keys → settingsBy stamps g k ≡ settingsText ms g k
+  unfolding settingsBy settingsText
+  settings-by long zero h = refl
+  settings-by long (suc k) h =
+      let last : Lasts k (largestBy stamps g k) (lastWith ms g k)
+      = rw (long, ← last-all ms g k (length ms) refl) (lasts-below k (omega arith) (length ms) (omega arith)) in
+      ap₂ (λ (a b : List ℕ). a ++ b) (settings-by long k (omega arith))
+      (stamp-text k (largestBy stamps g k) (lastWith ms g k) last)
+
+  pub line-by : (c : Edit) → length stamps ≡ length ms → lineBy c (tagsOf ms) stamps g ≡ versionLine c ms g
+  unfolding lineBy versionLine
+  line-by c long = rw (identifier-by ms g, settings-by long keys (omega arith))
+
+-- ---- the stamps of the Sets, one after another
+
+-- out has the stamp of the edit in the i-th of the places
+abbrev pub StampedAt : List ℕ → List ℕ → List ℕ → ℕ → Type 0
+StampedAt rs ps out i =
+    let e = recordAt rs (getD ps i 0) in
+    (getD out i 0 ≡ stampOf e) × Small e
+
+pub stamp-more :
+    (rs ps out : List ℕ) (i z : ℕ) → i < length out → ((j : ℕ) → j < i → StampedAt rs ps out j) →
+    (z ≡ stampOf (recordAt rs (getD ps i 0))) × Small (recordAt rs (getD ps i 0)) → (j : ℕ) → j < i + 1 →
+    StampedAt rs ps (set out i z) j
+stamp-more rs ps out i z fits inv (e, h) j low = go (decLt j i)
+  where
+    go : Dec (j < i) → StampedAt rs ps (set out i z) j
+    go (yes l) = (getD-set-other out i j z 0 (λ q. omega arith) ∙ inv j l .0, inv j l .1)
+    go (no l) =
+        let same : i ≡ j = omega arith in
+        subst (StampedAt rs ps (set out i z)) same (getD-set-same out i z 0 fits ∙ e, h)
+
+pub stamps-all :
+    (rs ps out : List ℕ) (t : ℕ) → t ≤ length ps → ((j : ℕ) → j < t → StampedAt rs ps out j) →
+    Stamped (setsAt rs (take t ps)) (take t out)
+stamps-all rs ps out t fits inv i l =
+    let low : i < t = omega (arith, sets-length rs ps t fits) in
+    rw (getD-take t out i 0 low, set-place rs ps t fits i low) (inv i low)
+
+-- ---- the largest stamp of each key, one Set after another
+
+module _
+    (stamps best : List ℕ)
+    (g i s : ℕ)
+    (here : getD stamps i 0 ≡ s)
+    (inv : (k : ℕ) → k < keys → getD best k 0 ≡ largestBelow stamps g k i) where
+  pub larger-more :
+      bit g i ≡ true → length best ≡ keys → s / placings < keys → getD best (s / placings) 0 < s → (k : ℕ) → k < keys →
+      getD (set best (s / placings) s) k 0 ≡ largestBelow stamps g k (i + 1)
+  unfolding largestBelow
+  larger-more b long fits more k low = rw (add-one, b, here) (go (eqb (s / placings) k) refl)
+    where
+      go : (e : Bool) → eqb (s / placings) k ≡ e →
+          getD (set best (s / placings) s) k 0 ≡ cond e (max (largestBelow stamps g k i) s) (largestBelow stamps g k i)
+      go true q =
+          let same : s / placings ≡ k = eqb-true (s / placings) k q in
+          let less : getD best k 0 < s = subst (λ (j : ℕ). getD best j 0 < s) same more in
+          let own : getD (set best (s / placings) s) k 0 ≡ s
+          = ap (λ (j : ℕ). getD (set best j s) k 0) same ∙ getD-set-same best k s 0 (omega arith) in
+          own ∙ omega (arith, inv k low)
+      go false q = getD-set-other best (s / placings) k s 0 (λ e. eqb-false (s / placings) k q (sym e)) ∙ inv k low
+
+  pub none-larger :
+      (bit g i && ltb (getD best (s / placings) 0) s) ≡ false → (k : ℕ) → k < keys →
+      getD best k 0 ≡ largestBelow stamps g k (i + 1)
+  unfolding largestBelow
+  none-larger h k low = rw (add-one, here) (go (bit g i) refl (eqb (s / placings) k) refl)
+    where
+      go : (b : Bool) → bit g i ≡ b → (e : Bool) → eqb (s / placings) k ≡ e →
+          getD best k 0 ≡ cond (b && e) (max (largestBelow stamps g k i) s) (largestBelow stamps g k i)
+      go true b true q =
+          let same : s / placings ≡ k = eqb-true (s / placings) k q in
+          let off : ltb (getD best (s / placings) 0) s ≡ false = rw (← h, b) in
+          let less : s ≤ getD best k 0
+          = subst (λ (j : ℕ). s ≤ getD best j 0) same (ltb-false (getD best (s / placings) 0) s off) in
+          omega (arith, inv k low)
+      go true b false q = inv k low
+      go false b e q = inv k low
+
+pub none-largest : (stamps : List ℕ) (g k : ℕ) → 0 ≡ largestBelow stamps g k 0
+unfolding largestBelow
+none-largest stamps g k = refl

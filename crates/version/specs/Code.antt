@@ -2,21 +2,23 @@
 -- laws in proofs/ tie each one to the definitions of `Version` and `Order`. Assumes nothing.
 use mathlib.Core.Path.{_≡_}
 use mathlib.Core.Bool.{Bool, true, not, _&&_, cond}
-use mathlib.Core.List.{List, [], _∷_, map}
-use Prim.Native.Nat.{ℕ, _+_, _-_, _*_, _%_, _≤_, _<_, max}
+use mathlib.Core.List.{List, [], _∷_, _++_, map}
+use Prim.Native.Nat.{ℕ, zero, suc, _+_, _-_, _*_, _/_, _%_, _≤_, _<_, max}
 use lib.Dec.{eqb, ltb}
-use lib.ListN.{length, getD, take, drop, set}
+use lib.ListN.{length, getD, take, drop}
 use Rattle.ground.specs.Below.{keep}
 use Rattle.ground.specs.Sorted.{gatherBy, ascending}
 use Rattle.record.specs.declared.Edit.{Edit}
-use Rattle.record.specs.Layout.{keys}
+use Rattle.record.specs.Layout.{mostSites, keys}
 use Rattle.causal.specs.Causal.{vectorSum}
 use Rattle.maximal.specs.Groups.{bit}
 use Rattle.group.specs.Row.{mostSets}
+use Rattle.arrival.specs.Truth.{noEdit}
 use Rattle.arrival.specs.Versions.{isDisputed}
-use Rattle.text.specs.Words.{space, equated}
-use Rattle.version.specs.Version.{siteNumbers, nameOf, lastWith}
+use Rattle.text.specs.Words.{space, newline, dotted, equated}
+use Rattle.version.specs.Version.{siteNumbers, seqNumbers, nameOf}
 use Rattle.version.specs.Order.{lex}
+use Rattle.version.specs.Line.{identifierText}
 
 -- ---- identifiers from tags
 
@@ -68,25 +70,52 @@ abbrev pub values : ℕ
 values = 4294967296
 
 -- the place in the total order, then the value, as one number that is never 0
-abbrev pub stampOf : Edit → ℕ
-stampOf e = (vectorSum (e .vector) * siteNumbers + e .site .0) * values + e .value + 1
+abbrev pub placedOf : Edit → ℕ
+placedOf e = (vectorSum (e .vector) * siteNumbers + e .site .0) * values + e .value + 1
 
--- the largest stamp of each key, with one member more
-abbrev pub stampWith : List ℕ → Edit → List ℕ
-stampWith best e = set best (e .key) (max (getD best (e .key) 0) (stampOf e))
+-- a number above all of them: 2 ^ 60
+abbrev pub placings : ℕ
+placings = 1152921504606846976
+
+-- the key before them; 0 for a key that is none
+abbrev pub stampOf : Edit → ℕ
+stampOf e = cond (ltb (e .key) keys) (e .key * placings + placedOf e) 0
 
 -- the numbers of e are those of a record
 abbrev pub Small : Edit → Type 0
-Small e = (e .site .0 < siteNumbers) × (e .value < values)
+Small e = (vectorSum (e .vector) ≤ mostSites * seqNumbers) × (e .site .0 < siteNumbers) × (e .value < values)
 
--- s is the stamp of the last member, or 0 for none
-abbrev pub Stamps : ℕ → List Edit → Type 0
-Stamps s [] = s ≡ 0
-Stamps s (e ∷ es) = (s ≡ stampOf e) × Small e
+-- these are the stamps of the Sets ms
+abbrev pub Stamped : List Edit → List ℕ → Type 0
+Stamped ms stamps =
+    (i : ℕ) → i < length ms → (getD stamps i 0 ≡ stampOf (getD ms i noEdit)) × Small (getD ms i noEdit)
 
-abbrev pub StampsOf : List ℕ → List Edit → ℕ → Type 0
-StampsOf best ms g = (k : ℕ) → k < keys → Stamps (getD best k 0) (lastWith ms g k)
+-- the largest stamp of the key k among the members of g, of the n first Sets; 0 where there is none
+unfoldable pub largestBelow : List ℕ → ℕ → ℕ → ℕ → ℕ
+largestBelow stamps g k zero = 0
+largestBelow stamps g k (suc n) =
+    cond (bit g n && eqb (getD stamps n 0 / placings) k) (max (largestBelow stamps g k n) (getD stamps n 0))
+    (largestBelow stamps g k n)
+
+abbrev pub largestBy : List ℕ → ℕ → ℕ → ℕ
+largestBy stamps g k = largestBelow stamps g k (length stamps)
+
+-- the largest stamp of each key
+abbrev pub LargestOf : List ℕ → List ℕ → ℕ → Type 0
+LargestOf best stamps g = (k : ℕ) → k < keys → getD best k 0 ≡ largestBy stamps g k
 
 -- ` key=value` by a stamp
 abbrev pub stampText : ℕ → ℕ → List ℕ
 stampText k s = cond (eqb s 0) [] (space ∷ equated k ((s - 1) % values))
+
+-- for the keys below k, ascending
+unfoldable pub settingsBy : List ℕ → ℕ → ℕ → List ℕ
+settingsBy stamps g zero = []
+settingsBy stamps g (suc k) = settingsBy stamps g k ++ stampText k (largestBy stamps g k)
+
+-- ---- the line from tags and stamps
+
+unfoldable pub lineBy : Edit → List ℕ → List ℕ → ℕ → List ℕ
+lineBy c tags stamps g =
+    dotted (c .site .0) (c .seq .0)
+    ++ ((space ∷ identifierText (identifierBy tags g)) ++ (settingsBy stamps g keys ++ (newline ∷ [])))

@@ -1,5 +1,4 @@
 -- `line::put_line` meets its contract: the Create, the identifier, the values and a newline. Assumes nothing.
-use mathlib.Core.Path.{_∙_}
 use mathlib.Core.List.{[], _∷_}
 use native.Mathlib.Omega.{arith}
 use borrow.Author.Needs.{needs}
@@ -7,9 +6,8 @@ use lib.ListN.{take}
 use Rattle.record.specs.Layout.{keys}
 use Rattle.text.specs.Words.{space, newline, dotted}
 use Rattle.text.proofs.Lines.{four}
-use Rattle.version.specs.Version.{setsAt, identifierOf}
-use Rattle.version.specs.Line.{identifierText, settingsText, versionLine}
-use Rattle.version.proofs.Tags.{identifier-by}
+use Rattle.version.specs.Line.{identifierText}
+use Rattle.version.specs.Code.{identifierBy, settingsBy, lineBy}
 use Rattle.line.proofs.put_line.Statement.{statement}
 use Rattle.line.proofs.put_line.Tie as tie
 
@@ -29,18 +27,18 @@ same-length : tie.Need-same-length
 same-length c = search needs
 
 returns : tie.Need-returns
-unfolding versionLine
+unfolding lineBy
 returns c =
     let third = c .before .before .before .before .before .before in
     let second = third .before .before .before .before in
     let first = second .before .before .before .before in
-    let start = first .before .before .before .before .before .before in
+    let start = first .before .before .before .before .before in
     let a = start .args in
-    let ms = setsAt (a .recs .now) (take (a .t) (a .places .now)) in (
-      four [] (dotted (a .c .site .0) (a .c .seq .0)) (space ∷ identifierText (identifierOf ms (a .g)))
-          (settingsText ms (a .g) keys) (newline ∷ []) (first .put-dotted .ensures .0)
-          (second .put-identifier .ensures .0 ∙ rw (start .pre .4, identifier-by ms (a .g)))
-          (third .put-settings .ensures .0) (c .before .before .put-byte .ensures .0),
+    let tags = take (a .t) (a .tags .now) in (
+      four [] (dotted (a .c .site .0) (a .c .seq .0)) (space ∷ identifierText (identifierBy tags (a .g)))
+          (settingsBy (take (a .t) (a .stamps .now)) (a .g) keys) (newline ∷ []) (first .put-dotted .ensures .0)
+          (second .put-identifier .ensures .0) (third .put-settings .ensures .0)
+          (c .before .before .put-byte .ensures .0),
       omega arith,
     )
 

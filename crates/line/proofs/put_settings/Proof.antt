@@ -5,28 +5,26 @@ use mathlib.Core.List.{_++_}
 use Prim.Native.Nat.{_+_, _*_, _-_, _≤_}
 use native.Mathlib.Omega.{arith}
 use borrow.Author.Needs.{needs}
-use lib.ListN.{length, take, getD}
+use lib.ListN.{length, take}
 use Rattle.record.specs.Layout.{keys}
 use Rattle.text.specs.Words.{equatedLength}
-use Rattle.version.specs.Version.{setsAt, lastWith}
-use Rattle.version.specs.Line.{settingsText}
+use Rattle.version.specs.Code.{settingsBy}
 use Rattle.version.proofs.Turns.{key-more, no-keys}
-use Rattle.version.proofs.Stamps.{stamp-text}
 use Rattle.line.proofs.put_settings.Statement.{statement}
 use Rattle.line.proofs.put_settings.Tie as tie
 
 abbrev Inv-loop : tie.InvT-loop
-Inv-loop out₀ n recs places t g best w₀ k₀ out w k =
+Inv-loop out₀ n stamps t g best w₀ k₀ out w k =
     (k ≤ keys)
     × (w ≤ n + k * (1 + equatedLength))
     × (length out ≡ length out₀)
-    × (take w out ≡ take n out₀ ++ settingsText (setsAt recs (take t places)) g k)
+    × (take w out ≡ take n out₀ ++ settingsBy (take t stamps) g k)
 
 abbrev μ-loop : tie.MeasureT-loop
-μ-loop out₀ n recs places t g best w₀ k₀ out w k = keys - k
+μ-loop out₀ n stamps t g best w₀ k₀ out w k = keys - k
 
-stamps-requires : tie.Need-stamps-requires Inv-loop μ-loop
-stamps-requires c κs = search needs
+largest-requires : tie.Need-largest-requires Inv-loop μ-loop
+largest-requires c κs = search needs
 
 loop-holds : tie.Need-loop-holds Inv-loop μ-loop
 loop-holds c = (search needs, search needs, refl, no-keys _ _ _)
@@ -53,16 +51,14 @@ loop-again : tie.Need-loop-again Inv-loop μ-loop
 loop-again c =
     let p = c .before .before .put-setting in
     let l = c .before .before .before .before .before .loop in
-    let s = c .before .before .before .before .before .before .stamps in
-    let a = c .before .before .before .before .before .before .before .before .before .before .args in
-    let ms = setsAt (a .recs .now) (take (a .t) (a .places .now)) in
-    let stamp = getD (s .result) (l .k) 0 in
-    let own = stamp-text (l .k) stamp (lastWith ms (a .g) (l .k)) (s .ensures (l .k) (omega arith)) in (
+    let best = c .before .before .before .before .before .before .largest in
+    let a = c .before .before .before .before .before .before .before .before .before .args in
+    let stamps = take (a .t) (a .stamps .now) in (
       omega arith,
       omega (arith, p .ensures .1),
       p .kept .0 ∙ l .inv .2,
-      key-more ms (a .g) (l .k) (take (a .n) (a .out .now)) (take (l .w) (l .out)) _ (l .inv .3)
-          (p .ensures .0 ∙ rw own),
+      key-more stamps (a .g) (l .k) (take (a .n) (a .out .now)) (take (l .w) (l .out)) _ (l .inv .3)
+          (p .ensures .0 ∙ rw (best .ensures (l .k) (omega arith))),
     )
 
 same-length : tie.Need-same-length Inv-loop μ-loop
@@ -80,7 +76,7 @@ put-settings-spec =
     (tie.spec
     Inv-loop
     μ-loop
-    stamps-requires
+    largest-requires
     loop-holds
     cast-put-setting
     mul-put-setting

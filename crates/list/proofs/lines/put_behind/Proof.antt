@@ -9,9 +9,6 @@ use borrow.Author.Needs.{needs}
 use Rattle.list.proofs.lines.put_behind.Statement.{statement}
 use Rattle.list.proofs.lines.put_behind.Tie as tie
 
-slice-aggregate-put-version : tie.Need-slice-aggregate-put-version
-slice-aggregate-put-version c = search needs
-
 put-version-requires : tie.Need-put-version-requires
 put-version-requires c κs = search needs
 
@@ -24,9 +21,6 @@ part-copy-in-start c = search needs
 part-copy-in-end : tie.Need-part-copy-in-end
 part-copy-in-end c = search needs
 
-slice-aggregate-copy-in : tie.Need-slice-aggregate-copy-in
-slice-aggregate-copy-in c = search needs
-
 copy-in-requires : tie.Need-copy-in-requires
 copy-in-requires c κs = search needs
 
@@ -36,26 +30,29 @@ add-result c = search needs
 same-length : tie.Need-same-length
 same-length c = search needs
 
+same-length-2 : tie.Need-same-length-2
+same-length-2 c = search needs
+
 returns : tie.Need-returns
 returns c =
     let w = c .before .before in
-    let v = w .before .before .before .before in
-    let a = v .before .before .before .before .args in
+    let v = w .before .before .before .before .before in
+    let start = v .before .before .before .before in
+    let a = start .args in
     let e = v .put-version .ensures in
-    copied-behind (now (a .out)) (a .n) _ (lineIn (now (a .recs)) (a .g) (getD (a .g .versions) (a .v) 0)) _ _ (e .0)
-    (omega (arith, e .1)) (e .1) (w .copy-in .ensures)
+    copied-behind (now (a .out)) (a .n) _ (lineIn (a .g) (getD (a .g .versions) (a .v) 0)) _ _ (e .0)
+    (omega (arith, e .1, v .put-version .kept .0, start .pre .3)) (e .1) (w .copy-in .ensures)
 
 pub put-behind-spec : {M : Type 1} → statement M
 put-behind-spec =
     tie.close
     (tie.spec
-    slice-aggregate-put-version
     put-version-requires
     sub-copy-in
     part-copy-in-start
     part-copy-in-end
-    slice-aggregate-copy-in
     copy-in-requires
     add-result
     same-length
+    same-length-2
     returns)

@@ -14,23 +14,27 @@ use Rattle.list.proofs.lines.put_versions.Statement.{statement}
 use Rattle.list.proofs.lines.put_versions.Tie as tie
 
 abbrev Inv-loop : tie.InvT-loop
-Inv-loop out₀ n recs g w₀ v₀ out w v =
-    (v ≤ g .count) × (length out ≡ length out₀)
-    × Behind out₀ n (joined (map (lineIn recs g) (take v (g .versions)))) (v * lineLength) out w
+Inv-loop out₀ line₀ n g w₀ v₀ out line w v =
+    (v ≤ g .count) × (length out ≡ length out₀) × (length line ≡ length line₀)
+    × Behind out₀ n (joined (map (lineIn g) (take v (g .versions)))) (v * lineLength) out w
 
 abbrev μ-loop : tie.MeasureT-loop
-μ-loop out₀ n recs g w₀ v₀ out w v = g .count - v
+μ-loop out₀ line₀ n g w₀ v₀ out line w v = g .count - v
 
 loop-holds : tie.Need-loop-holds Inv-loop μ-loop
 loop-holds c =
     let a = c .before .before .args in
-    (search needs, refl, no-piece (lineIn (now (a .recs)) (a .g)) lineLength (now (a .out)) (a .g .versions) (a .n))
+    (search needs, refl, refl, no-piece (lineIn (a .g)) lineLength (now (a .out)) (a .g .versions) (a .n))
 
 put-behind-requires : tie.Need-put-behind-requires Inv-loop μ-loop
 put-behind-requires c κs =
-    let l = c .before .before .before .loop in
-    let p = c .before .before .before .before .before .before .pre in
-    (p .0, omega (arith, p .1), omega (arith, p .1, p .2, l .inv .1, l .inv .2 .end, l .inv .2 .few))
+    let l = c .before .before .before .before .loop in
+    let p = c .before .before .before .before .before .before .before .pre in (
+      p .0,
+      omega (arith, p .1),
+      omega (arith, p .1, p .2, l .inv .1, l .inv .3 .end, l .inv .3 .few),
+      omega (arith, p .3, l .inv .2),
+    )
 
 add-v : tie.Need-add-v Inv-loop μ-loop
 add-v c = search needs
@@ -40,25 +44,29 @@ loop-less c = omega arith
 
 loop-again : tie.Need-loop-again Inv-loop μ-loop
 loop-again c =
-    let b = c .before .before in
-    let l = b .before .before .before .before .loop in
-    let s = b .before .before .before .before .before .before .before in
+    let b = c .before .before .before .before in
+    let l = b .before .before .before .before .before .loop in
+    let s = b .before .before .before .before .before .before .before .before in
     let a = s .args in (
       omega arith,
       b .put-behind .kept .0 ∙ l .inv .1,
-      piece-behind (lineIn (now (a .recs)) (a .g)) lineLength (now (a .out)) (a .g .versions) (a .n) (l .v)
-          (omega (arith, s .pre .0 .versions-long, s .pre .1)) (omega (arith, s .pre .1, s .pre .2)) (l .inv .2)
+      b .put-behind .kept .1 .0 ∙ l .inv .2,
+      piece-behind (lineIn (a .g)) lineLength (now (a .out)) (a .g .versions) (a .n) (l .v)
+          (omega (arith, s .pre .0 .versions-long, s .pre .1)) (omega (arith, s .pre .1, s .pre .2)) (l .inv .3)
           (b .put-behind .ensures),
     )
 
 same-length : tie.Need-same-length Inv-loop μ-loop
 same-length c = c .before .before .loop .inv .1
 
+same-length-2 : tie.Need-same-length-2 Inv-loop μ-loop
+same-length-2 c = c .before .before .loop .inv .2
+
 returns : tie.Need-returns Inv-loop μ-loop
 returns c =
     let l = c .before .before .loop in
     let e : l .v ≡ c .before .before .before .before .before .args .g .count = omega arith in
-    rw (← e) (l .inv .2)
+    rw (← e) (l .inv .3)
 
 pub put-versions-spec : {M : Type 1} → statement M
 put-versions-spec =
@@ -72,4 +80,5 @@ put-versions-spec =
     loop-less
     loop-again
     same-length
+    same-length-2
     returns)

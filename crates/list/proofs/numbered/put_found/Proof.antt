@@ -42,4 +42,5 @@ returns c =
 
 pub put-found-spec : {M : Type 1} → statement M
 put-found-spec =
-    tie.close (tie.spec slice-aggregate-gather gather-requires put-version-requires same-length returns)
+    tie.close
+    (tie.spec slice-aggregate-gather gather-requires put-version-requires same-length returns)

@@ -7,9 +7,6 @@ use borrow.Author.Needs.{needs}
 use Rattle.list.proofs.whole.put_head.Statement.{statement}
 use Rattle.list.proofs.whole.put_head.Tie as tie
 
-slice-aggregate-head : tie.Need-slice-aggregate-head
-slice-aggregate-head c = search needs
-
 head-requires : tie.Need-head-requires
 head-requires c κs = search needs
 
@@ -22,9 +19,6 @@ part-copy-in-start c = search needs
 part-copy-in-end : tie.Need-part-copy-in-end
 part-copy-in-end c = search needs
 
-slice-aggregate-copy-in : tie.Need-slice-aggregate-copy-in
-slice-aggregate-copy-in c = search needs
-
 copy-in-requires : tie.Need-copy-in-requires
 copy-in-requires c κs = search needs
 
@@ -34,26 +28,29 @@ add-result c = search needs
 same-length : tie.Need-same-length
 same-length c = search needs
 
+same-length-2 : tie.Need-same-length-2
+same-length-2 c = search needs
+
 returns : tie.Need-returns
 returns c =
     let w = c .before .before in
-    let h = w .before .before .before .before in
-    let a = h .before .before .before .before .args in
+    let h = w .before .before .before .before .before in
+    let start = h .before .before .before .before .before in
+    let a = start .args in
     let e = h .head .ensures in
-    copied-behind (now (a .out)) (a .n) _ (headOf (a .c) (now (a .objects))) _ _ (e .0) (omega (arith, e .1)) (e .1)
-    (w .copy-in .ensures)
+    copied-behind (now (a .out)) (a .n) _ (headOf (a .c) (now (a .objects))) _ _ (e .0)
+    (omega (arith, e .1, h .head .kept .0, start .pre .2)) (e .1) (w .copy-in .ensures)
 
 pub put-head-spec : {M : Type 1} → statement M
 put-head-spec =
     tie.close
     (tie.spec
-    slice-aggregate-head
     head-requires
     sub-copy-in
     part-copy-in-start
     part-copy-in-end
-    slice-aggregate-copy-in
     copy-in-requires
     add-result
     same-length
+    same-length-2
     returns)

@@ -13,12 +13,12 @@ gather-requires c κs = search needs
 
 put-versions-requires : tie.Need-put-versions-requires
 put-versions-requires c κs =
-    let g = c .before .before .before in
-    let s = g .before .before .before .before .before .before .before in
+    let g = c .before .before .before .before in
+    let s = g .before .before .before .before .before .before .before .before in
     let a = s .args in
     let t = tablesOf (a .c) (now (a .records)) (now (a .objects)) (now (a .groups)) in
     let f = g .gather .ensures in
-    (gathered-ready t (a .o) _ f, f .few-groups, s .pre .2)
+    (gathered-ready t (a .o) _ f, f .few-groups, s .pre .2, s .pre .4)
 
 same-length : tie.Need-same-length
 same-length c = search needs
@@ -26,15 +26,26 @@ same-length c = search needs
 same-length-2 : tie.Need-same-length-2
 same-length-2 c = search needs
 
+same-length-3 : tie.Need-same-length-3
+same-length-3 c = search needs
+
 returns : tie.Need-returns
 returns c =
-    let v = c .before .before in
-    let g = v .before .before .before .before in
-    let a = g .before .before .before .before .before .before .before .args in
+    let v = c .before .before .before .before in
+    let g = v .before .before .before .before .before in
+    let a = g .before .before .before .before .before .before .before .before .args in
     let t = tablesOf (a .c) (now (a .records)) (now (a .objects)) (now (a .groups)) in
     let f = g .gather .ensures in
     rw (← gathered-lines t (a .o) _ f)
     (fewer-behind (now (a .out)) (a .n) (omega (arith, f .few-groups)) (v .put-versions .ensures))
 
 pub put-object-spec : {M : Type 1} → statement M
-put-object-spec = tie.close (tie.spec gather-requires put-versions-requires same-length same-length-2 returns)
+put-object-spec =
+    tie.close
+    (tie.spec
+    gather-requires
+    put-versions-requires
+    same-length
+    same-length-2
+    same-length-3
+    returns)

@@ -21,13 +21,13 @@ use Rattle.list.proofs.whole.put_objects.Statement.{statement}
 use Rattle.list.proofs.whole.put_objects.Tie as tie
 
 abbrev Inv-loop : tie.InvT-loop
-Inv-loop out₀ rows₀ n c records objects groups m order w₀ i₀ out rows w i =
-    (i ≤ m) × (length out ≡ length out₀) × (length rows ≡ length rows₀)
+Inv-loop out₀ line₀ rows₀ n c records objects groups m order w₀ i₀ out line rows w i =
+    (i ≤ m) × (length out ≡ length out₀) × (length line ≡ length line₀) × (length rows ≡ length rows₀)
     × Behind out₀ n (joined (map (λ o. joined (linesFor (tablesOf c records objects groups) o)) (take i order)))
     (i * (mostGroups * lineLength)) out w
 
 abbrev μ-loop : tie.MeasureT-loop
-μ-loop out₀ rows₀ n c records objects groups m order w₀ i₀ out rows w i = m - i
+μ-loop out₀ line₀ rows₀ n c records objects groups m order w₀ i₀ out line rows w i = m - i
 
 cast-m : tie.Need-cast-m Inv-loop μ-loop
 cast-m c = search needs
@@ -37,7 +37,7 @@ slice-aggregate-sort-objects c = search needs
 
 sort-objects-requires : tie.Need-sort-objects-requires Inv-loop μ-loop
 sort-objects-requires c κs =
-    let s = c .before .before .before .before .before .before .before in
+    let s = c .before .before .before .before .before .before .before .before in
     let a = s .args in
     let t = tablesOf (a .c) (now (a .records)) (now (a .objects)) (now (a .groups)) in
     let few = sound-at t (s .pre .0) .few-objects in
@@ -45,48 +45,47 @@ sort-objects-requires c κs =
 
 loop-holds : tie.Need-loop-holds Inv-loop μ-loop
 loop-holds c =
-    let a = c .before .before .before .before .before .before .before .before .before .args in
+    let a = c .before .before .before .before .before .before .before .before .before .before .args in
     let t = tablesOf (a .c) (now (a .records)) (now (a .objects)) (now (a .groups)) in
     let order = c .before .sort-objects .last .0 in
     let none = no-piece (λ o. joined (linesFor t o)) (mostGroups * lineLength) (now (a .out)) order (a .n) in
-    (search needs, refl, refl, none)
+    (search needs, refl, refl, refl, none)
 
-mul-put-object : tie.Need-mul-put-object Inv-loop μ-loop
-mul-put-object c = search needs
+mul-o : tie.Need-mul-o Inv-loop μ-loop
+mul-o c = search needs
 
-array-read-put-object : tie.Need-array-read-put-object Inv-loop μ-loop
-array-read-put-object c =
-    let o = c .before .before .before .before .before in
-    let s = o .before .before .before .before .before .before .before .before in
+array-read-o : tie.Need-array-read-o Inv-loop μ-loop
+array-read-o c =
+    let s = c .before .before .before .before .before .before .before .before .before .before .before .before in
     let a = s .args in
     let t = tablesOf (a .c) (now (a .records)) (now (a .objects)) (now (a .groups)) in
     let few = sound-at t (s .pre .0) .few-objects in
     omega (arith, few)
 
-cast-put-object : tie.Need-cast-put-object Inv-loop μ-loop
+cast-o : tie.Need-cast-o Inv-loop μ-loop
 unfolding objectsOf
-cast-put-object c =
-    let o = c .before .before .before .before .before in
-    let s = o .before .before .before .before .before .before .before .before in
+cast-o c =
+    let o = c .before .before .before in
+    let s = o .before .before .before .before .before .before .before .before .before in
     let a = s .args in
     let t = tablesOf (a .c) (now (a .records)) (now (a .objects)) (now (a .groups)) in
-    let low =
-    sorted-low t _ (o .sort-objects .ensures) (c .before .before .before .loop .i) (omega arith) in
+    let low = sorted-low t _ (o .sort-objects .ensures) (c .before .loop .i) (omega arith) in
     search (needs, low)
 
 put-object-requires : tie.Need-put-object-requires Inv-loop μ-loop
 unfolding objectsOf
 put-object-requires c κs =
-    let l = c .before .before .before .loop in
-    let o = c .before .before .before .before .before in
-    let s = o .before .before .before .before .before .before .before .before in
+    let l = c .before .before .before .before .loop in
+    let o = c .before .before .before .before .before .before in
+    let s = o .before .before .before .before .before .before .before .before .before in
     let a = s .args in
     let t = tablesOf (a .c) (now (a .records)) (now (a .objects)) (now (a .groups)) in
     let few = sound-at t (s .pre .0) .few-objects in (
       s .pre .0,
       sorted-low t _ (o .sort-objects .ensures) (l .i) (omega arith),
-      omega (arith, few, s .pre .1, l .inv .1, l .inv .3 .end, l .inv .3 .few),
-      l .inv .2 ∙ s .pre .2,
+      omega (arith, few, s .pre .1, l .inv .1, l .inv .4 .end, l .inv .4 .few),
+      l .inv .3 ∙ s .pre .2,
+      omega (arith, s .pre .3, l .inv .2),
     )
 
 add-i : tie.Need-add-i Inv-loop μ-loop
@@ -97,19 +96,20 @@ loop-less c = omega arith
 
 loop-again : tie.Need-loop-again Inv-loop μ-loop
 loop-again c =
-    let p = c .before .before .before .before in
-    let l = p .before .before .before .before .loop in
-    let sorted = p .before .before .before .before .before .before in
+    let p = c .before .before .before .before .before .before in
+    let l = p .before .before .before .before .before .loop in
+    let sorted = p .before .before .before .before .before .before .before in
     let o = sorted .sort-objects in
-    let s = sorted .before .before .before .before .before .before .before .before in
+    let s = sorted .before .before .before .before .before .before .before .before .before in
     let a = s .args in
     let t = tablesOf (a .c) (now (a .records)) (now (a .objects)) (now (a .groups)) in
     let few = sound-at t (s .pre .0) .few-objects in (
       omega arith,
       p .put-object .kept .0 ∙ l .inv .1,
       p .put-object .kept .1 .0 ∙ l .inv .2,
+      p .put-object .kept .1 .1 .0 ∙ l .inv .3,
       piece-behind (λ o. joined (linesFor t o)) (mostGroups * lineLength) (now (a .out)) _ (a .n) (l .i)
-          (omega (arith, few, o .kept .0)) (omega (arith, few, s .pre .1)) (l .inv .3) (p .put-object .ensures),
+          (omega (arith, few, o .kept .0)) (omega (arith, few, s .pre .1)) (l .inv .4) (p .put-object .ensures),
     )
 
 same-length : tie.Need-same-length Inv-loop μ-loop
@@ -118,16 +118,19 @@ same-length c = c .before .loop .inv .1
 same-length-2 : tie.Need-same-length-2 Inv-loop μ-loop
 same-length-2 c = c .before .loop .inv .2
 
+same-length-3 : tie.Need-same-length-3 Inv-loop μ-loop
+same-length-3 c = c .before .loop .inv .3
+
 returns : tie.Need-returns Inv-loop μ-loop
 unfolding objectsOf
 returns c =
     let l = c .before .loop in
-    let s = c .before .before .before .before .before .before .before .before .before .before .before in
+    let s = c .before .before .before .before .before .before .before .before .before .before .before .before in
     let a = s .args in
     let t = tablesOf (a .c) (now (a .records)) (now (a .objects)) (now (a .groups)) in
     let few = sound-at t (s .pre .0) .few-objects in
     rw (← sorted-lines t _ (c .before .before .before .sort-objects .ensures) (l .i) (omega arith))
-    (fewer-behind (now (a .out)) (a .n) (omega (arith, few)) (l .inv .3))
+    (fewer-behind (now (a .out)) (a .n) (omega (arith, few)) (l .inv .4))
 
 pub put-objects-spec : {M : Type 1} → statement M
 put-objects-spec =
@@ -139,13 +142,14 @@ put-objects-spec =
     slice-aggregate-sort-objects
     sort-objects-requires
     loop-holds
-    mul-put-object
-    array-read-put-object
-    cast-put-object
+    mul-o
+    array-read-o
+    cast-o
     put-object-requires
     add-i
     loop-less
     loop-again
     same-length
     same-length-2
+    same-length-3
     returns)
