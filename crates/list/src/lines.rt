@@ -2,12 +2,14 @@
 use line::put_line;
 use objects::Gathered;
 use output::copy_in;
+use record::Edit;
 ghost use mathlib.Core.Path.{_≡_};
 ghost use mathlib.Core.List.{map};
 ghost use Prim.Native.Nat.{_+_, _*_, _≤_, _<_};
 ghost use lib.ListN.{length, getD, take};
-ghost use Rattle.group.specs.Row.{mostGroups};
+ghost use Rattle.group.specs.Row.{mostSets, mostGroups};
 ghost use Rattle.version.specs.Line.{lineLength};
+ghost use Rattle.version.specs.Code.{lineBy};
 ghost use Rattle.list.specs.Printing.{joined};
 ghost use Rattle.list.specs.Code.{Ready, lineIn, Behind};
 
@@ -23,16 +25,27 @@ pub fn put_version(out: &mut [u8], g: Gathered, v: usize) -> usize
     put_line(out, create, &tags, &stamps, g.sets, versions[v])
 }
 
-// Puts the line of the v-th version into out behind the first n bytes; says how many bytes stand there then. The line is
-// formed in a buffer of its own, so that no other byte of out changes.
-fn put_behind(out: &mut [u8], line: &mut [u8], n: usize, g: Gathered, v: usize) -> usize
-    requires { ⌜ Ready g
-        × (v < mostGroups)
+// Puts the line of the version g, of an object with t Sets, into out behind the first n bytes; says how many bytes stand
+// there then. The line is formed in a buffer of its own, so that no other byte of out changes.
+fn put_behind(
+    out: &mut [u8],
+    line: &mut [u8],
+    n: usize,
+    c: Edit,
+    tags: &[u64],
+    stamps: &[u64],
+    t: usize,
+    g: u64,
+) -> usize
+    requires { ⌜ (t ≤ length (now tags))
+        × (t ≤ length (now stamps))
+        × (t ≤ mostSets)
         × (n + lineLength ≤ length (now out))
         × (lineLength ≤ length (now line)) ⌝ }
-    ensures { λ r. ⌜ Behind (now (out .entry)) n (lineIn g (getD (g .versions) v 0)) lineLength (now (out .exit)) r ⌝ }
+    ensures { λ r. ⌜ Behind (now (out .entry)) n
+        (lineBy c (take t (now (tags .entry))) (take t (now (stamps .entry))) g) lineLength (now (out .exit)) r ⌝ }
 {
-    let k = put_version(line, g, v);
+    let k = put_line(line, c, tags, stamps, t, g);
     copy_in(&mut out[n..], line, k);
     n + k
 }
@@ -46,10 +59,14 @@ pub fn put_versions(out: &mut [u8], line: &mut [u8], n: usize, g: Gathered) -> u
     ensures { λ r. ⌜ Behind (now (out .entry)) n (joined (map (lineIn g) (take (g .count) (g .versions))))
         (g .count * lineLength) (now (out .exit)) r ⌝ }
 {
+    let create = g.create;
+    let tags = g.tags;
+    let stamps = g.stamps;
+    let versions = g.versions;
     let mut w = n;
     let mut v: usize = 0;
     while v < g.count {
-        w = put_behind(out, line, w, g, v);
+        w = put_behind(out, line, w, create, &tags, &stamps, g.sets, versions[v]);
         v += 1;
     }
     w

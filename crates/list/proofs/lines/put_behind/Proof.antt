@@ -3,14 +3,14 @@
 use native.Mathlib.Omega.{arith}
 use Rattle.list.proofs.Behind.{copied-behind}
 use denote.Ref.{now}
-use lib.ListN.{getD}
-use Rattle.list.specs.Code.{lineIn}
+use lib.ListN.{take}
+use Rattle.version.specs.Code.{lineBy}
 use borrow.Author.Needs.{needs}
 use Rattle.list.proofs.lines.put_behind.Statement.{statement}
 use Rattle.list.proofs.lines.put_behind.Tie as tie
 
-put-version-requires : tie.Need-put-version-requires
-put-version-requires c κs = search needs
+put-line-requires : tie.Need-put-line-requires
+put-line-requires c κs = search needs
 
 sub-copy-in : tie.Need-sub-copy-in
 sub-copy-in c = search needs
@@ -37,17 +37,18 @@ returns : tie.Need-returns
 returns c =
     let w = c .before .before in
     let v = w .before .before .before .before .before in
-    let start = v .before .before .before .before in
-    let a = start .args in
-    let e = v .put-version .ensures in
-    copied-behind (now (a .out)) (a .n) _ (lineIn (a .g) (getD (a .g .versions) (a .v) 0)) _ _ (e .0)
-    (omega (arith, e .1, v .put-version .kept .0, start .pre .3)) (e .1) (w .copy-in .ensures)
+    let s = v .before .before .before .before .before .before in
+    let a = s .args in
+    let e = v .put-line .ensures in
+    let text = lineBy (a .c) (take (a .t) (now (a .tags))) (take (a .t) (now (a .stamps))) (a .g) in
+    copied-behind (now (a .out)) (a .n) _ text _ _ (e .0)
+    (omega (arith, e .1, v .put-line .kept .0, s .pre .4)) (e .1) (w .copy-in .ensures)
 
 pub put-behind-spec : {M : Type 1} → statement M
 put-behind-spec =
     tie.close
     (tie.spec
-    put-version-requires
+    put-line-requires
     sub-copy-in
     part-copy-in-start
     part-copy-in-end

@@ -14,24 +14,40 @@ use Rattle.list.proofs.lines.put_versions.Statement.{statement}
 use Rattle.list.proofs.lines.put_versions.Tie as tie
 
 abbrev Inv-loop : tie.InvT-loop
-Inv-loop out₀ line₀ n g w₀ v₀ out line w v =
+Inv-loop out₀ line₀ n g create tags stamps versions w₀ v₀ out line w v =
     (v ≤ g .count) × (length out ≡ length out₀) × (length line ≡ length line₀)
     × Behind out₀ n (joined (map (lineIn g) (take v (g .versions)))) (v * lineLength) out w
 
 abbrev μ-loop : tie.MeasureT-loop
-μ-loop out₀ line₀ n g w₀ v₀ out line w v = g .count - v
+μ-loop out₀ line₀ n g create tags stamps versions w₀ v₀ out line w v = g .count - v
 
 loop-holds : tie.Need-loop-holds Inv-loop μ-loop
 loop-holds c =
-    let a = c .before .before .args in
+    let a = c .before .before .before .before .before .before .args in
     (search needs, refl, refl, no-piece (lineIn (a .g)) lineLength (now (a .out)) (a .g .versions) (a .n))
+
+slice-aggregate-put-behind : tie.Need-slice-aggregate-put-behind Inv-loop μ-loop
+slice-aggregate-put-behind c = search needs
+
+slice-aggregate-put-behind-2 : tie.Need-slice-aggregate-put-behind-2 Inv-loop μ-loop
+slice-aggregate-put-behind-2 c = search needs
+
+mul-put-behind : tie.Need-mul-put-behind Inv-loop μ-loop
+mul-put-behind c = search needs
+
+array-read-put-behind : tie.Need-array-read-put-behind Inv-loop μ-loop
+array-read-put-behind c =
+    let p = c .before .before .before .before .before .before .before .before .before .before .before .before .before .pre in
+    search (needs, p .1, p .0 .versions-long)
 
 put-behind-requires : tie.Need-put-behind-requires Inv-loop μ-loop
 put-behind-requires c κs =
-    let l = c .before .before .before .before .loop in
-    let p = c .before .before .before .before .before .before .before .pre in (
-      p .0,
-      omega (arith, p .1),
+    let l = c .before .before .before .before .before .before .loop in
+    let p = c .before .before .before .before .before .before .before .before .before .before .before .before .before .pre in
+    let r = p .0 in (
+      omega (arith, r .few, r .tags-long),
+      omega (arith, r .few, r .stamps-long),
+      r .few,
       omega (arith, p .1, p .2, l .inv .1, l .inv .3 .end, l .inv .3 .few),
       omega (arith, p .3, l .inv .2),
     )
@@ -45,8 +61,8 @@ loop-less c = omega arith
 loop-again : tie.Need-loop-again Inv-loop μ-loop
 loop-again c =
     let b = c .before .before .before .before in
-    let l = b .before .before .before .before .before .loop in
-    let s = b .before .before .before .before .before .before .before .before in
+    let l = b .before .before .before .before .before .before .before .loop in
+    let s = b .before .before .before .before .before .before .before .before .before .before .before .before .before .before in
     let a = s .args in (
       omega arith,
       b .put-behind .kept .0 ∙ l .inv .1,
@@ -65,7 +81,7 @@ same-length-2 c = c .before .before .loop .inv .2
 returns : tie.Need-returns Inv-loop μ-loop
 returns c =
     let l = c .before .before .loop in
-    let e : l .v ≡ c .before .before .before .before .before .args .g .count = omega arith in
+    let e : l .v ≡ c .before .before .before .before .before .before .before .before .before .args .g .count = omega arith in
     rw (← e) (l .inv .3)
 
 pub put-versions-spec : {M : Type 1} → statement M
@@ -75,6 +91,10 @@ put-versions-spec =
     Inv-loop
     μ-loop
     loop-holds
+    slice-aggregate-put-behind
+    slice-aggregate-put-behind-2
+    mul-put-behind
+    array-read-put-behind
     put-behind-requires
     add-v
     loop-less
