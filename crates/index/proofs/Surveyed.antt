@@ -9,8 +9,7 @@ use Prim.Native.Nat.{ℕ, zero, suc, _+_, _*_, _≤_, _<_}
 use native.Mathlib.Omega.{arith}
 use native.Mathlib.Decide.{decLe}
 use lib.Dec.{eqb, ltb}
-use lib.ListN.{length, getD, take, drop, length-drop}
-use lib.Seq.{ext-getD, getD-take, getD-drop, length-take-le}
+use lib.ListN.{length, getD, take, drop}
 use borrow.Author.Tests.{eqb-true, not-true, not-false}
 use Rattle.ground.specs.Sorted.{any, filter}
 use Rattle.ground.proofs.Bools.{clash, off, both, neither, decide}
@@ -53,7 +52,7 @@ use Rattle.history.proofs.Latest.{torn-same, target-same}
 use Rattle.group.specs.Row.{mostObjects, mostSets}
 use Rattle.tables.specs.declared.Counters.{Counters}
 use Rattle.index.specs.Index.{numberAt, placesOn, IndexOf, Holds}
-use Rattle.index.proofs.Places.{places-sets, places-length}
+use Rattle.index.proofs.Places.{places-sets, places-length, row-places}
 
 module _
     (c : Counters)
@@ -240,8 +239,9 @@ module _
         = omega (arith, create-less rs q n l (parts .create), h .objects, h .few-objects) in
         let few : getD cs o 0 ≤ mostSets
         = omega (arith, places-length rs q n, h .few-sets (recordAt rs q .site) (recordAt rs q .seq)) in
-        let part : take (getD cs o 0) (drop (o * mostSets) ms) ≡ placesOn rs n q = row q l (parts .create) o is many
-        few less in
+        let part : take (getD cs o 0) (drop (o * mostSets) ms) ≡ placesOn rs n q
+        = rw (many, is)
+        (row-places rs n ps ns cs ms x q l (parts .create) (omega arith) (omega (arith, is)) .1) in
         record {
           low = l;
           create = parts .create;
@@ -250,21 +250,6 @@ module _
           count = many ∙ places-length rs q n ∙ ap length same;
           sets = ap (map (recordAt rs)) part ∙ places-sets rs q n ∙ same;
         }
-      where
-        row :
-            (q : ℕ) → q < n → isCreate (recordAt rs q) ≡ true → (o : ℕ) → o ≡ numberAt rs q →
-            getD cs o 0 ≡ length (placesOn rs n q) → getD cs o 0 ≤ mostSets → o < mostObjects →
-            take (getD cs o 0) (drop (o * mostSets) ms) ≡ placesOn rs n q
-        row q l cq o is many few less =
-            let room : getD cs o 0 ≤ length (drop (o * mostSets) ms)
-            = simp length-drop (omega (arith, x .members-long)) in
-            let long = length-take-le (getD cs o 0) (drop (o * mostSets) ms) room in
-            ext-getD 0 (take (getD cs o 0) (drop (o * mostSets) ms)) (placesOn rs n q) (long ∙ many)
-            (λ i b.
-            getD-take (getD cs o 0) (drop (o * mostSets) ms) i 0 (omega arith)
-            ∙ getD-drop (o * mostSets) ms i 0
-            ∙ ap (λ (k : ℕ). getD ms (k * mostSets + i) 0) is
-            ∙ x .rows q l cq i (omega arith))
 
     pub aimed : Aimed e (placeOf ps (e .tsite .0) (e .tseq .0))
     aimed =

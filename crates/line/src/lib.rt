@@ -1,5 +1,5 @@
-// The line of a version. The Sets of the object are given by their tags and their stamps, in the order of arrival: bit i
-// of a group stands for the i-th Set.
+// The line of a version. The Sets of the object are given by their tags and their stamps, in the order of arrival: bit
+// i of a group stands for the i-th Set.
 use group::SETS;
 use record::Edit;
 use record::KEYS;

@@ -25,8 +25,8 @@ pub fn put_version(out: &mut [u8], g: Gathered, v: usize) -> usize
     put_line(out, create, &tags, &stamps, g.sets, versions[v])
 }
 
-// Puts the line of the version g, of an object with t Sets, into out behind the first n bytes; says how many bytes stand
-// there then. The line is formed in a buffer of its own, so that no other byte of out changes.
+// Puts the line of the version g, of an object with t Sets, into out behind the first n bytes; says how many bytes
+// stand there then. The line is formed in a buffer of its own, so that no other byte of out changes.
 fn put_behind(
     out: &mut [u8],
     line: &mut [u8],

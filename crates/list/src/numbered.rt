@@ -2,7 +2,9 @@
 use super::head;
 use super::lines::put_version;
 use group::OBJECTS;
+use group::SETS;
 use objects::gather;
+use objects::put_sets;
 use objects::sort_objects;
 use sorting::ROWS;
 use tables::Counters;
@@ -80,8 +82,10 @@ fn put_found(
         ≡ getD (linesFor (tablesOf c (now (records .entry)) (now (objects .entry)) (now (groups .entry))) o) v [])
         × (r ≤ lineLength) ⌝ }
 {
+    let mut places = [0u16; SETS];
+    put_sets(&mut places, c, records, objects, groups, o);
     let mut rows = [0u64; ROWS];
-    let g = gather(&mut rows, c, records, objects, groups, o);
+    let g = gather(&mut rows, c, records, objects, groups, &places, o);
     put_version(out, g, v)
 }
 

@@ -2,6 +2,10 @@
 use super::head;
 use super::lines::put_versions;
 use group::OBJECTS;
+use group::SETS;
+use history::PLACES;
+use history::RECORDS;
+use index::MEMBERS;
 use line::LINE;
 use objects::gather;
 use objects::sort_objects;
@@ -16,11 +20,13 @@ ghost use Rattle.group.specs.Row.{mostObjects, mostSets, mostGroups};
 ghost use Rattle.tables.specs.Tables.{tablesOf};
 ghost use Rattle.tables.specs.Sound.{sound};
 ghost use Rattle.version.specs.Line.{lineLength};
+ghost use Rattle.objects.specs.Code.{MembersOf};
 ghost use Rattle.list.specs.Listing.{linesFor};
 ghost use Rattle.list.specs.Printing.{joined, listOf, listLength};
 ghost use Rattle.list.specs.Code.{headOf, allLines, Behind};
 
-// Puts line 0 behind the first n bytes; says how many bytes stand there then. The line is formed in a buffer of its own.
+// Puts line 0 behind the first n bytes; says how many bytes stand there then. The line is formed in a buffer of its
+// own.
 fn put_head(out: &mut [u8], line: &mut [u8], n: usize, c: Counters, objects: &[u16]) -> usize
     requires { ⌜ (c .objects ≤ mostObjects)
         × (n + lineLength ≤ length (now out))
@@ -32,7 +38,8 @@ fn put_head(out: &mut [u8], line: &mut [u8], n: usize, c: Counters, objects: &[u
     n + k
 }
 
-// Puts the lines of object o behind the first n bytes; line and rows are work space, made once for all objects.
+// Puts the lines of object o behind the first n bytes; line and rows are work space, and members has the places of the
+// Sets of each object: all are made once.
 fn put_object(
     out: &mut [u8],
     line: &mut [u8],
@@ -42,9 +49,11 @@ fn put_object(
     records: &[u8],
     objects: &[u16],
     groups: &[u64],
+    members: &[u16],
     o: usize,
 ) -> usize
     requires { ⌜ (sound (tablesOf c (now records) (now objects) (now groups)) ≡ true)
+        × MembersOf (tablesOf c (now records) (now objects) (now groups)) (now members)
         × (o < c .objects)
         × (n + mostGroups * lineLength ≤ length (now out))
         × (length (now rows) ≡ mostGroups * mostSets)
@@ -53,7 +62,7 @@ fn put_object(
         (joined (linesFor (tablesOf c (now (records .entry)) (now (objects .entry)) (now (groups .entry))) o))
         (mostGroups * lineLength) (now (out .exit)) r ⌝ }
 {
-    let g = gather(rows, c, records, objects, groups, o);
+    let g = gather(rows, c, records, objects, groups, &members[o * SETS..], o);
     put_versions(out, line, n, g)
 }
 
@@ -67,8 +76,10 @@ fn put_objects(
     records: &[u8],
     objects: &[u16],
     groups: &[u64],
+    members: &[u16],
 ) -> usize
     requires { ⌜ (sound (tablesOf c (now records) (now objects) (now groups)) ≡ true)
+        × MembersOf (tablesOf c (now records) (now objects) (now groups)) (now members)
         × (n + mostObjects * (mostGroups * lineLength) ≤ length (now out))
         × (length (now rows) ≡ mostGroups * mostSets)
         × (lineLength ≤ length (now line)) ⌝ }
@@ -83,7 +94,7 @@ fn put_objects(
     let mut i: usize = 0;
     while i < m {
         let o = order[i] as usize;
-        w = put_object(out, line, rows, w, c, records, objects, groups, o);
+        w = put_object(out, line, rows, w, c, records, objects, groups, members, o);
         i += 1;
     }
     w
@@ -107,5 +118,28 @@ pub fn put_list(
     let mut line = [0u8; LINE];
     let w = put_head(out, &mut line, n, c, objects);
     let mut rows = [0u64; ROWS];
-    put_objects(out, &mut line, &mut rows, w, c, records, objects, groups)
+    let mut places = [0u16; PLACES];
+    let mut numbers = [0u16; RECORDS];
+    let mut counts = [0u16; OBJECTS];
+    let mut members = [0u16; MEMBERS];
+    let k = c.records as usize;
+    index::build(
+        records,
+        k,
+        &mut places,
+        &mut numbers,
+        &mut counts,
+        &mut members,
+    );
+    put_objects(
+        out,
+        &mut line,
+        &mut rows,
+        w,
+        c,
+        records,
+        objects,
+        groups,
+        &members,
+    )
 }

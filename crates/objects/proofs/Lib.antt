@@ -1,3 +1,4 @@
 pub mod Turns
 pub mod Ranks
 pub mod Gathering
+pub mod Members

@@ -135,7 +135,8 @@ same-length-4 c =
       known,
       m,
       c .before .before .before .before .before .before .before .before .before .before
-          .before .before .before .before .before .before .before .before .before .before .before .before .before .before
+          .before .before .before .before .before .before .before .before .before .before .before .before .before
+          .before
           .before .before .before .before .before .before .before .before .before .before .before .before .pre .1
           .places-long,
     )
@@ -151,7 +152,8 @@ same-length-5 c =
       known,
       m,
       c .before .before .before .before .before .before .before .before .before .before
-          .before .before .before .before .before .before .before .before .before .before .before .before .before .before
+          .before .before .before .before .before .before .before .before .before .before .before .before .before
+          .before
           .before .before .before .before .before .before .before .before .before .before .before .before .pre .1
           .numbers-long,
     )
@@ -167,7 +169,8 @@ same-length-6 c =
       known,
       m,
       c .before .before .before .before .before .before .before .before .before .before
-          .before .before .before .before .before .before .before .before .before .before .before .before .before .before
+          .before .before .before .before .before .before .before .before .before .before .before .before .before
+          .before
           .before .before .before .before .before .before .before .before .before .before .before .before .pre .1
           .counts-long,
     )
@@ -183,7 +186,8 @@ same-length-7 c =
       known,
       m,
       c .before .before .before .before .before .before .before .before .before .before
-          .before .before .before .before .before .before .before .before .before .before .before .before .before .before
+          .before .before .before .before .before .before .before .before .before .before .before .before .before
+          .before
           .before .before .before .before .before .before .before .before .before .before .before .before .pre .1
           .members-long,
     )

@@ -11,11 +11,19 @@ use Rattle.text.proofs.put_dotted.Statement.{statement}
 use Rattle.text.proofs.put_dotted.Tie as tie
 
 put-decimal-requires : tie.Need-put-decimal-requires
-put-decimal-requires c κs = omega (arith, digits-fit byteDigits (c .before .before .args .a) (omega arith) (omega arith))
+put-decimal-requires c κs = omega (
+  arith,
+  digits-fit byteDigits (c .before .before .args .a) (omega arith)
+      (omega arith),
+)
 
 put-byte-requires : tie.Need-put-byte-requires
 put-byte-requires c κs =
-    omega (arith, digits-fit byteDigits (c .before .before .before .before .before .before .args .a) (omega arith) (omega arith))
+    omega (
+      arith,
+      digits-fit byteDigits (c .before .before .before .before .before .before .args .a) (omega arith)
+          (omega arith),
+    )
 
 put-decimal-requires-2 : tie.Need-put-decimal-requires-2
 put-decimal-requires-2 c κs =

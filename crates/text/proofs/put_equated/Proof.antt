@@ -15,7 +15,11 @@ put-decimal-requires c κs = omega (arith, digits-fit keyDigits (c .before .befo
 
 put-byte-requires : tie.Need-put-byte-requires
 put-byte-requires c κs =
-    omega (arith, digits-fit keyDigits (c .before .before .before .before .before .before .args .a) (omega arith) (omega arith))
+    omega (
+      arith,
+      digits-fit keyDigits (c .before .before .before .before .before .before .args .a) (omega arith)
+          (omega arith),
+    )
 
 put-decimal-requires-2 : tie.Need-put-decimal-requires-2
 put-decimal-requires-2 c κs =

@@ -14,7 +14,11 @@ put-bytes-requires c κs = search needs
 
 put-decimal-requires : tie.Need-put-decimal-requires
 put-decimal-requires c κs =
-    omega (arith, digits-fit wordDigits (c .before .before .before .before .before .before .before .args .m) (omega arith) (omega arith))
+    omega (
+      arith,
+      digits-fit wordDigits (c .before .before .before .before .before .before .before .args .m)
+          (omega arith) (omega arith),
+    )
 
 same-length : tie.Need-same-length
 same-length c = search needs

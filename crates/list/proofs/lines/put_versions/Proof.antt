@@ -23,7 +23,8 @@ abbrev μ-loop : tie.MeasureT-loop
 
 loop-holds : tie.Need-loop-holds Inv-loop μ-loop
 loop-holds c =
-    let a = c .before .before .before .before .before .before .args in
+    let s6 = c .before .before .before .before .before .before in
+    let a = s6 .args in
     (search needs, refl, refl, no-piece (lineIn (a .g)) lineLength (now (a .out)) (a .g .versions) (a .n))
 
 slice-aggregate-put-behind : tie.Need-slice-aggregate-put-behind Inv-loop μ-loop
@@ -37,13 +38,17 @@ mul-put-behind c = search needs
 
 array-read-put-behind : tie.Need-array-read-put-behind Inv-loop μ-loop
 array-read-put-behind c =
-    let p = c .before .before .before .before .before .before .before .before .before .before .before .before .before .pre in
+    let s10 = c .before .before .before .before .before .before .before .before .before .before in
+    let s13 = s10 .before .before .before in
+    let p = s13 .pre in
     search (needs, p .1, p .0 .versions-long)
 
 put-behind-requires : tie.Need-put-behind-requires Inv-loop μ-loop
 put-behind-requires c κs =
-    let l = c .before .before .before .before .before .before .loop in
-    let p = c .before .before .before .before .before .before .before .before .before .before .before .before .before .pre in
+    let s6 = c .before .before .before .before .before .before in
+    let s13 = s6 .before .before .before .before .before .before .before in
+    let l = s6 .loop in
+    let p = s13 .pre in
     let r = p .0 in (
       omega (arith, r .few, r .tags-long),
       omega (arith, r .few, r .stamps-long),
@@ -62,7 +67,8 @@ loop-again : tie.Need-loop-again Inv-loop μ-loop
 loop-again c =
     let b = c .before .before .before .before in
     let l = b .before .before .before .before .before .before .before .loop in
-    let s = b .before .before .before .before .before .before .before .before .before .before .before .before .before .before in
+    let s = b .before .before .before .before .before .before .before .before .before .before .before .before
+    .before .before in
     let a = s .args in (
       omega arith,
       b .put-behind .kept .0 ∙ l .inv .1,
@@ -80,8 +86,9 @@ same-length-2 c = c .before .before .loop .inv .2
 
 returns : tie.Need-returns Inv-loop μ-loop
 returns c =
+    let s9 = c .before .before .before .before .before .before .before .before .before in
     let l = c .before .before .loop in
-    let e : l .v ≡ c .before .before .before .before .before .before .before .before .before .args .g .count = omega arith in
+    let e : l .v ≡ s9 .args .g .count = omega arith in
     rw (← e) (l .inv .3)
 
 pub put-versions-spec : {M : Type 1} → statement M

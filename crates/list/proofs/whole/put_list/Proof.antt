@@ -1,8 +1,11 @@
 -- `list::whole::put_list` meets its contract: line 0, and the lines of all objects behind it. Assumes nothing.
+use mathlib.Core.Path.{refl}
 use native.Mathlib.Omega.{arith}
 use denote.Ref.{now}
 use Rattle.tables.specs.Tables.{tablesOf}
 use Rattle.tables.proofs.Facts.{sound-at}
+use Rattle.arrival.proofs.Accepting.{holds}
+use Rattle.objects.proofs.Members.{index-members}
 use Rattle.list.proofs.Behind.{fewer-behind, more-behind}
 use Rattle.list.proofs.Joined.{list-split}
 use borrow.Author.Needs.{needs}
@@ -19,19 +22,51 @@ put-head-requires c κs =
     let t = tablesOf (a .c) (now (a .records)) (now (a .objects)) (now (a .groups)) in
     (sound-at t (s .pre .0) .few-objects, omega (arith, s .pre .1), search needs)
 
+cast-k : tie.Need-cast-k
+cast-k c = search needs
+
+slice-aggregate-build : tie.Need-slice-aggregate-build
+slice-aggregate-build c = search needs
+
+slice-aggregate-build-2 : tie.Need-slice-aggregate-build-2
+slice-aggregate-build-2 c = search needs
+
+slice-aggregate-build-3 : tie.Need-slice-aggregate-build-3
+slice-aggregate-build-3 c = search needs
+
+slice-aggregate-build-4 : tie.Need-slice-aggregate-build-4
+slice-aggregate-build-4 c = search needs
+
+build-requires : tie.Need-build-requires
+build-requires c κs =
+    let s10 = c .before .before .before .before .before .before .before .before .before .before in
+    let s = s10 .before .before .before .before .before in
+    let a = s .args in
+    let t = tablesOf (a .c) (now (a .records)) (now (a .objects)) (now (a .groups)) in
+    ((a .c, holds t (s .pre .0), refl), refl, refl, refl, refl)
+
 slice-aggregate-put-objects : tie.Need-slice-aggregate-put-objects
 slice-aggregate-put-objects c = search needs
 
 slice-aggregate-put-objects-2 : tie.Need-slice-aggregate-put-objects-2
 slice-aggregate-put-objects-2 c = search needs
 
+slice-aggregate-put-objects-3 : tie.Need-slice-aggregate-put-objects-3
+slice-aggregate-put-objects-3 c = search needs
+
 put-objects-requires : tie.Need-put-objects-requires
 put-objects-requires c κs =
-    let h = c .before .before .before .before .before .before .put-head in
-    let s = c .before .before .before .before .before .before .before .before .before .before .before .before .before in (
+    let s8 = c .before .before .before .before .before .before .before .before in
+    let s17 = s8 .before .before .before .before .before .before .before .before .before in
+    let s = s17 .before .before .before .before .before .before .before in
+    let a = s .args in
+    let t = tablesOf (a .c) (now (a .records)) (now (a .objects)) (now (a .groups)) in
+    let h = s17 .put-head in
+    let x = s8 .build .ensures in (
       s .pre .0,
+      index-members t (sound-at t (s .pre .0)) _ _ _ _ x,
       omega (arith, s .pre .1, h .kept .0, h .ensures .end, h .ensures .few),
-      search needs,
+      refl,
       omega (arith, h .kept .1 .0),
     )
 
@@ -40,15 +75,17 @@ same-length c = search needs
 
 returns : tie.Need-returns
 returns c =
-    let p = c .before .before .before .before in
-    let h = p .before .before .before .before .before .before .before .put-head in
-    let s = p .before .before .before .before .before .before .before .before .before .before .before .before .before .before in
+    let s10 = c .before .before .before .before .before .before .before .before .before .before in
+    let s20 = s10 .before .before .before .before .before .before .before .before .before .before in
+    let s22 = s20 .before .before in
+    let s = s22 .before .before .before .before .before .before .before in
     let a = s .args in
     let t = tablesOf (a .c) (now (a .records)) (now (a .objects)) (now (a .groups)) in
+    let h = s22 .put-head in
     rw (list-split t)
     (fewer-behind (now (a .out)) (a .n) (omega arith)
     (more-behind (now (a .out)) (a .n) (omega (arith, s .pre .1, h .ensures .few)) (h .ensures)
-    (p .put-objects .ensures)))
+    (c .before .before .before .before .put-objects .ensures)))
 
 pub put-list-spec : {M : Type 1} → statement M
 put-list-spec =
@@ -56,8 +93,15 @@ put-list-spec =
     (tie.spec
     slice-aggregate-put-head
     put-head-requires
+    cast-k
+    slice-aggregate-build
+    slice-aggregate-build-2
+    slice-aggregate-build-3
+    slice-aggregate-build-4
+    build-requires
     slice-aggregate-put-objects
     slice-aggregate-put-objects-2
+    slice-aggregate-put-objects-3
     put-objects-requires
     same-length
     returns)

@@ -21,13 +21,13 @@ use Rattle.list.proofs.whole.put_objects.Statement.{statement}
 use Rattle.list.proofs.whole.put_objects.Tie as tie
 
 abbrev Inv-loop : tie.InvT-loop
-Inv-loop out₀ line₀ rows₀ n c records objects groups m order w₀ i₀ out line rows w i =
+Inv-loop out₀ line₀ rows₀ n c records objects groups members m order w₀ i₀ out line rows w i =
     (i ≤ m) × (length out ≡ length out₀) × (length line ≡ length line₀) × (length rows ≡ length rows₀)
     × Behind out₀ n (joined (map (λ o. joined (linesFor (tablesOf c records objects groups) o)) (take i order)))
     (i * (mostGroups * lineLength)) out w
 
 abbrev μ-loop : tie.MeasureT-loop
-μ-loop out₀ line₀ rows₀ n c records objects groups m order w₀ i₀ out line rows w i = m - i
+μ-loop out₀ line₀ rows₀ n c records objects groups members m order w₀ i₀ out line rows w i = m - i
 
 cast-m : tie.Need-cast-m Inv-loop μ-loop
 cast-m c = search needs
@@ -37,7 +37,7 @@ slice-aggregate-sort-objects c = search needs
 
 sort-objects-requires : tie.Need-sort-objects-requires Inv-loop μ-loop
 sort-objects-requires c κs =
-    let s = c .before .before .before .before .before .before .before .before in
+    let s = c .before .before .before .before .before .before .before .before .before in
     let a = s .args in
     let t = tablesOf (a .c) (now (a .records)) (now (a .objects)) (now (a .groups)) in
     let few = sound-at t (s .pre .0) .few-objects in
@@ -45,7 +45,9 @@ sort-objects-requires c κs =
 
 loop-holds : tie.Need-loop-holds Inv-loop μ-loop
 loop-holds c =
-    let a = c .before .before .before .before .before .before .before .before .before .before .args in
+    let s10 = c .before .before .before .before .before .before .before .before .before .before in
+    let s11 = s10 .before in
+    let a = s11 .args in
     let t = tablesOf (a .c) (now (a .records)) (now (a .objects)) (now (a .groups)) in
     let order = c .before .sort-objects .last .0 in
     let none = no-piece (λ o. joined (linesFor t o)) (mostGroups * lineLength) (now (a .out)) order (a .n) in
@@ -56,7 +58,8 @@ mul-o c = search needs
 
 array-read-o : tie.Need-array-read-o Inv-loop μ-loop
 array-read-o c =
-    let s = c .before .before .before .before .before .before .before .before .before .before .before .before in
+    let s10 = c .before .before .before .before .before .before .before .before .before .before in
+    let s = s10 .before .before .before in
     let a = s .args in
     let t = tablesOf (a .c) (now (a .records)) (now (a .objects)) (now (a .groups)) in
     let few = sound-at t (s .pre .0) .few-objects in
@@ -66,7 +69,7 @@ cast-o : tie.Need-cast-o Inv-loop μ-loop
 unfolding objectsOf
 cast-o c =
     let o = c .before .before .before in
-    let s = o .before .before .before .before .before .before .before .before .before in
+    let s = o .before .before .before .before .before .before .before .before .before .before in
     let a = s .args in
     let t = tablesOf (a .c) (now (a .records)) (now (a .objects)) (now (a .groups)) in
     let low = sorted-low t _ (o .sort-objects .ensures) (c .before .loop .i) (omega arith) in
@@ -75,17 +78,18 @@ cast-o c =
 put-object-requires : tie.Need-put-object-requires Inv-loop μ-loop
 unfolding objectsOf
 put-object-requires c κs =
-    let l = c .before .before .before .before .loop in
-    let o = c .before .before .before .before .before .before in
-    let s = o .before .before .before .before .before .before .before .before .before in
+    let s6 = c .before .before .before .before .before .before in
+    let s = s6 .before .before .before .before .before .before .before .before .before .before in
     let a = s .args in
     let t = tablesOf (a .c) (now (a .records)) (now (a .objects)) (now (a .groups)) in
+    let l = c .before .before .before .before .loop in
     let few = sound-at t (s .pre .0) .few-objects in (
       s .pre .0,
-      sorted-low t _ (o .sort-objects .ensures) (l .i) (omega arith),
-      omega (arith, few, s .pre .1, l .inv .1, l .inv .4 .end, l .inv .4 .few),
-      l .inv .3 ∙ s .pre .2,
-      omega (arith, s .pre .3, l .inv .2),
+      s .pre .1,
+      sorted-low t _ (s6 .sort-objects .ensures) (l .i) (omega arith),
+      omega (arith, few, s .pre .2, l .inv .1, l .inv .4 .end, l .inv .4 .few),
+      l .inv .3 ∙ s .pre .3,
+      omega (arith, s .pre .4, l .inv .2),
     )
 
 add-i : tie.Need-add-i Inv-loop μ-loop
@@ -96,20 +100,24 @@ loop-less c = omega arith
 
 loop-again : tie.Need-loop-again Inv-loop μ-loop
 loop-again c =
-    let p = c .before .before .before .before .before .before in
-    let l = p .before .before .before .before .before .loop in
-    let sorted = p .before .before .before .before .before .before .before in
-    let o = sorted .sort-objects in
-    let s = sorted .before .before .before .before .before .before .before .before .before in
+    let s6 = c .before .before .before .before .before .before in
+    let s10 = s6 .before .before .before .before in
+    let s11 = s10 .before in
+    let s13 = s11 .before .before in
+    let s = s13 .before .before .before .before .before .before .before .before .before .before in
     let a = s .args in
     let t = tablesOf (a .c) (now (a .records)) (now (a .objects)) (now (a .groups)) in
+    let p = s6 .put-object in
+    let l = s11 .loop in
+    let o = s13 .sort-objects in
+    let more = s10 .loop-test .taken in
     let few = sound-at t (s .pre .0) .few-objects in (
-      omega arith,
-      p .put-object .kept .0 ∙ l .inv .1,
-      p .put-object .kept .1 .0 ∙ l .inv .2,
-      p .put-object .kept .1 .1 .0 ∙ l .inv .3,
+      omega (arith, more),
+      p .kept .0 ∙ l .inv .1,
+      p .kept .1 .0 ∙ l .inv .2,
+      p .kept .1 .1 .0 ∙ l .inv .3,
       piece-behind (λ o. joined (linesFor t o)) (mostGroups * lineLength) (now (a .out)) _ (a .n) (l .i)
-          (omega (arith, few, o .kept .0)) (omega (arith, few, s .pre .1)) (l .inv .4) (p .put-object .ensures),
+          (omega (arith, few, more, o .kept .0)) (omega (arith, few, more, s .pre .2)) (l .inv .4) (p .ensures),
     )
 
 same-length : tie.Need-same-length Inv-loop μ-loop
@@ -124,10 +132,11 @@ same-length-3 c = c .before .loop .inv .3
 returns : tie.Need-returns Inv-loop μ-loop
 unfolding objectsOf
 returns c =
-    let l = c .before .loop in
-    let s = c .before .before .before .before .before .before .before .before .before .before .before .before in
+    let s10 = c .before .before .before .before .before .before .before .before .before .before in
+    let s = s10 .before .before .before in
     let a = s .args in
     let t = tablesOf (a .c) (now (a .records)) (now (a .objects)) (now (a .groups)) in
+    let l = c .before .loop in
     let few = sound-at t (s .pre .0) .few-objects in
     rw (← sorted-lines t _ (c .before .before .before .sort-objects .ensures) (l .i) (omega arith))
     (fewer-behind (now (a .out)) (a .n) (omega (arith, few)) (l .inv .4))

@@ -51,7 +51,11 @@ mul-best : tie.Need-mul-best Inv-loop μ-loop
 mul-best c = omega (arith, c .before .before .shared-slice-known2 .given (c .before .before .before .before .loop .i))
 
 array-write-best : tie.Need-array-write-best Inv-loop μ-loop
-array-write-best c = omega (arith, c .before .before .shared-slice-known2 .given (c .before .before .before .before .loop .i))
+array-write-best c = omega (
+  arith,
+  c .before .before .shared-slice-known2 .given
+      (c .before .before .before .before .loop .i),
+)
 
 add-i : tie.Need-add-i Inv-loop μ-loop
 add-i c = search needs

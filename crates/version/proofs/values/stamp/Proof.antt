@@ -21,8 +21,10 @@ returns : tie.Need-returns
 returns c =
     let v = c .before .before .before .before .args .e .vector in
     let low : vectorSum v ≤ mostSites * seqNumbers
-    = sum-low v (λ i. let h : Fits w16 (getD v i 0) = search needs in omega arith) in
-    (rw (le-ltb (c .before .before .before .before .args .e .key) keys (omega arith)) refl, (low, omega arith, omega arith))
+    = sum-low v (λ i. let h : Fits w16 (getD v i 0) = search needs in omega arith) in (
+      rw (le-ltb (c .before .before .before .before .args .e .key) keys (omega arith)) refl,
+      (low, omega arith, omega arith),
+    )
 
 cast-result : tie.Need-cast-result
 cast-result c = search needs
@@ -77,8 +79,14 @@ returns-2 : tie.Need-returns-2
 returns-2 c =
     let v = c .before .before .before .before .before .before .before .args .e .vector in
     let low : vectorSum v ≤ mostSites * seqNumbers
-    = sum-low v (λ i. let h : Fits w16 (getD v i 0) = search needs in omega arith) in
-    (rw (lt-ltb (c .before .before .before .before .before .before .before .args .e .key) keys (omega arith), ← c .before .before .before .before .before .vector-sum .ensures) refl, (low, omega arith, omega arith))
+    = sum-low v (λ i. let h : Fits w16 (getD v i 0) = search needs in omega arith) in (
+      rw (
+        lt-ltb (c .before .before .before .before .before .before .before .args .e .key) keys (omega arith),
+        ← c
+            .before .before .before .before .before .vector-sum .ensures,
+      ) refl,
+      (low, omega arith, omega arith),
+    )
 
 pub stamp-spec : {M : Type 1} → statement M
 stamp-spec =
