@@ -117,11 +117,12 @@ pub fn put_list(
 {
     let mut line = [0u8; LINE];
     let w = put_head(out, &mut line, n, c, objects);
-    let mut rows = [0u64; ROWS];
-    let mut places = [0u16; PLACES];
-    let mut numbers = [0u16; RECORDS];
+    // what work space holds at first does not matter; zeros would be filled byte by byte
+    let mut rows = [1u64; ROWS];
+    let mut places = [1u16; PLACES];
+    let mut numbers = [1u16; RECORDS];
+    let mut members = [1u16; MEMBERS];
     let mut counts = [0u16; OBJECTS];
-    let mut members = [0u16; MEMBERS];
     let k = c.records as usize;
     index::build(
         records,

@@ -153,10 +153,11 @@ pub fn replay(
     };
     let opened = tables::open(none, records, objects, groups, sites);
     let empty = opened.counters;
-    let mut places = [0u16; PLACES];
-    let mut numbers = [0u16; RECORDS];
+    // what work space holds at first does not matter; zeros would be filled byte by byte
+    let mut places = [1u16; PLACES];
+    let mut numbers = [1u16; RECORDS];
+    let mut members = [1u16; MEMBERS];
     let mut counts = [0u16; OBJECTS];
-    let mut members = [0u16; MEMBERS];
     take_records(
         empty,
         records,
@@ -238,7 +239,8 @@ fn is_replayed(c: Counters, records: &[u8], objects: &[u16], groups: &[u64]) -> 
 {
     let mut rs = [0u8; RECORDS * RECORD];
     let mut os = [0u16; OBJECTS * ENTRY];
-    let mut gs = [0u64; OBJECTS * GROUPS];
+    // what work space holds at first does not matter; zeros would be filled byte by byte
+    let mut gs = [1u64; OBJECTS * GROUPS];
     let t = replay(
         c.sites,
         &mut rs,
