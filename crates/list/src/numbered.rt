@@ -84,7 +84,7 @@ fn put_found(
 {
     let mut places = [0u16; SETS];
     put_sets(&mut places, c, records, objects, groups, o);
-    // what work space holds at first does not matter; zeros would be filled byte by byte
+    // what work space holds at first does not matter; zeros would be set by memset (docs/DECISIONS.md, 24)
     let mut rows = [1u64; ROWS];
     let g = gather(&mut rows, c, records, objects, groups, &places, o);
     put_version(out, g, v)

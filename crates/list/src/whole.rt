@@ -117,7 +117,7 @@ pub fn put_list(
 {
     let mut line = [0u8; LINE];
     let w = put_head(out, &mut line, n, c, objects);
-    // what work space holds at first does not matter; zeros would be filled byte by byte
+    // what work space holds at first does not matter; zeros would be set by memset (docs/DECISIONS.md, 24)
     let mut rows = [1u64; ROWS];
     let mut places = [1u16; PLACES];
     let mut numbers = [1u16; RECORDS];

@@ -153,7 +153,7 @@ pub fn replay(
     };
     let opened = tables::open(none, records, objects, groups, sites);
     let empty = opened.counters;
-    // what work space holds at first does not matter; zeros would be filled byte by byte
+    // what work space holds at first does not matter; zeros would be set by memset (docs/DECISIONS.md, 24)
     let mut places = [1u16; PLACES];
     let mut numbers = [1u16; RECORDS];
     let mut members = [1u16; MEMBERS];
@@ -239,7 +239,7 @@ fn is_replayed(c: Counters, records: &[u8], objects: &[u16], groups: &[u64]) -> 
 {
     let mut rs = [0u8; RECORDS * RECORD];
     let mut os = [0u16; OBJECTS * ENTRY];
-    // what work space holds at first does not matter; zeros would be filled byte by byte
+    // what work space holds at first does not matter; zeros would be set by memset (docs/DECISIONS.md, 24)
     let mut gs = [1u64; OBJECTS * GROUPS];
     let t = replay(
         c.sites,

@@ -144,7 +144,7 @@ pub fn is_sound(c: Counters, records: &[u8], objects: &[u16], groups: &[u64]) ->
     if !within_limits(c) {
         return false;
     }
-    // what work space holds at first does not matter; zeros would be filled byte by byte
+    // what work space holds at first does not matter; zeros would be set by memset (docs/DECISIONS.md, 24)
     let mut places = [1u16; PLACES];
     let w = history::walk(c.sites, records, c.records as usize, &mut places);
     if !w.ok {
