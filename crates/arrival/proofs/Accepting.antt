@@ -1,11 +1,10 @@
 -- What the code of an arrival at sound tables has in hand: the edit decoded, the survey of the records, and the first
 -- of 1 to 6. Assumes nothing.
 use mathlib.Core.Path.{_≡_, sym, ap, _∙_}
-use mathlib.Core.Bool.{Bool, true, false}
+use mathlib.Core.Bool.{true, false}
 use mathlib.Core.List.{List}
 use Prim.Native.Nat.{ℕ, _≤_, _<_}
 use lib.ListN.{length, getD}
-use lib.Dec.{eqb}
 use Rattle.record.specs.declared.Edit.{Edit}
 use Rattle.record.specs.Layout.{recordLength}
 use Rattle.record.specs.Record.{decodeOf}
@@ -14,9 +13,9 @@ use Rattle.history.specs.declared.Surveyed.{Surveyed}
 use Rattle.history.specs.History.{mostRecords, editsOf, setsOn}
 use Rattle.history.specs.Code.{markBits, surveyOf}
 use Rattle.group.specs.Row.{mostObjects}
-use Rattle.tables.specs.Tables.{Tables, Outcome, outcomeOf, tablesOf, heldBy, recordsLength, objectsLength}
-use Rattle.tables.specs.Sound.{sound}
-use Rattle.tables.proofs.Facts.{Sound, sound-at}
+use Rattle.tables.specs.Tables.{Tables, outcomeOf, tablesOf, heldBy, recordsLength, objectsLength}
+use Rattle.soundness.specs.Sound.{sound}
+use Rattle.soundness.proofs.Facts.{sound-at}
 use Rattle.index.specs.Index.{Holds}
 use Rattle.arrival.specs.Arrival.{firstOf, counted, putRecord, putEntry, withCreate, acceptanceOf}
 use Rattle.arrival.specs.Code.{sixBy, sixth, Ready}

@@ -1,7 +1,7 @@
 -- The object that a Set names, where its target is held: its number, its Create, and its row of groups, ready for the
 -- step. Assumes nothing.
 use mathlib.Core.Path.{_≡_, ap₂, _∙_}
-use mathlib.Core.Bool.{Bool, true}
+use mathlib.Core.Bool.{true}
 use Prim.Native.Nat.{ℕ, suc, _+_, _*_, _^_, _≤_, _<_}
 use native.Mathlib.Omega.{arith}
 use lib.ListN.{length, getD}
@@ -16,7 +16,7 @@ use Rattle.history.specs.History.{recordAt, setsOn, isTarget, objectOf, conflic
 use Rattle.history.proofs.History.{Target}
 use Rattle.group.specs.Row.{mostGroups}
 use Rattle.tables.specs.Tables.{Tables, heldBy, placeAt, setsAt, groupsAt}
-use Rattle.tables.proofs.Facts.{Sound, Row}
+use Rattle.soundness.proofs.Facts.{Sound, Row}
 use Rattle.arrival.specs.Arrival.{matesOf, rowOf, groupsAfter}
 use Rattle.arrival.proofs.Objects.{target-object}
 use Rattle.causal.proofs.Identities.{same-site, same-seq}

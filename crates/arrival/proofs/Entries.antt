@@ -1,13 +1,13 @@
 -- The entries of the objects' table after a store: the entry stored is as written, every other as it was.
 -- Assumes nothing.
-use mathlib.Core.Path.{_≡_, refl, _∙_}
+use mathlib.Core.Path.{_≡_, _∙_}
 use mathlib.Core.List.{List}
-use Prim.Native.Nat.{ℕ, suc, _+_, _*_, _≤_, _<_}
+use Prim.Native.Nat.{ℕ, _+_, _*_, _≤_}
 use native.Mathlib.Omega.{arith}
 use lib.ListN.{length, getD, set, length-set}
 use lib.Seq.{getD-set-same, getD-set-other}
 use Rattle.tables.specs.Tables.{entryLength, placeAt, setsAt, groupsAt}
-use Rattle.tables.proofs.Facts.{Entry, Row, Object}
+use Rattle.soundness.proofs.Facts.{Entry, Row, Object}
 use Rattle.arrival.specs.Arrival.{putCounts, putEntry}
 
 -- an object that is as its entry says

@@ -1,18 +1,17 @@
 -- Demand 2's theorem: after any records taken from an empty drawing the tables are sound, and the row of each object is
 -- the ascending list of all maximal conflict-free sets of its Sets. Assumes nothing.
 use mathlib.Core.Path.{_≡_, refl, sym, ap, ap₂, _∙_}
-use mathlib.Core.Logic.{_⊎_, inl, inr}
-use mathlib.Core.Bool.{Bool, true, false, not, _&&_, _||_, cond}
+use mathlib.Core.Logic.{inl, inr}
+use mathlib.Core.Bool.{Bool, true, false, not, cond}
 use mathlib.Core.List.{List, [], _∷_, _++_, append-nil}
-use Prim.Native.Nat.{ℕ, zero, suc, _+_, _-_, _*_, _/_, _%_, _^_, _≤_, _<_}
+use Prim.Native.Nat.{ℕ, zero, suc, _+_, _-_, _*_, _≤_, _<_}
 use native.Mathlib.Omega.{arith}
 use native.Mathlib.Decide.{ℕ-discrete}
-use lib.ListN.{length, getD, take, drop, replicate, length-drop}
+use lib.ListN.{length, getD, take, drop, replicate}
 use lib.Seq.{drop-cons}
 use lib.Dec.{eqb}
 use borrow.Author.Tests.{eqb-true}
 use Rattle.ground.specs.Sorted.{any, filter}
-use Rattle.ground.proofs.Bools.{clash}
 use Rattle.ground.proofs.Numbers.{last}
 use Rattle.ground.proofs.Snoc.{filter-snoc}
 use Rattle.record.specs.declared.Site.{Site}
@@ -21,7 +20,7 @@ use Rattle.record.specs.declared.Edit.{Edit}
 use Rattle.record.specs.Layout.{mostSites}
 use Rattle.record.specs.Record.{decodeOf}
 use Rattle.record.specs.Form.{isCreate, isSet}
-use Rattle.causal.specs.Causal.{sameEdit, doConflict}
+use Rattle.causal.specs.Causal.{doConflict}
 use Rattle.causal.proofs.Laws.{same-reflexive, conflict-symmetric, conflict-irreflexive}
 use Rattle.maximal.specs.Groups.{bit, every, groups}
 use Rattle.maximal.specs.Step.{step}
@@ -31,8 +30,8 @@ use Rattle.maximal.proofs.Arrivals.{arrives}
 use Rattle.history.specs.History.{recordAt, editsOf, isSetOn, setsOn, isTarget, objectOf, conflictsWith}
 use Rattle.history.proofs.Conflicts.{conflicts-bit}
 use Rattle.group.specs.Row.{mostGroups, row, putRow}
-use Rattle.tables.specs.Tables.{Tables, Outcome, outcomeOf, heldBy, placeAt, groupsAt, emptyDrawing, entryLength}
-use Rattle.tables.proofs.Facts.{Sound}
+use Rattle.tables.specs.Tables.{Tables, outcomeOf, heldBy, placeAt, groupsAt, emptyDrawing, entryLength}
+use Rattle.soundness.proofs.Facts.{Sound}
 use Rattle.arrival.specs.Arrival.{
   matesOf,
   rowOf,

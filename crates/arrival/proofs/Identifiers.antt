@@ -1,6 +1,6 @@
 -- Demand 2, identifiers: two versions of a faithful drawing never share one. Assumes nothing.
-use mathlib.Core.Path.{_≡_, sym, ap, _∙_}
-use mathlib.Core.Bool.{Bool, true, false, _&&_}
+use mathlib.Core.Path.{_≡_, sym}
+use mathlib.Core.Bool.{Bool, true, _&&_}
 use mathlib.Core.List.{List}
 use Prim.Native.Nat.{ℕ, _<_}
 use lib.ListN.{length, getD}
@@ -11,7 +11,7 @@ use Rattle.ground.proofs.Below.{keep-at, keep-on}
 use Rattle.ground.proofs.Places.{any-place-on}
 use Rattle.record.specs.declared.Edit.{Edit}
 use Rattle.causal.specs.Causal.{doConflict}
-use Rattle.maximal.specs.Groups.{bit, every, groups}
+use Rattle.maximal.specs.Groups.{bit, every}
 use Rattle.maximal.specs.Arrivals.{rel, groupsOf}
 use Rattle.maximal.proofs.Groups.{below-at}
 use Rattle.maximal.proofs.Count.{told-apart}

@@ -1,12 +1,12 @@
 -- An empty drawing is sound, and an arrival leaves sound tables sound, whatever it is answered. Assumes nothing.
-use mathlib.Core.Path.{_≡_, refl, sym, ap, _∙_}
+use mathlib.Core.Path.{_≡_, refl, _∙_}
 use mathlib.Core.Bool.{Bool, true, false, cond}
-use mathlib.Core.List.{List, []}
-use Prim.Native.Nat.{ℕ, _+_, _≤_, _<_}
+use mathlib.Core.List.{List}
+use Prim.Native.Nat.{ℕ, _+_, _≤_}
 use native.Mathlib.Omega.{arith}
 use native.Mathlib.Decide.{decLt}
 use lib.ListN.{length, getD, set, replicate, length-set, length-replicate, getD-replicate, List·getD-eq-default}
-use lib.Dec.{eqb, lit≤}
+use lib.Dec.{eqb}
 use borrow.Author.Tests.{eqb-true}
 use Rattle.ground.specs.Below.{all}
 use Rattle.ground.specs.Sorted.{filter}
@@ -15,9 +15,9 @@ use Rattle.record.specs.Record.{decodeOf}
 use Rattle.record.specs.Form.{isCreate}
 use Rattle.history.specs.History.{editsOf, countFrom, creates}
 use Rattle.history.specs.Answers.{recordsPass}
-use Rattle.tables.specs.Tables.{Tables, Outcome, outcomeOf, emptyDrawing, recordsLength, objectsLength, groupsLength}
-use Rattle.tables.specs.Sound.{sound}
-use Rattle.tables.proofs.Facts.{Sound, ZeroFrom, sound-at, sound-on}
+use Rattle.tables.specs.Tables.{Tables, outcomeOf, emptyDrawing, recordsLength, objectsLength, groupsLength}
+use Rattle.soundness.specs.Sound.{sound}
+use Rattle.soundness.proofs.Facts.{Sound, sound-at, sound-on}
 use Rattle.arrival.specs.Arrival.{answerTo, withCreate, withSet, taken, acceptanceOf, arrivalOf}
 use Rattle.arrival.proofs.Admitted.{accepted, set-or-create}
 use Rattle.arrival.proofs.KeptCreate.{create-keeps-sound}

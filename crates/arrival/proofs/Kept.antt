@@ -1,21 +1,20 @@
 -- What an accepted edit, Create or Set, leaves sound: the records and their counts, and the entries and rows of the
 -- objects that it does not touch. Assumes nothing.
-use mathlib.Core.Path.{_≡_, refl, sym, ap, ap₂, _∙_}
-use mathlib.Core.Logic.{_⊎_, inl, inr}
-use mathlib.Core.Bool.{Bool, true, false, not, _&&_, _||_, cond}
+use mathlib.Core.Path.{_≡_, refl, sym, ap, _∙_}
+use mathlib.Core.Logic.{inl, inr}
+use mathlib.Core.Bool.{Bool, true, false, cond}
 use mathlib.Core.List.{List, [], _∷_, _++_}
 use Prim.Native.Nat.{ℕ, zero, suc, _+_, _-_, _*_, _≤_, _<_}
 use native.Mathlib.Omega.{arith}
 use native.Mathlib.Numerals.{add-one}
 use native.Mathlib.Decide.{ℕ-discrete}
-use lib.ListN.{length, getD, set, drop, length-set, length-drop}
+use lib.ListN.{length, getD, set, drop}
 use lib.Seq.{getD-set-same, getD-set-other, getD-drop}
 use lib.Dec.{eqb}
 use borrow.Author.Tests.{eq-eqb, ne-eqb}
 use Rattle.ground.specs.Below.{all}
-use Rattle.ground.specs.Sorted.{any, filter}
+use Rattle.ground.specs.Sorted.{filter}
 use Rattle.ground.proofs.Below.{all-on, all-at}
-use Rattle.ground.proofs.Bools.{clash}
 use Rattle.ground.proofs.Numbers.{last}
 use Rattle.ground.proofs.Snoc.{filter-length-snoc}
 use Rattle.record.specs.declared.Site.{Site}
@@ -23,22 +22,15 @@ use Rattle.record.specs.declared.Seq.{Seq}
 use Rattle.record.specs.declared.Edit.{Edit}
 use Rattle.record.specs.Layout.{mostSites, recordLength}
 use Rattle.record.specs.Record.{decodeOf}
-use Rattle.record.specs.Form.{isCreate, isSet}
-use Rattle.history.specs.History.{recordAt, editsOf, countFrom, creates, isSetOn, setsOn, mostRecords}
+use Rattle.record.specs.Form.{isCreate}
+use Rattle.history.specs.History.{recordAt, editsOf, countFrom, creates, isSetOn, setsOn}
 use Rattle.history.specs.Answers.{passes, recordsPass}
 use Rattle.group.specs.Row.{mostSets}
 use Rattle.tables.specs.Tables.{Tables, heldBy, recordsLength}
-use Rattle.tables.proofs.Facts.{Sound, Entry, ZeroFrom}
-use Rattle.arrival.specs.Arrival.{counted, putRecord}
+use Rattle.soundness.proofs.Facts.{Sound, Entry, ZeroFrom}
+use Rattle.arrival.specs.Arrival.{putRecord}
 use Rattle.arrival.proofs.Admitted.{Admitted, admitted-passes}
-use Rattle.arrival.proofs.Records.{
-  put-long,
-  put-behind,
-  put-before,
-  put-here,
-  put-edits-before,
-  put-edits,
-}
+use Rattle.arrival.proofs.Records.{put-long, put-behind, put-before, put-here, put-edits-before, put-edits}
 
 -- ---- counts over one edit more
 

@@ -1,14 +1,14 @@
 -- An accepted Create leaves sound tables sound: one object more, with no Sets and the empty group. Assumes nothing.
 use mathlib.Core.Path.{_≡_, refl, sym, ap, _∙_}
-use mathlib.Core.Logic.{_⊎_, inl, inr}
-use mathlib.Core.Bool.{Bool, true, false, not, _&&_, _||_, cond}
+use mathlib.Core.Logic.{inl, inr}
+use mathlib.Core.Bool.{true, false, not, cond}
 use mathlib.Core.List.{List, [], _∷_, _++_}
-use Prim.Native.Nat.{ℕ, zero, suc, _+_, _*_, _^_, _≤_, _<_}
+use Prim.Native.Nat.{ℕ, zero, suc, _+_, _*_, _≤_, _<_}
 use native.Mathlib.Omega.{arith}
 use lib.ListN.{length, getD}
 use lib.Dec.{eqb}
 use borrow.Author.Tests.{eqb-true, eq-eqb, ne-eqb, leb-false}
-use Rattle.ground.proofs.Bools.{clash, off, both}
+use Rattle.ground.proofs.Bools.{off, both}
 use Rattle.ground.proofs.Numbers.{last}
 use Rattle.record.specs.declared.Site.{Site}
 use Rattle.record.specs.declared.Seq.{Seq}
@@ -23,7 +23,7 @@ use Rattle.history.proofs.History.{target-parts, count-more, count-grows}
 use Rattle.history.proofs.Passed.{next-at, target-before}
 use Rattle.group.specs.Row.{mostGroups}
 use Rattle.tables.specs.Tables.{Tables, heldBy, placeAt, entryLength}
-use Rattle.tables.proofs.Facts.{Sound, Entry, Row, Object}
+use Rattle.soundness.proofs.Facts.{Sound, Entry, Row, Object}
 use Rattle.arrival.specs.Arrival.{putEntry, putRecord, withCreate}
 use Rattle.arrival.proofs.Admitted.{Admitted}
 use Rattle.arrival.proofs.Records.{put-here, put-edits-before}

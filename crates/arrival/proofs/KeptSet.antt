@@ -1,13 +1,13 @@
 -- An accepted Set leaves sound tables sound: its object has one Set more and the groups that the step gives.
 -- Assumes nothing.
-use mathlib.Core.Path.{_≡_, refl, sym, ap, ap₂, _∙_}
-use mathlib.Core.Bool.{Bool, true, false, not, _&&_, _||_, cond}
-use mathlib.Core.List.{List, [], _∷_, _++_}
-use Prim.Native.Nat.{ℕ, zero, suc, _+_, _-_, _*_, _^_, _≤_, _<_}
+use mathlib.Core.Path.{_≡_, sym, ap, ap₂, _∙_}
+use mathlib.Core.Bool.{Bool, true, false, not, _&&_, cond}
+use mathlib.Core.List.{List, _++_}
+use Prim.Native.Nat.{ℕ, zero, suc, _+_, _-_, _*_, _≤_, _<_}
 use native.Mathlib.Omega.{arith}
 use native.Mathlib.Numerals.{add-one}
 use native.Mathlib.Decide.{ℕ-discrete}
-use lib.ListN.{length, getD, take, replicate}
+use lib.ListN.{length, replicate}
 use lib.Dec.{eqb}
 use borrow.Author.Tests.{eqb-true, ne-eqb}
 use Rattle.ground.specs.Sorted.{any}
@@ -22,10 +22,10 @@ use Rattle.causal.specs.Causal.{sameEdit}
 use Rattle.causal.proofs.Laws.{same-reflexive}
 use Rattle.history.specs.History.{recordAt, editsOf, creates, isSetOn, isTarget, objectOf}
 use Rattle.history.proofs.Passed.{one-place}
-use Rattle.group.specs.Row.{mostGroups, mostSets, row, putRow}
+use Rattle.group.specs.Row.{mostGroups, row, putRow}
 use Rattle.tables.specs.Tables.{Tables, heldBy, placeAt, setsAt, groupsAt, entryLength}
-use Rattle.tables.proofs.Facts.{Sound, Entry, Row, Object}
-use Rattle.arrival.specs.Arrival.{matesOf, rowOf, groupsAfter, putCounts, putRecord, withSet}
+use Rattle.soundness.proofs.Facts.{Sound, Entry, Row, Object}
+use Rattle.arrival.specs.Arrival.{matesOf, groupsAfter, putCounts, putRecord, withSet}
 use Rattle.arrival.proofs.Admitted.{Accepted, admitted-target}
 use Rattle.causal.proofs.Identities.{same-parts}
 use Rattle.arrival.proofs.Aimed.{
@@ -50,12 +50,7 @@ use Rattle.arrival.proofs.Entries.{
   other-sets,
   other-groups,
 }
-use Rattle.arrival.proofs.Rows.{
-  row-put-long,
-  row-elsewhere,
-  new-row,
-  other-row,
-}
+use Rattle.arrival.proofs.Rows.{row-put-long, row-elsewhere, new-row, other-row}
 use Rattle.arrival.proofs.Kept.{
   creates-snoc,
   held-after,

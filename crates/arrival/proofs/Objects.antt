@@ -2,15 +2,13 @@
 -- Set names is the one whose Create is its target. Assumes nothing.
 use mathlib.Core.Path.{_≡_, refl, sym, ap, ap₂, _∙_}
 use mathlib.Core.Logic.{_⊎_, inl, inr}
-use mathlib.Core.Bool.{Bool, true, false, _&&_, _||_, cond}
+use mathlib.Core.Bool.{Bool, true, false, _||_, cond}
 use mathlib.Core.List.{List, [], _∷_, _++_}
 use Prim.Native.Nat.{ℕ, zero, suc, _+_, _≤_, _<_}
 use native.Mathlib.Omega.{arith}
 use native.Mathlib.Decide.{decLt}
 use lib.ListN.{length, getD, List·getD-append}
 use lib.Seq.{getD-append-seam}
-use lib.Dec.{eqb}
-use borrow.Author.Tests.{eqb-true}
 use Rattle.ground.specs.Sorted.{any, filter}
 use Rattle.ground.proofs.Bools.{clash, decide, off, both}
 use Rattle.ground.proofs.Numbers.{last}
@@ -26,7 +24,7 @@ use Rattle.history.proofs.History.{Target, target-parts, any-edit-on, any-edit-
 use Rattle.history.proofs.Passed.{target-before}
 use Rattle.group.specs.Row.{mostSets}
 use Rattle.tables.specs.Tables.{Tables, placeAt, setsAt, heldBy}
-use Rattle.tables.proofs.Facts.{Sound}
+use Rattle.soundness.proofs.Facts.{Sound}
 
 -- ---- the first that passes
 

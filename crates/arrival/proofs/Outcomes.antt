@@ -1,23 +1,22 @@
 -- What the code leaves is what the definition says, case by case: refused, a Create taken, a Set taken, a Set refused
 -- with 7. Assumes nothing.
-use mathlib.Core.Path.{_≡_, refl, sym, ap, ap₂, _∙_}
-use mathlib.Core.Bool.{Bool, true, false, _&&_, cond}
-use mathlib.Core.List.{List, [], _∷_, _++_}
+use mathlib.Core.Path.{_≡_, sym, ap, _∙_}
+use mathlib.Core.Bool.{Bool, true, false, cond}
+use mathlib.Core.List.{List, _++_}
 use Prim.Native.Nat.{ℕ, _+_, _-_, _*_, _≤_, _<_}
 use native.Mathlib.Omega.{arith}
-use lib.ListN.{length, getD, take, drop, replicate, take-append-drop}
+use lib.ListN.{length, getD, take, drop, take-append-drop}
 use lib.Seq.{drop-drop}
 use lib.Dec.{eqb, ltb}
-use borrow.Author.Tests.{eqb-true, eq-eqb, ne-eqb, lt-ltb, le-ltb}
-use Rattle.ground.specs.Sorted.{any}
+use borrow.Author.Tests.{eq-eqb, ne-eqb, lt-ltb, le-ltb}
 use Rattle.record.specs.declared.Edit.{Edit}
 use Rattle.record.specs.Record.{decodeOf}
 use Rattle.record.specs.Form.{isCreate, isSet}
-use Rattle.history.specs.History.{isTarget, objectOf, mostRecords, countFrom}
+use Rattle.history.specs.History.{objectOf, mostRecords}
 use Rattle.history.proofs.History.{count-few}
 use Rattle.group.specs.Row.{mostGroups, row, putRow, settled}
-use Rattle.tables.specs.Tables.{Tables, Outcome, outcomeOf, tablesOf, heldBy}
-use Rattle.tables.proofs.Facts.{Sound}
+use Rattle.tables.specs.Tables.{Tables, outcomeOf, tablesOf, heldBy}
+use Rattle.soundness.proofs.Facts.{Sound}
 use Rattle.arrival.specs.Arrival.{
   matesOf,
   groupsAfter,
@@ -32,7 +31,7 @@ use Rattle.arrival.specs.Arrival.{
 }
 use Rattle.arrival.specs.Code.{sixth}
 use Rattle.arrival.proofs.Six.{answer-is}
-use Rattle.arrival.proofs.Admitted.{Admitted, admitted}
+use Rattle.arrival.proofs.Admitted.{Admitted}
 use Rattle.arrival.proofs.KeptCreate.{create-not-set}
 use Rattle.arrival.proofs.KeptSet.{set-not-create}
 

@@ -4,21 +4,11 @@ use mathlib.Core.Path.{_≡_, refl, sym, ap, _∙_}
 use mathlib.Core.List.{List, [], _∷_, _++_}
 use Prim.Native.Nat.{ℕ, zero, suc, _+_, _-_, _*_, _≤_, _<_}
 use native.Mathlib.Omega.{arith}
-use lib.ListN.{length, getD, take, drop, length-take, length-drop, length-append, List·getD-append}
-use lib.Seq.{
-  getD-take,
-  getD-drop,
-  drop-at,
-  drop-drop,
-  length-take-le,
-  ext-getD,
-  take-at,
-  drop-append-le,
-  take-append-le,
-}
+use lib.ListN.{length, getD, take, drop, length-drop, length-append, List·getD-append}
+use lib.Seq.{getD-take, getD-drop, drop-at, drop-drop, length-take-le, ext-getD, take-at}
 use Rattle.record.specs.Layout.{recordLength}
 use Rattle.record.specs.Record.{decodeOf}
-use Rattle.record.proofs.Agree.{Agree, agree-append, decode-agree}
+use Rattle.record.proofs.Agree.{agree-append, decode-agree}
 use Rattle.history.specs.History.{bytesAt, recordAt, editsOf}
 use Rattle.arrival.specs.Arrival.{putRecord}
 

@@ -1,6 +1,6 @@
 -- The rows of groups as lists, and after one row is written: it is as written, every other as it was. Assumes nothing.
-use mathlib.Core.Path.{_≡_, refl, sym, ap, _∙_}
-use mathlib.Core.Bool.{Bool, true}
+use mathlib.Core.Path.{_≡_, sym, ap, _∙_}
+use mathlib.Core.Bool.{true}
 use mathlib.Core.List.{List, _++_}
 use Prim.Native.Nat.{ℕ, suc, _+_, _-_, _*_, _^_, _≤_, _<_}
 use native.Mathlib.Omega.{arith}
@@ -22,7 +22,7 @@ use Rattle.ground.specs.Sorted.{elem, Ascending}
 use Rattle.ground.proofs.Places.{elem-place, place-elem, ascending-on, ascending-at}
 use Rattle.ground.proofs.Parts.{put-long, put-before, put-inside, put-after, put-from}
 use Rattle.group.specs.Row.{mostGroups, row, putRow}
-use Rattle.tables.proofs.Facts.{Row}
+use Rattle.soundness.proofs.Facts.{Row}
 
 -- ---- the groups in use
 

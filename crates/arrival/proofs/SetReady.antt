@@ -1,9 +1,9 @@
 -- What the code that takes a Set is given, and what it leaves: a Set that passes 1 to 6 at sound tables, with the
 -- survey of the records. Assumes nothing.
-use mathlib.Core.Path.{_≡_, refl, sym, ap, subst, _∙_}
-use mathlib.Core.Bool.{Bool, true}
+use mathlib.Core.Path.{_≡_, sym, ap, subst, _∙_}
+use mathlib.Core.Bool.{true}
 use mathlib.Core.List.{List}
-use Prim.Native.Nat.{ℕ, _+_, _*_, _^_, _≤_, _<_}
+use Prim.Native.Nat.{ℕ, _+_, _^_, _≤_, _<_}
 use native.Mathlib.Omega.{arith}
 use lib.ListN.{length, getD, take}
 use Rattle.ground.specs.Sorted.{any, elem, Ascending}
@@ -16,20 +16,17 @@ use Rattle.history.specs.declared.Surveyed.{Surveyed}
 use Rattle.history.specs.History.{mostRecords, isTarget}
 use Rattle.history.specs.Code.{surveyOf}
 use Rattle.group.specs.Row.{mostObjects, mostSets, mostGroups, row, putRow, settled}
-use Rattle.tables.specs.declared.Counters.{Counters}
 use Rattle.tables.specs.Tables.{
   Tables,
-  Outcome,
   outcomeOf,
   tablesOf,
   heldBy,
   groupsAt,
-  entryLength,
   recordsLength,
   objectsLength,
   groupsLength,
 }
-use Rattle.tables.proofs.Facts.{Sound, sound-at}
+use Rattle.soundness.proofs.Facts.{Sound, sound-at}
 use Rattle.arrival.specs.Arrival.{groupsAfter, counted, putRecord, putCounts, acceptanceOf}
 use Rattle.arrival.specs.Code.{sixth, Ready}
 use Rattle.arrival.proofs.Admitted.{Admitted, admitted, admitted-target}

@@ -18,7 +18,7 @@ use Rattle.history.specs.Answers.{isRepeated, isEarly, isTorn, isAstray}
 use Rattle.history.specs.Code.{repeatedAgainst, earlyAgainst, surveyOf}
 use Rattle.history.proofs.Against.{repeated-against, early-against}
 use Rattle.tables.specs.Tables.{Tables, heldBy}
-use Rattle.tables.proofs.Facts.{Sound}
+use Rattle.soundness.proofs.Facts.{Sound}
 use Rattle.arrival.specs.Arrival.{matesOf, isFull, isCrowded, firstOf, answerTo}
 use Rattle.arrival.specs.Code.{fullWith, sixBy, sixth}
 

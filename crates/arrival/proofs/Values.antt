@@ -2,7 +2,7 @@
 -- one value, and the member that is last in the total order is one of them. Assumes nothing.
 use mathlib.Core.Path.{_≡_, sym, ap, ap₂, _∙_}
 use mathlib.Core.Logic.{_⊎_, inl, inr}
-use mathlib.Core.Bool.{Bool, true, false, not, _&&_}
+use mathlib.Core.Bool.{true, false, not, _&&_}
 use mathlib.Core.List.{List, [], _∷_, _++_}
 use Prim.Native.Nat.{ℕ, zero, suc, _<_}
 use native.Mathlib.Omega.{arith}
@@ -28,7 +28,7 @@ use Rattle.history.proofs.History.{edits-length}
 use Rattle.history.proofs.Passed.{one-place}
 use Rattle.history.proofs.Ranks.{before-ranks}
 use Rattle.tables.specs.Tables.{Tables, heldBy}
-use Rattle.tables.proofs.Facts.{Sound}
+use Rattle.soundness.proofs.Facts.{Sound}
 use Rattle.arrival.specs.Truth.{noEdit, trueGroups}
 use Rattle.causal.proofs.Identities.{same-parts}
 

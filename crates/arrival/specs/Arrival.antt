@@ -1,6 +1,6 @@
 -- What an arriving edit does: 8, then 1 to 7 in turn, the first that applies; else the tables with the Create or the
 -- Set in. Assumes nothing.
-use Prim.Native.Nat.{ℕ, zero, suc, _+_, _-_, _*_}
+use Prim.Native.Nat.{ℕ, suc, _+_, _-_, _*_}
 use mathlib.Core.List.{List, [], _∷_, _++_}
 use mathlib.Core.Bool.{Bool, _&&_, _||_, cond}
 use lib.ListN.{getD, set, length, take, drop, replicate}
@@ -10,13 +10,13 @@ use Rattle.record.specs.declared.Edit.{Edit}
 use Rattle.record.specs.Layout.{recordLength}
 use Rattle.record.specs.Record.{decodeOf}
 use Rattle.record.specs.Form.{isCreate, isSet, malformed}
-use Rattle.history.specs.History.{creates, setsOn, objectOf, conflictsWith, mostRecords}
+use Rattle.history.specs.History.{setsOn, objectOf, conflictsWith, mostRecords}
 use Rattle.history.specs.Answers.{isRepeated, isEarly, isTorn, isAstray}
 use Rattle.maximal.specs.Step.{step}
 use Rattle.group.specs.Row.{mostObjects, mostSets, mostGroups, row, putRow}
 use Rattle.tables.specs.declared.Counters.{Counters}
 use Rattle.tables.specs.Tables.{Tables, Outcome, outcomeOf, tablesOf, entryLength, groupsAt, heldBy}
-use Rattle.tables.specs.Sound.{sound}
+use Rattle.soundness.specs.Sound.{sound}
 
 -- ---- the answer
 

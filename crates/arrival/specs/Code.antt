@@ -16,7 +16,7 @@ use Rattle.history.specs.Code.{repeatedAgainst, earlyAgainst, surveyOf}
 use Rattle.group.specs.Row.{mostObjects, mostSets}
 use Rattle.tables.specs.declared.Counters.{Counters}
 use Rattle.tables.specs.Tables.{Tables, heldBy}
-use Rattle.tables.specs.Sound.{sound}
+use Rattle.soundness.specs.Sound.{sound}
 use Rattle.arrival.specs.Arrival.{isFull, firstOf}
 
 -- 6, where the edit's object has k Sets

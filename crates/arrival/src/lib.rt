@@ -21,7 +21,7 @@ ghost use Rattle.history.specs.History.{mostRecords, editsOf};
 ghost use Rattle.history.specs.Code.{surveyOf};
 ghost use Rattle.group.specs.Row.{mostObjects};
 ghost use Rattle.tables.specs.Tables.{tablesOf, outcomeOf, numberOf, recordsLength, objectsLength};
-ghost use Rattle.tables.specs.Sound.{sound};
+ghost use Rattle.soundness.specs.Sound.{sound};
 ghost use Rattle.arrival.specs.Arrival.{
   firstOf,
   counted,
@@ -278,7 +278,7 @@ pub fn arrive(
         ≡ arrivalOf (tablesOf c (now (records .entry)) (now (objects .entry)) (now (groups .entry)))
         (now (rec .entry)) ⌝ }
 {
-    if !tables::is_sound(c, records, objects, groups) {
+    if !soundness::is_sound(c, records, objects, groups) {
         return Arrived {
             answer: Answer::Unsound,
             counters: c,

@@ -14,9 +14,9 @@ use Rattle.record.specs.Layout.{mostSites, recordLength}
 use Rattle.record.specs.Record.{two, four}
 use Rattle.record.proofs.Bytes.{Bytes, two-drop, bytes-drop}
 use Rattle.history.specs.History.{mostRecords, bytesAt}
-use Rattle.tables.specs.Tables.{Tables}
-use Rattle.tables.specs.Sound.{sitesRight, sound}
-use Rattle.tables.proofs.Facts.{sound-at}
+use Rattle.tables.specs.Tables.{Tables, sitesRight}
+use Rattle.soundness.specs.Sound.{sound}
+use Rattle.soundness.proofs.Facts.{sound-at}
 use Rattle.replay.specs.Replay.{replayOf}
 use Rattle.block.specs.Block.{
   fileLimit,

@@ -11,7 +11,7 @@ use borrow.Author.Tests.{eqb-true, lt-ltb, le-ltb, ltb-false, not-false}
 use Rattle.ground.proofs.Bools.{neither}
 use Rattle.record.specs.Layout.{recordLength}
 use Rattle.history.specs.History.{mostRecords}
-use Rattle.tables.specs.Sound.{sitesRight}
+use Rattle.tables.specs.Tables.{sitesRight}
 use Rattle.block.specs.Block.{
   trailerLength,
   fileLimit,

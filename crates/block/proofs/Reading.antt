@@ -1,7 +1,7 @@
 -- What the code that reads a file has in hand is what the definition says: refused, all records taken, or one refused
 -- and the drawing emptied. Assumes nothing.
-use mathlib.Core.Path.{_≡_, refl, sym, ap, ap₂, subst, _∙_}
-use mathlib.Core.Bool.{Bool, true, false, _&&_, cond}
+use mathlib.Core.Path.{_≡_, sym, ap, subst, _∙_}
+use mathlib.Core.Bool.{true, false}
 use mathlib.Core.List.{List}
 use Prim.Native.Nat.{ℕ, _*_, _≤_}
 use native.Mathlib.Omega.{arith}
@@ -11,14 +11,21 @@ use borrow.Author.Tests.{eq-eqb, ne-eqb, leb-true, le-leb}
 use Rattle.ground.proofs.Bools.{both, and-on}
 use Rattle.record.specs.Layout.{mostSites, recordLength}
 use Rattle.history.specs.History.{mostRecords}
-use Rattle.tables.specs.Tables.{Tables, emptyDrawing, recordsLength, objectsLength, groupsLength}
-use Rattle.tables.specs.Sound.{lengthsRight, sitesRight}
+use Rattle.tables.specs.Tables.{
+  Tables,
+  emptyDrawing,
+  recordsLength,
+  objectsLength,
+  groupsLength,
+  lengthsRight,
+  sitesRight,
+}
 use Rattle.arrival.proofs.Faithful.{Faithful}
 use Rattle.replay.specs.Replay.{Replayed, replayed, replayOf}
 use Rattle.replay.proofs.AnyRecords.{replay-faithful}
-use Rattle.block.specs.Block.{Found, Located, found, located}
-use Rattle.block.specs.Reading.{orEmpty, recordsRead, readingOf}
-use Rattle.block.proofs.Located.{Accepted, accepted-at}
+use Rattle.block.specs.Block.{Found, found, located}
+use Rattle.block.specs.Reading.{recordsRead, readingOf}
+use Rattle.block.proofs.Located.{accepted-at}
 
 -- ---- the records
 

@@ -2,7 +2,7 @@
 -- the same tables to the last entry; and a file that reads with answer 0 gives sound tables which, written, are the
 -- same bytes. Assumes nothing.
 use mathlib.Core.Path.{_≡_, refl, sym, ap, ap₂, _∙_}
-use mathlib.Core.Bool.{Bool, true, false, _&&_, cond}
+use mathlib.Core.Bool.{Bool, true, false, cond}
 use mathlib.Core.List.{List, _++_}
 use Prim.Native.Nat.{ℕ, _+_, _*_, _≤_}
 use native.Mathlib.Omega.{arith}
@@ -13,14 +13,14 @@ use borrow.Author.Tests.{eqb-true, eqb-false, le-leb}
 use Rattle.ground.proofs.Bools.{and-on}
 use Rattle.record.specs.Layout.{mostSites, recordLength}
 use Rattle.record.proofs.Bytes.{Bytes}
-use Rattle.tables.specs.Tables.{Tables, emptyDrawing}
-use Rattle.tables.specs.Sound.{lengthsRight, sitesRight, sound}
+use Rattle.tables.specs.Tables.{Tables, emptyDrawing, lengthsRight, sitesRight}
+use Rattle.soundness.specs.Sound.{sound}
 use Rattle.replay.specs.Replay.{Replayed, replayed, replayOf}
 use Rattle.replay.proofs.Going.{Going, going-faithful, going-sound}
-use Rattle.replay.proofs.Own.{records-same, going-of, Holds, holds, own-records}
-use Rattle.block.specs.Block.{fileLimit, Found, Located, found, recordBytes, blockOf, located}
+use Rattle.replay.proofs.Own.{records-same, going-of, holds, own-records}
+use Rattle.block.specs.Block.{fileLimit, Found, Located, recordBytes, blockOf, located}
 use Rattle.block.specs.Reading.{orEmpty, recordsRead, readingOf}
-use Rattle.block.proofs.Located.{block-located, Accepted, accepted-at, block-again, replay-front}
+use Rattle.block.proofs.Located.{block-located, accepted-at, block-again, replay-front}
 use Rattle.block.proofs.Reading.{all-taken, file-read}
 
 -- ---- written and read back

@@ -1,19 +1,18 @@
 -- What is written: the block in a part that is lent, and the outcomes of writing. Assumes nothing.
 use mathlib.Core.Path.{_≡_, refl, sym, ap, _∙_}
 use mathlib.Core.Bool.{true, false}
-use mathlib.Core.List.{List, _++_, append-nil, append-assoc}
+use mathlib.Core.List.{List, _++_, append-assoc}
 use Prim.Native.Nat.{ℕ, _+_, _-_, _*_, _≤_}
 use native.Mathlib.Omega.{arith}
-use lib.ListN.{length, take, drop, length-append, length-drop, drop-of-length-le}
+use lib.ListN.{length, take, drop, length-append}
 use lib.Seq.{length-take-le, take-all, take-at, drop-at, drop-drop}
 use lib.Dec.{leb}
-use borrow.Rule.Slice.PartAt.{part-to-end}
 use borrow.Rule.Slice.PartMut.{midOf, putMid}
 use Rattle.record.specs.Layout.{recordLength}
 use Rattle.record.specs.Record.{countBytes}
 use Rattle.tables.specs.Tables.{Tables}
-use Rattle.tables.specs.Sound.{sound}
-use Rattle.tables.proofs.Facts.{sound-at}
+use Rattle.soundness.specs.Sound.{sound}
+use Rattle.soundness.proofs.Facts.{sound-at}
 use Rattle.block.specs.Block.{trailerLength, trailerOf, recordBytes, blockOf}
 use Rattle.output.specs.Output.{writing}
 use Rattle.output.proofs.Lent.{lent-back, not-put, put-whole}

@@ -8,8 +8,7 @@ use lib.Dec.{eqb, ltb}
 use Rattle.record.specs.Layout.{recordLength}
 use Rattle.record.specs.Record.{two, four, countBytes}
 use Rattle.history.specs.History.{mostRecords}
-use Rattle.tables.specs.Tables.{Tables}
-use Rattle.tables.specs.Sound.{sitesRight}
+use Rattle.tables.specs.Tables.{Tables, sitesRight}
 
 -- the bytes of a trailer
 abbrev pub trailerLength : ℕ

@@ -5,10 +5,9 @@ use Prim.Native.Nat.{ℕ}
 use mathlib.Core.List.{List}
 use mathlib.Core.Bool.{cond}
 use lib.Dec.{eqb}
-use Rattle.tables.specs.Tables.{Tables, emptyDrawing}
-use Rattle.tables.specs.Sound.{lengthsRight}
+use Rattle.tables.specs.Tables.{Tables, emptyDrawing, lengthsRight}
 use Rattle.replay.specs.Replay.{Replayed, replayed, replayOf}
-use Rattle.block.specs.Block.{Found, Located, located}
+use Rattle.block.specs.Block.{located}
 
 -- the answer, the index and the tables of a replay; a refused record leaves an empty drawing
 abbrev pub orEmpty : ℕ → Replayed → Replayed

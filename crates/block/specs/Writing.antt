@@ -4,7 +4,7 @@ use Prim.Native.Nat.{ℕ}
 use mathlib.Core.List.{List}
 use mathlib.Core.Bool.{cond}
 use Rattle.tables.specs.Tables.{Tables}
-use Rattle.tables.specs.Sound.{sound}
+use Rattle.soundness.specs.Sound.{sound}
 use Rattle.output.specs.Output.{Writing, writing, writtenAt}
 use Rattle.block.specs.Block.{blockOf}
 

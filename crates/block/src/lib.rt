@@ -4,30 +4,20 @@ use output::Written;
 use output::copy_in;
 use output::has_room;
 use record::RECORD;
-use record::SITES;
 use tables::Answer;
 use tables::Counters;
 ghost use mathlib.Core.Path.{_≡_};
 ghost use mathlib.Core.Bool.{true, cond};
 ghost use mathlib.Core.List.{_++_};
 ghost use Prim.Native.Nat.{_+_, _-_, _*_, _≤_};
-ghost use lib.Dec.{eqb, leb};
+ghost use lib.Dec.{eqb};
 ghost use lib.ListN.{length, take, drop};
 ghost use Rattle.record.specs.Layout.{recordLength};
 ghost use Rattle.record.specs.Record.{four};
 ghost use Rattle.history.specs.History.{mostRecords};
-ghost use Rattle.tables.specs.Tables.{tablesOf, numberOf};
-ghost use Rattle.tables.specs.Sound.{lengthsRight, sitesRight};
+ghost use Rattle.tables.specs.Tables.{tablesOf, numberOf, lengthsRight, sitesRight};
 ghost use Rattle.replay.specs.Replay.{replayed};
-ghost use Rattle.block.specs.Block.{
-  trailerLength,
-  fileLimit,
-  trailerOf,
-  unfitTrailer,
-  found,
-  further,
-  located,
-};
+ghost use Rattle.block.specs.Block.{trailerLength, fileLimit, trailerOf, unfitTrailer, found, further, located};
 ghost use Rattle.output.specs.Output.{writing};
 ghost use Rattle.block.specs.Writing.{writingOf};
 ghost use Rattle.block.specs.Reading.{recordsRead, readingOf};
@@ -84,13 +74,6 @@ fn is_unfit(file: &[u8]) -> bool
         | (at < distance)
 }
 
-// Whether a drawing may have n sites.
-fn sites_right(n: u8) -> bool
-    ensures { λ r. ⌜ r ≡ sitesRight n ⌝ }
-{
-    (1 <= n) & (n as usize <= SITES)
-}
-
 // The answer to a file that is refused.
 fn refused(a: Answer) -> Trailer
     ensures { λ r. ⌜ found (numberOf (r .answer)) (r .sites) (r .records) ≡ found (numberOf a) 0 0 ⌝ }
@@ -114,7 +97,7 @@ pub fn read_trailer(file: &[u8]) -> Trailer
     }
     let at = trailer_at(file.len());
     let sites = record::byte_at(file, at + AT_SITES);
-    if !sites_right(sites) {
+    if !tables::sites_right(sites) {
         return refused(Answer::BadSites);
     }
     let records = record::two_at(file, at);
@@ -191,7 +174,7 @@ pub fn write(
         ≡ writingOf (tablesOf c (now (records .entry)) (now (objects .entry)) (now (groups .entry)))
         (now (out .entry)) start ⌝ }
 {
-    if !tables::is_sound(c, records, objects, groups) {
+    if !soundness::is_sound(c, records, objects, groups) {
         return Written {
             answer: Answer::Unsound,
             bytes: 0,

@@ -1,6 +1,6 @@
 -- No edit comes before itself; to be concurrent and to conflict go both ways; no edit conflicts with itself, and those
 -- that conflict are concurrent Sets of one object and key. Assumes nothing.
-use mathlib.Core.Path.{_≡_, refl, ap, _∙_}
+use mathlib.Core.Path.{_≡_, ap, _∙_}
 use mathlib.Core.Bool.{Bool, true, false, not, _&&_, and-comm, and-false}
 use lib.Dec.{eqb}
 use Rattle.ground.proofs.Bools.{both, and-turn, eqb-self, eqb-comm}

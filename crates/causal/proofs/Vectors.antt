@@ -1,7 +1,7 @@
 -- Facts about vectors of any number of entries n: a vector that is nowhere smaller than another and larger somewhere
 -- has a larger sum, so that the total order goes with 'before'. Assumes nothing.
-use mathlib.Core.Path.{_≡_, refl}
-use mathlib.Core.Bool.{Bool, true, _&&_, _||_}
+use mathlib.Core.Path.{_≡_}
+use mathlib.Core.Bool.{true, _&&_}
 use mathlib.Core.List.{List}
 use Prim.Native.Nat.{ℕ, _*_, _≤_, _<_}
 use lib.ListN.{getD}

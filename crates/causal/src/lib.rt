@@ -6,14 +6,7 @@ use record::SITES;
 use record::Seq;
 use record::Site;
 ghost use mathlib.Core.Path.{_≡_};
-ghost use Rattle.causal.specs.Causal.{
-  sameEdit,
-  hasSeen,
-  comesBefore,
-  areConcurrent,
-  doConflict,
-  vectorSum,
-};
+ghost use Rattle.causal.specs.Causal.{sameEdit, hasSeen, comesBefore, areConcurrent, doConflict, vectorSum};
 
 // Whether s.q and t.p are one edit.
 pub fn is_same(s: Site, q: Seq, t: Site, p: Seq) -> bool

@@ -8,7 +8,7 @@ use Rattle.ground.specs.Below.{sum}
 use Rattle.ground.proofs.Below.{sum-same}
 use Rattle.group.specs.Row.{mostGroups}
 use Rattle.tables.specs.Tables.{Tables, setsAt, groupsAt}
-use Rattle.tables.proofs.Facts.{Sound}
+use Rattle.soundness.proofs.Facts.{Sound}
 use Rattle.arrival.specs.Arrival.{rowOf}
 use Rattle.arrival.proofs.Rows.{used-long}
 use Rattle.version.specs.Order.{versionsOf}

@@ -16,7 +16,7 @@ use Rattle.ground.proofs.Gathered.{any-gathered, OneWay, gathered-sorted, gathe
 use Rattle.causal.specs.Causal.{ranksBefore}
 use Rattle.history.specs.History.{editsOf, creates}
 use Rattle.tables.specs.Tables.{Tables, placeAt, heldBy}
-use Rattle.tables.proofs.Facts.{Sound}
+use Rattle.soundness.proofs.Facts.{Sound}
 use Rattle.arrival.specs.Truth.{noEdit}
 use Rattle.arrival.proofs.Objects.{object-create}
 use Rattle.order.specs.Rearranged.{Mem}

@@ -23,8 +23,8 @@ use Rattle.causal.specs.Causal.{ranksBefore}
 use Rattle.history.specs.History.{recordAt, isSetOn, setsOn, isTarget, objectOf}
 use Rattle.group.specs.Row.{row}
 use Rattle.tables.specs.Tables.{Tables, Outcome, outcomeOf, placeAt, heldBy}
-use Rattle.tables.specs.Sound.{sound}
-use Rattle.tables.proofs.Facts.{Sound, sound-at}
+use Rattle.soundness.specs.Sound.{sound}
+use Rattle.soundness.proofs.Facts.{Sound, sound-at}
 use Rattle.arrival.specs.Arrival.{
   matesOf,
   rowOf,

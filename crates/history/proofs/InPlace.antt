@@ -5,17 +5,7 @@ use Prim.Native.Nat.{ℕ, zero, suc, _+_, _*_, _<_}
 use native.Mathlib.Omega.{arith}
 use lib.ListN.{getD, drop}
 use lib.Seq.{getD-drop}
-use Rattle.record.specs.Layout.{
-  mostSites,
-  kindAt,
-  siteAt,
-  seqAt,
-  vectorAt,
-  targetAt,
-  keyAt,
-  targetSeqAt,
-  recordLength,
-}
+use Rattle.record.specs.Layout.{mostSites, kindAt, siteAt, seqAt, vectorAt, targetAt, keyAt, targetSeqAt, recordLength}
 use Rattle.record.specs.Record.{two, counts}
 use Rattle.record.proofs.Bytes.{two-drop}
 use Rattle.history.specs.History.{recordAt}

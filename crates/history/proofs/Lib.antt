@@ -3,7 +3,5 @@ pub mod Conflicts
 pub mod OneMore
 pub mod Against
 pub mod Passed
-pub mod Latest
 pub mod InPlace
-pub mod Walking
 pub mod Ranks

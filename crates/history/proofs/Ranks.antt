@@ -1,15 +1,14 @@
 -- Of records that pass 1 to 5 in their order: an edit that another has seen stands before it, in the table and in the
 -- total order. Assumes nothing.
-use mathlib.Core.Path.{_≡_, refl, sym, ap, _∙_}
-use mathlib.Core.Bool.{Bool, true, false, not, _&&_}
+use mathlib.Core.Path.{_≡_, sym, ap, _∙_}
+use mathlib.Core.Bool.{true, false, not}
 use mathlib.Core.List.{List}
-use Prim.Native.Nat.{ℕ, suc, _+_, _≤_, _<_}
+use Prim.Native.Nat.{ℕ, _+_, _≤_, _<_}
 use native.Mathlib.Omega.{arith}
 use native.Mathlib.Decide.{ℕ-discrete}
 use lib.ListN.{getD}
 use lib.Dec.{eqb, leb, ltb}
-use borrow.Author.Tests.{eqb-true, eq-eqb, leb-true, ltb-false, not-true}
-use Rattle.ground.specs.Below.{some}
+use borrow.Author.Tests.{eq-eqb, leb-true, ltb-false, not-true}
 use Rattle.ground.specs.Sorted.{any}
 use Rattle.ground.proofs.Bools.{clash, off, both}
 use Rattle.ground.proofs.Below.{none-at}
@@ -20,7 +19,7 @@ use Rattle.causal.proofs.Vectors.{NowhereAbove, larger-ranks-later}
 use Rattle.history.specs.History.{recordAt, editsOf, countFrom}
 use Rattle.history.specs.Answers.{largerSomewhere, tears, isTorn, recordsPass}
 use Rattle.history.proofs.History.{any-edit-on, count-grows}
-use Rattle.history.proofs.Passed.{Passed, passed-at, next-at, formed-at, one-place, place-of}
+use Rattle.history.proofs.Passed.{passed-at, next-at, formed-at, one-place, place-of}
 
 module _ (sites : ℕ) (few : sites ≤ mostSites) (rs : List ℕ) (n : ℕ) (pass : recordsPass sites rs n ≡ true)
     (p q : ℕ) (lp : p < n) (lq : q < n) where

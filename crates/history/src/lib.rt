@@ -1,12 +1,9 @@
-// The edits held, in the order of arrival: answers 2 to 5 of document 01 against them, what an arriving edit asks of
-// them, and one walk that tests the records of a table.
+// The edits held, in the order of arrival: answers 2 to 5 of document 01 against them, and what an arriving edit asks
+// of them.
 use causal::has_seen;
 use causal::is_conflict;
 use causal::is_same;
 use record::AT_KIND;
-use record::AT_TARGET;
-use record::AT_TARGET_SEQ;
-use record::AT_VECTOR;
 use record::CREATE;
 use record::Edit;
 use record::RECORD;
@@ -16,21 +13,15 @@ use record::Seq;
 use record::Site;
 ghost use mathlib.Core.Path.{_≡_};
 ghost use mathlib.Core.Bool.{true, cond};
-ghost use Prim.Native.Nat.{_+_, _-_, _^_, _≤_, _<_};
+ghost use Prim.Native.Nat.{_+_, _^_, _≤_, _<_};
 ghost use lib.ListN.{length, getD};
-ghost use Rattle.record.specs.Layout.{mostSites};
 ghost use Rattle.history.specs.History.{mostRecords, recordAt, editsOf, isSetOn, setsOn, isTarget};
 ghost use Rattle.history.specs.Answers.{largerSomewhere, tears};
 ghost use Rattle.history.specs.Code.{bump, aheadElsewhere, repeatedAgainst, earlyAgainst};
 ghost use Rattle.history.specs.Code.{markBits, surveyOf, surveyWith, Room};
-ghost use Rattle.history.specs.Index.{placesLength, placeOf, seenBefore, tornBy, tornByLatest};
-ghost use Rattle.history.specs.Index.{targetHeld, passesAgainst, WalkedOver};
 
 // The records held, Creates included, are at most so many.
 pub const RECORDS: usize = 256;
-
-// The entries of an index of places: the edit s.q has its place at s * RECORDS + q.
-pub const PLACES: usize = SITES * RECORDS + 1;
 
 // What an arriving edit asks of the edits held: whether 4 applies, whether its target is held, the number of its
 // object, how many Sets that has, and which of them conflict with it, bit i for the i-th.
@@ -40,12 +31,6 @@ pub struct Surveyed {
     pub object: usize,
     pub sets: usize,
     pub conflicts: u64,
-}
-
-// Whether the records passed, and how many edits of each site they are.
-pub struct Walked {
-    pub ok: bool,
-    pub held: [u16; SITES],
 }
 
 // The edit in place p of a table of records; a place past the end holds zeros.
@@ -113,7 +98,7 @@ pub fn is_early(held: [u16; SITES], e: Edit) -> bool
 }
 
 // Whether an entry of v is larger than w's.
-fn is_larger_somewhere(v: [u16; SITES], w: [u16; SITES]) -> bool
+pub fn is_larger_somewhere(v: [u16; SITES], w: [u16; SITES]) -> bool
     ensures { λ r. ⌜ r ≡ largerSomewhere v w ⌝ }
 {
     let mut found = false;
@@ -204,139 +189,4 @@ pub fn survey(recs: &[u8], n: usize, e: Edit) -> Surveyed
         i += 1;
     }
     v
-}
-
-// The place of the edit s.q by the index.
-pub fn place_at(places: &[u16], s: Site, q: Seq) -> u16
-    ensures { λ r. ⌜ r ≡ placeOf (now (places .entry)) (s .0) (q .0) ⌝ }
-{
-    let at = s.0 as usize * RECORDS + q.0 as usize;
-    if at < places.len() { places[at] } else { 0 }
-}
-
-// The place, by the index, of the target of the edit in place p; that edit's bytes are read where they stand.
-pub fn target_place(recs: &[u8], places: &[u16], p: usize) -> u16
-    requires { ⌜ p < 65536 ⌝ }
-    ensures { λ r. ⌜ r ≡ placeOf (now (places .entry)) (recordAt (now (recs .entry)) p .tsite .0)
-        (recordAt (now (recs .entry)) p .tseq .0) ⌝ }
-{
-    let at = p * RECORD;
-    let site = record::byte_at(recs, at + AT_TARGET);
-    let seq = record::two_at(recs, at + AT_TARGET_SEQ);
-    place_at(places, Site(site), Seq(seq))
-}
-
-// The number before q, and 0 before 0.
-fn one_less(q: u16) -> u16
-    ensures { λ r. ⌜ r ≡ q - 1 ⌝ }
-{
-    if 0 < q { q - 1 } else { 0 }
-}
-
-// The latest edit of each site that an edit of site s with the vector v has seen, itself left out; 0 is none.
-fn seen_before(v: [u16; SITES], s: Site) -> [u16; SITES]
-    ensures { λ r. ⌜ r ≡ seenBefore v s ⌝ }
-{
-    let mut w = v;
-    let i = s.0 as usize;
-    if i < SITES {
-        w[i] = one_less(w[i]);
-    }
-    w
-}
-
-// Whether the vector of the record in place p has an entry larger than w's. Where all of it is there, the entries are
-// read where they stand, with one test of the bound.
-fn is_larger_at(recs: &[u8], p: u16, w: [u16; SITES]) -> bool
-    ensures { λ r. ⌜ r ≡ largerSomewhere (recordAt (now (recs .entry)) p .vector) w ⌝ }
-{
-    let at = p as usize * RECORD + AT_VECTOR;
-    if recs.len() < at + 2 * SITES {
-        let a = decode_at(recs, p as usize);
-        let v = a.vector;
-        return is_larger_somewhere(v, w);
-    }
-    let mut found = false;
-    let mut s: usize = 0;
-    while s < SITES {
-        found = found | (w[s] < record::pair_at(recs, at + 2 * s));
-        s += 1;
-    }
-    found
-}
-
-// Whether there is an edit s.q, and its vector has an entry larger than w's.
-fn is_torn_at(recs: &[u8], places: &[u16], w: [u16; SITES], s: Site, q: Seq) -> bool
-    ensures { λ r. ⌜ r ≡ tornBy (now (recs .entry)) (now (places .entry)) w (s .0) (q .0) ⌝ }
-{
-    if q.0 == 0 {
-        return false;
-    }
-    let p = place_at(places, s, q);
-    is_larger_at(recs, p, w)
-}
-
-// Whether answer 4 is given to the edit, by the latest edit of each site that it has seen.
-pub fn is_torn_by_latest(recs: &[u8], places: &[u16], e: Edit) -> bool
-    ensures { λ r. ⌜ r ≡ tornByLatest (now (recs .entry)) (now (places .entry)) e ⌝ }
-{
-    let w = e.vector;
-    let seen = seen_before(w, e.site);
-    let mut found = false;
-    let mut s: u8 = 0;
-    while (s as usize) < SITES {
-        let q = seen[s as usize];
-        found = found | is_torn_at(recs, places, w, Site(s), Seq(q));
-        s += 1;
-    }
-    found
-}
-
-// Whether the edit's target was seen, is held, and is a Create.
-pub fn is_target_held(held: [u16; SITES], recs: &[u8], places: &[u16], e: Edit) -> bool
-    ensures { λ r. ⌜ r ≡ targetHeld held (now (recs .entry)) (now (places .entry)) e ⌝ }
-{
-    let w = e.vector;
-    let seen = record::entry(w, e.tsite);
-    let have = record::entry(held, e.tsite);
-    let p = place_at(places, e.tsite, e.tseq);
-    let kind = kind_at(recs, p as usize);
-    (0 < e.tseq.0) & (e.tseq.0 <= seen.0) & (e.tseq.0 <= have.0) & (kind == CREATE)
-}
-
-// Whether none of answers 1 to 5 is given to the edit, by the counts and the index of the records before it. What costs
-// more is tested where the rest has passed.
-fn is_passing(sites: u8, held: [u16; SITES], recs: &[u8], places: &[u16], e: Edit) -> bool
-    ensures { λ r. ⌜ r ≡ passesAgainst sites held (now (recs .entry)) (now (places .entry)) e ⌝ }
-{
-    if record::is_unfit(sites, e) | is_repeated(held, e) | is_early(held, e) {
-        return false;
-    }
-    if is_torn_by_latest(recs, places, e) {
-        return false;
-    }
-    if e.kind == SET {
-        return is_target_held(held, recs, places, e);
-    }
-    true
-}
-
-// The first n records in turn: whether each passes 1 to 5 after those before it, and then their counts and index.
-pub fn walk(sites: u8, recs: &[u8], n: usize, places: &mut [u16]) -> Walked
-    requires { ⌜ (sites ≤ mostSites) × (n ≤ mostRecords) × (length (now places) ≡ placesLength) ⌝ }
-    ensures { λ r. ⌜ WalkedOver sites (now (recs .entry)) n r (now (places .exit)) ⌝ }
-{
-    let mut held = [0u16; SITES];
-    let mut i: usize = 0;
-    while i < n {
-        let e = decode_at(recs, i);
-        if !is_passing(sites, held, recs, places, e) {
-            return Walked { ok: false, held };
-        }
-        places[e.site.0 as usize * RECORDS + e.seq.0 as usize] = i as u16;
-        let next = bumped(held, e.site);
-        held = next;
-        i += 1;
-    }
-    Walked { ok: true, held }
 }

@@ -2,9 +2,9 @@
 -- those of its object. Assumes that the records pass and are within the limits.
 use mathlib.Core.Path.{_≡_, refl, sym, ap, _∙_}
 use mathlib.Core.Logic.{_⊎_, inl, inr}
-use mathlib.Core.Bool.{Bool, true, false, _&&_, cond}
+use mathlib.Core.Bool.{true, false, cond}
 use mathlib.Core.List.{List, [], _∷_, _++_}
-use Prim.Native.Nat.{ℕ, zero, suc, _+_, _*_, _≤_, _<_}
+use Prim.Native.Nat.{ℕ, suc, _+_, _*_, _≤_, _<_}
 use native.Mathlib.Omega.{arith}
 use native.Mathlib.Decide.{decLt, ℕ-discrete}
 use lib.Dec.{eqb}
@@ -31,10 +31,10 @@ use Rattle.record.specs.Form.{isCreate, isSet}
 use Rattle.causal.specs.Causal.{sameEdit}
 use Rattle.history.specs.History.{mostRecords, recordAt, editsOf, creates, isSetOn, setsOn}
 use Rattle.history.specs.Answers.{passes, recordsPass}
-use Rattle.history.specs.Index.{placesLength, placeOf, Indexed}
+use Rattle.walking.specs.Walk.{placesLength, placeOf, Indexed}
 use Rattle.history.proofs.History.{target-parts, create-less, chosen-grow, chosen-more}
 use Rattle.history.proofs.Passed.{formed-at, one-place, target-before, set-after}
-use Rattle.history.proofs.Walking.{spot, indexed-more}
+use Rattle.walking.proofs.Walking.{spot, indexed-more}
 use Rattle.group.specs.Row.{mostObjects, mostSets}
 use Rattle.tables.specs.declared.Counters.{Counters}
 use Rattle.index.specs.Index.{numberAt, isOn, placesOn, membersLength, IndexOf, Holds}

@@ -10,7 +10,7 @@ use lib.ListN.{length, take, drop, length-map, length-drop}
 use lib.Seq.{ext-getD, getD-take, getD-drop, length-take-le}
 use Rattle.ground.specs.Below.{keep}
 use Rattle.ground.specs.Sorted.{filter}
-use Rattle.ground.proofs.Snoc.{filter-snoc, length-maybe}
+use Rattle.ground.proofs.Snoc.{filter-snoc}
 use Rattle.record.specs.declared.Edit.{Edit}
 use Rattle.record.specs.Form.{isCreate}
 use Rattle.history.specs.History.{recordAt, editsOf, isSetOn, setsOn}

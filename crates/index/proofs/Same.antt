@@ -9,7 +9,7 @@ use Rattle.ground.proofs.Below.{keep-same}
 use Rattle.record.specs.declared.Edit.{Edit}
 use Rattle.record.specs.Form.{isCreate}
 use Rattle.history.specs.History.{recordAt, creates, isSetOn}
-use Rattle.history.specs.Index.{placeOf}
+use Rattle.walking.specs.Walk.{placeOf}
 use Rattle.history.proofs.History.{edits-same}
 use Rattle.group.specs.Row.{mostSets}
 use Rattle.index.specs.Index.{numberAt, isOn, placesOn, IndexOf}

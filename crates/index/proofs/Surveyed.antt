@@ -4,25 +4,23 @@
 use mathlib.Core.Path.{_≡_, refl, sym, ap, ap₂, _∙_}
 use mathlib.Core.Logic.{_⊎_, inl, inr}
 use mathlib.Core.Bool.{Bool, true, false, not, _&&_, _||_, cond}
-use mathlib.Core.List.{List, [], _∷_, _++_, map}
+use mathlib.Core.List.{List, [], _∷_, map}
 use Prim.Native.Nat.{ℕ, zero, suc, _+_, _*_, _≤_, _<_}
 use native.Mathlib.Omega.{arith}
-use native.Mathlib.Decide.{decLe}
-use lib.Dec.{eqb, ltb}
+use lib.Dec.{eqb}
 use lib.ListN.{length, getD, take, drop}
-use borrow.Author.Tests.{eqb-true, not-true, not-false}
+use borrow.Author.Tests.{eqb-true, not-true}
 use Rattle.ground.specs.Sorted.{any, filter}
-use Rattle.ground.proofs.Bools.{clash, off, both, neither, decide}
+use Rattle.ground.proofs.Bools.{clash, off, both, neither}
 use Rattle.ground.proofs.Numbers.{last}
 use Rattle.record.specs.declared.Site.{Site}
 use Rattle.record.specs.declared.Seq.{Seq}
 use Rattle.record.specs.declared.Edit.{Edit}
 use Rattle.record.specs.Layout.{mostSites}
-use Rattle.record.specs.Form.{isCreate, isSet, lastEightZero, unfit}
+use Rattle.record.specs.Form.{isCreate, isSet, unfit}
 use Rattle.record.proofs.WellFormed.{well-formed, create-aims-nowhere}
 use Rattle.causal.specs.Causal.{sameEdit}
 use Rattle.causal.proofs.Identities.{same-site, same-seq}
-use Rattle.history.specs.declared.Surveyed.{Surveyed}
 use Rattle.history.specs.History.{
   recordAt,
   editsOf,
@@ -34,21 +32,13 @@ use Rattle.history.specs.History.{
   objectOf,
   conflictsWith,
 }
-use Rattle.history.specs.Answers.{isRepeated, isEarly, isTorn}
+use Rattle.history.specs.Answers.{isTorn}
 use Rattle.history.specs.Code.{repeatedAgainst, earlyAgainst, surveyOf}
-use Rattle.history.specs.Index.{placeOf, tornByLatest, targetHeld}
-use Rattle.history.proofs.History.{
-  Target,
-  target-parts,
-  any-edit-on,
-  any-edit-at,
-  chosen-more,
-  create-less,
-  object-snoc,
-}
+use Rattle.walking.specs.Walk.{placeOf, tornByLatest, targetHeld}
+use Rattle.history.proofs.History.{target-parts, any-edit-on, any-edit-at, chosen-more, create-less, object-snoc}
 use Rattle.history.proofs.Against.{repeated-against, early-against}
 use Rattle.history.proofs.Passed.{InTurn, in-turn, formed-at, one-place, target-before}
-use Rattle.history.proofs.Latest.{torn-same, target-same}
+use Rattle.walking.proofs.Latest.{torn-same, target-same}
 use Rattle.group.specs.Row.{mostObjects, mostSets}
 use Rattle.tables.specs.declared.Counters.{Counters}
 use Rattle.index.specs.Index.{numberAt, placesOn, IndexOf, Holds}

@@ -15,7 +15,7 @@ use Rattle.record.specs.Form.{isCreate}
 use Rattle.history.specs.History.{mostRecords, recordAt, editsOf, creates, isSetOn, setsOn}
 use Rattle.history.specs.Answers.{recordsPass}
 use Rattle.history.specs.Code.{Counted}
-use Rattle.history.specs.Index.{placesLength, Indexed}
+use Rattle.walking.specs.Walk.{placesLength, Indexed}
 use Rattle.group.specs.Row.{mostObjects, mostSets}
 use Rattle.tables.specs.declared.Counters.{Counters}
 

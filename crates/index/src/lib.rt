@@ -23,7 +23,7 @@ ghost use Rattle.record.specs.Form.{unfit};
 ghost use Rattle.causal.specs.Causal.{doConflict};
 ghost use Rattle.history.specs.History.{mostRecords, recordAt, editsOf, conflictsWith};
 ghost use Rattle.history.specs.Code.{surveyOf, repeatedAgainst, earlyAgainst};
-ghost use Rattle.history.specs.Index.{placesLength};
+ghost use Rattle.walking.specs.Walk.{placesLength};
 ghost use Rattle.group.specs.Row.{mostObjects, mostSets};
 ghost use Rattle.tables.specs.declared.Counters.{Counters};
 ghost use Rattle.index.specs.Index.{numberAt, membersLength, IndexOf, Holds};
@@ -81,7 +81,7 @@ pub fn add(
         numbers[p] = m;
         return m + 1;
     }
-    let q = history::target_place(recs, places, p);
+    let q = walking::target_place(recs, places, p);
     let o = numbers[q as usize];
     add_set(p, o as usize, counts, members);
     m
@@ -166,7 +166,7 @@ pub fn survey(
     if !is_in_turn(c.sites, held, e) {
         return history::survey(recs, n, e);
     }
-    let torn = history::is_torn_by_latest(recs, places, e);
+    let torn = walking::is_torn_by_latest(recs, places, e);
     if e.kind == CREATE {
         return Surveyed {
             torn,
@@ -176,10 +176,10 @@ pub fn survey(
             conflicts: 0,
         };
     }
-    if !history::is_target_held(held, recs, places, e) {
+    if !walking::is_target_held(held, recs, places, e) {
         return history::survey(recs, n, e);
     }
-    let q = history::place_at(places, e.tsite, e.tseq);
+    let q = walking::place_at(places, e.tsite, e.tseq);
     let o = at16(numbers, q as usize) as usize;
     let k = at16(counts, o) as usize;
     let conflicts = conflicts_in(recs, &members[o * SETS..], k, e);

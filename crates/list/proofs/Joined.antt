@@ -20,7 +20,7 @@ use Rattle.ground.proofs.Places.{any-place-on}
 use Rattle.ground.proofs.Gathered.{any-gathered, gathered-length}
 use Rattle.tables.specs.Tables.{Tables}
 use Rattle.arrival.specs.Arrival.{rowOf}
-use Rattle.tables.specs.Sound.{sound}
+use Rattle.soundness.specs.Sound.{sound}
 use Rattle.output.specs.Output.{writing}
 use Rattle.version.specs.Order.{versionsOf}
 use Rattle.version.specs.Line.{versionLine, objectLines}

@@ -9,7 +9,7 @@ use borrow.Author.Tests.{le-leb, lt-ltb}
 use lib.ListN.{length, getD, take, drop, length-append, take-append-drop}
 use lib.Seq.{take-suc, take-all}
 use Rattle.tables.specs.Tables.{Tables}
-use Rattle.tables.specs.Sound.{sound}
+use Rattle.soundness.specs.Sound.{sound}
 use Rattle.output.specs.Output.{Writing, writing, placed, writtenAt}
 use Rattle.list.specs.Listing.{linesOf}
 use Rattle.list.specs.Printing.{joined, lineOf, listOf}

@@ -13,7 +13,7 @@ use Rattle.ground.proofs.Bools.{clash, same-test}
 use Rattle.group.specs.Row.{mostGroups, row}
 use Rattle.group.proofs.Runs.{next, none-left}
 use Rattle.tables.specs.Tables.{Tables, groupsAt}
-use Rattle.tables.proofs.Facts.{Sound}
+use Rattle.soundness.proofs.Facts.{Sound}
 use Rattle.arrival.specs.Arrival.{rowOf}
 use Rattle.version.specs.Order.{versionsOf}
 use Rattle.version.specs.Line.{versionLine, objectLines, lineLength}

@@ -8,7 +8,7 @@ use lib.ListN.{length, getD}
 use lib.Dec.{leb, ltb}
 use Rattle.group.specs.Row.{mostObjects, mostGroups}
 use Rattle.tables.specs.Tables.{Tables}
-use Rattle.tables.specs.Sound.{sound}
+use Rattle.soundness.specs.Sound.{sound}
 use Rattle.output.specs.Output.{Writing, writing, placed, writtenAt}
 use Rattle.version.specs.Line.{lineLength}
 use Rattle.list.specs.Listing.{linesOf}

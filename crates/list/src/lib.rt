@@ -66,7 +66,7 @@ pub fn print_line(
         ≡ lineOf (tablesOf c (now (records .entry)) (now (objects .entry)) (now (groups .entry))) k
         (now (out .entry)) start ⌝ }
 {
-    if !tables::is_sound(c, records, objects, groups) {
+    if !soundness::is_sound(c, records, objects, groups) {
         return Written {
             answer: Answer::Unsound,
             bytes: 0,
@@ -97,7 +97,7 @@ pub fn print_list(
         ≡ listingOf (tablesOf c (now (records .entry)) (now (objects .entry)) (now (groups .entry)))
         (now (out .entry)) start ⌝ }
 {
-    if !tables::is_sound(c, records, objects, groups) {
+    if !soundness::is_sound(c, records, objects, groups) {
         return Written {
             answer: Answer::Unsound,
             bytes: 0,

@@ -16,7 +16,7 @@ ghost use mathlib.Core.List.{[]};
 ghost use Prim.Native.Nat.{_≤_, _<_};
 ghost use lib.ListN.{length, getD, take};
 ghost use Rattle.tables.specs.Tables.{tablesOf};
-ghost use Rattle.tables.specs.Sound.{sound};
+ghost use Rattle.soundness.specs.Sound.{sound};
 ghost use Rattle.version.specs.Line.{lineLength};
 ghost use Rattle.list.specs.Listing.{linesFor, linesOf};
 ghost use Rattle.list.specs.Code.{FoundIn, NumberedAs};

@@ -1,19 +1,16 @@
 -- The index of the records of sound tables has the places of the Sets of each object. Assumes nothing.
 use mathlib.Core.Path.{_≡_, sym, ap, _∙_}
-use mathlib.Core.Bool.{true}
 use mathlib.Core.List.{List}
 use Prim.Native.Nat.{ℕ, _-_, _*_, _≤_, _<_}
 use native.Mathlib.Omega.{arith}
 use lib.ListN.{length, take, drop, length-drop}
 use lib.Seq.{take-all}
-use Rattle.record.specs.declared.Edit.{Edit}
 use Rattle.group.specs.Row.{mostObjects, mostSets}
 use Rattle.tables.specs.Tables.{Tables, placeAt}
-use Rattle.tables.proofs.Facts.{Sound}
+use Rattle.soundness.proofs.Facts.{Sound}
 use Rattle.index.specs.Index.{numberAt, placesOn, IndexOf}
 use Rattle.index.proofs.Places.{places-sets, places-length, row-places}
 use Rattle.version.specs.Version.{setsAt}
-use Rattle.objects.specs.Objects.{setsFor}
 use Rattle.objects.specs.Code.{PlacedFor, MembersOf}
 
 module _ (t : Tables) (s : Sound t) where

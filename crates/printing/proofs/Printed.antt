@@ -8,7 +8,7 @@ use lib.ListN.{length, take, drop}
 use lib.Seq.{take-at}
 use borrow.Author.Tests.{ne-eqb}
 use Rattle.tables.specs.Tables.{Tables, emptyDrawing}
-use Rattle.tables.specs.Sound.{sound}
+use Rattle.soundness.specs.Sound.{sound}
 use Rattle.replay.specs.Replay.{Replayed, replayed}
 use Rattle.block.specs.Reading.{readingOf}
 use Rattle.block.proofs.RoundTrips.{accepted-sound}

@@ -1,13 +1,13 @@
 -- An edit is decoded from a record's own bytes alone: bytes that agree so far give the same edit. Assumes nothing.
-use mathlib.Core.Path.{_≡_, refl, ap₂, sym, _∙_}
-use mathlib.Core.List.{List, [], _∷_, _++_}
+use mathlib.Core.Path.{_≡_, refl, sym, _∙_}
+use mathlib.Core.List.{List, _++_}
 use Prim.Native.Nat.{ℕ, zero, suc, _+_, _*_, _≤_, _<_}
 use native.Mathlib.Omega.{arith}
 use lib.Dec.{lit<}
 use lib.ListN.{length, getD, drop, List·getD-append}
 use lib.Seq.{getD-drop}
 use Rattle.record.specs.Layout.{mostSites, vectorAt, targetAt, valueAt, recordLength}
-use Rattle.record.specs.Record.{two, counts, decodeOf}
+use Rattle.record.specs.Record.{counts, decodeOf}
 
 -- the first n elements are the same
 abbrev pub Agree : ℕ → List ℕ → List ℕ → Type 0

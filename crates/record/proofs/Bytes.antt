@@ -1,12 +1,12 @@
 -- Numbers in bytes: read one further, written and read back, read and written back. Stated over any number of counts.
 -- Assumes nothing.
-use mathlib.Core.Path.{_≡_, refl, ap, ap₂, sym, _∙_}
+use mathlib.Core.Path.{_≡_, refl, ap, ap₂, _∙_}
 use mathlib.Core.List.{List, [], _∷_, _++_}
 use Prim.Native.Nat.{ℕ, zero, suc, _+_, _*_, _/_, _%_, _≤_, _<_}
 use native.Mathlib.Omega.{arith}
 use lib.ListN.{length, getD, take, drop}
 use lib.Seq.{getD-drop, drop-cons, take-all}
-use Rattle.record.specs.Record.{two, four, counts, countBytes}
+use Rattle.record.specs.Record.{two, counts, countBytes}
 
 -- every element is a byte; every element is a count of two bytes
 abbrev pub Bytes : List ℕ → Type 0

@@ -7,17 +7,7 @@ use native.Mathlib.Omega.{arith}
 use lib.ListN.{length, getD, set, take, drop, replicate, List·getD-eq-default}
 use lib.Seq.{getD-set-same, getD-set-other, getD-take, length-take-le}
 use native.Mathlib.Decide.{decLt, ℕ-discrete}
-use Rattle.record.specs.Layout.{
-  mostSites,
-  kindAt,
-  siteAt,
-  seqAt,
-  vectorAt,
-  targetAt,
-  keyAt,
-  targetSeqAt,
-  valueAt,
-}
+use Rattle.record.specs.Layout.{mostSites, kindAt, siteAt, seqAt, vectorAt, targetAt, keyAt, targetSeqAt, valueAt}
 use Rattle.record.specs.Record.{two, counts, decodeOf}
 use Rattle.record.proofs.Bytes.{counts-more, two-drop}
 

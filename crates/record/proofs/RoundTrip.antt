@@ -1,10 +1,10 @@
 -- Decoding undoes encoding, for every edit whose fields are values of their types; encoding undoes decoding, for every
 -- record's bytes; and what is decoded from bytes is such an edit. Assumes nothing.
-use mathlib.Core.Path.{_≡_, refl, ap, ap₂, _∙_, sym}
+use mathlib.Core.Path.{_≡_, ap, ap₂, _∙_, sym}
 use mathlib.Core.List.{List, [], _∷_, _++_, append-assoc}
 use Prim.Native.Nat.{ℕ, suc, _+_, _*_, _/_, _%_, _^_, _≤_, _<_}
 use native.Mathlib.Omega.{arith}
-use lib.ListN.{length, getD, take, drop, length-drop, length-append}
+use lib.ListN.{length, getD, take, drop, length-drop}
 use lib.Seq.{drop-cons, drop-drop, take-add, getD-append-add}
 use Rattle.record.specs.Layout.{mostSites, seqAt, vectorAt, targetAt, targetSeqAt, valueAt, recordLength}
 use Rattle.record.specs.Record.{two, counts, countBytes, decodeOf, encodeOf}

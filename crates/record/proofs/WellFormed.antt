@@ -1,17 +1,17 @@
 -- What an edit is that answer 1 is not given to, as facts, and the last eight bytes byte by byte. Assumes nothing.
-use mathlib.Core.Path.{_≡_, refl, sym, _∙_}
-use mathlib.Core.Bool.{Bool, true, false, not, _&&_, _||_, and-assoc}
+use mathlib.Core.Path.{_≡_}
+use mathlib.Core.Bool.{true, false, not, _&&_, _||_, and-assoc}
 use mathlib.Core.Logic.{_⊎_, inl, inr}
 use mathlib.Core.List.{List}
-use Prim.Native.Nat.{ℕ, _+_, _*_, _≤_, _<_}
+use Prim.Native.Nat.{ℕ, _+_, _≤_, _<_}
 use native.Mathlib.Omega.{arith}
 use lib.ListN.{getD}
 use lib.Dec.{eqb, leb}
-use borrow.Author.Tests.{eqb-true, eqb-false, eq-eqb, leb-false, le-leb, not-true, not-false}
+use borrow.Author.Tests.{eqb-true, eqb-false, eq-eqb, leb-false, le-leb, not-false}
 use Rattle.ground.specs.Below.{all}
-use Rattle.ground.proofs.Bools.{decide, same-test, both, and-on, neither}
+use Rattle.ground.proofs.Bools.{decide, same-test, both, neither}
 use Rattle.ground.proofs.Below.{none-at}
-use Rattle.record.specs.Layout.{mostSites, keys, createKind, setKind, targetAt, targetSeqAt, valueAt}
+use Rattle.record.specs.Layout.{mostSites, keys, targetAt, targetSeqAt, valueAt}
 use Rattle.record.specs.Record.{two, four, decodeOf}
 use Rattle.record.specs.Form.{isCreate, isSet, entryOf, nonzeroPast, lastEightZero, unfit}
 use Rattle.record.specs.declared.Edit.{Edit}

@@ -3,17 +3,7 @@ use Prim.Native.Nat.{ℕ, zero, suc, _+_, _*_, _/_, _%_}
 use mathlib.Core.List.{List, [], _∷_, _++_}
 use lib.ListN.{getD, drop}
 use Rattle.record.specs.declared.Edit.{Edit}
-use Rattle.record.specs.Layout.{
-  mostSites,
-  kindAt,
-  siteAt,
-  seqAt,
-  vectorAt,
-  targetAt,
-  keyAt,
-  targetSeqAt,
-  valueAt,
-}
+use Rattle.record.specs.Layout.{mostSites, kindAt, siteAt, seqAt, vectorAt, targetAt, keyAt, targetSeqAt, valueAt}
 
 -- ---- numbers in bytes
 

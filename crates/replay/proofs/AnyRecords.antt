@@ -1,13 +1,12 @@
 -- Demand 2 over all sequences: whatever records are taken from an empty drawing, accepted or refused, the tables are
 -- faithful after each. Assumes nothing.
-use mathlib.Core.Path.{_≡_, refl}
 use mathlib.Core.Bool.{Bool, true, false, cond}
 use mathlib.Core.List.{List}
 use Prim.Native.Nat.{ℕ, zero, suc, _≤_}
 use lib.Dec.{eqb}
 use Rattle.record.specs.Layout.{mostSites}
 use Rattle.history.specs.History.{bytesAt}
-use Rattle.replay.specs.Replay.{Replayed, replayOf, oneMore}
+use Rattle.replay.specs.Replay.{replayOf, oneMore}
 use Rattle.arrival.proofs.Faithful.{Faithful, empty-faithful, acceptance-faithful}
 
 pub replay-faithful :

@@ -1,10 +1,10 @@
 -- A replay as it goes: while no record is refused the tables are the replay's, sound and of the stated lengths; the
 -- next record is taken, or refused, and then the replay ends there. Assumes nothing.
-use mathlib.Core.Path.{_≡_, refl, sym, ap, subst, _∙_}
-use mathlib.Core.Logic.{_⊎_, inl, inr}
-use mathlib.Core.Bool.{Bool, true, false, _&&_, cond}
+use mathlib.Core.Path.{_≡_, sym, ap, subst, _∙_}
+use mathlib.Core.Logic.{inl, inr}
+use mathlib.Core.Bool.{Bool, true, cond}
 use mathlib.Core.List.{List}
-use Prim.Native.Nat.{ℕ, zero, suc, _+_, _-_, _*_, _≤_, _<_}
+use Prim.Native.Nat.{ℕ, zero, suc, _+_, _-_, _*_, _<_}
 use native.Mathlib.Omega.{arith}
 use lib.ListN.{length, take, drop}
 use lib.Dec.{eqb, leb}
@@ -13,13 +13,23 @@ use Rattle.ground.proofs.Bools.{both}
 use Rattle.ground.proofs.Numbers.{last}
 use Rattle.record.specs.Layout.{mostSites, recordLength}
 use Rattle.history.specs.History.{bytesAt}
-use Rattle.tables.specs.Tables.{Tables, Outcome, outcomeOf, emptyDrawing, recordsLength, objectsLength, groupsLength}
-use Rattle.tables.specs.Sound.{lengthsRight, sitesRight, sound}
+use Rattle.tables.specs.Tables.{
+  Tables,
+  Outcome,
+  outcomeOf,
+  emptyDrawing,
+  recordsLength,
+  objectsLength,
+  groupsLength,
+  lengthsRight,
+  sitesRight,
+}
+use Rattle.soundness.specs.Sound.{sound}
 use Rattle.tables.specs.Opening.{openingOf}
-use Rattle.tables.proofs.Facts.{Sound, sound-on}
+use Rattle.soundness.proofs.Facts.{sound-on}
 use Rattle.arrival.specs.Arrival.{acceptanceOf}
 use Rattle.arrival.proofs.Faithful.{Faithful, acceptance-faithful}
-use Rattle.replay.specs.Replay.{Replayed, replayed, oneMore, replayOf}
+use Rattle.replay.specs.Replay.{Replayed, replayed, replayOf}
 use Rattle.replay.proofs.AnyRecords.{replay-faithful}
 
 -- no record below i is refused, and they give t

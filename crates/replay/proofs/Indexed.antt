@@ -15,8 +15,8 @@ use Rattle.record.specs.Record.{decodeOf}
 use Rattle.record.specs.Form.{isCreate}
 use Rattle.history.specs.History.{recordAt}
 use Rattle.tables.specs.Tables.{Tables, Outcome, outcomeOf}
-use Rattle.tables.specs.Sound.{sound}
-use Rattle.tables.proofs.Facts.{sound-at, sound-on}
+use Rattle.soundness.specs.Sound.{sound}
+use Rattle.soundness.proofs.Facts.{sound-at, sound-on}
 use Rattle.index.specs.Index.{numberAt, IndexOf, Holds}
 use Rattle.index.proofs.Same.{number-same, index-same}
 use Rattle.arrival.specs.Arrival.{putRecord, answerTo, withCreate, withSet, taken, acceptanceOf}

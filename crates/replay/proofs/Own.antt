@@ -1,13 +1,13 @@
 -- A drawing made from records holds those records: its table has their bytes in their places, and replayed they give
 -- the same drawing. Assumes nothing.
-use mathlib.Core.Path.{_≡_, refl, sym, ap, ap₂, subst, _∙_}
-use mathlib.Core.Logic.{_⊎_, inl, inr}
+use mathlib.Core.Path.{_≡_, refl, sym, ap, ap₂, _∙_}
+use mathlib.Core.Logic.{inl, inr}
 use mathlib.Core.Bool.{Bool, true, false, cond}
-use mathlib.Core.List.{List, [], _∷_, _++_}
+use mathlib.Core.List.{List, _++_}
 use Prim.Native.Nat.{ℕ, zero, suc, _+_, _*_, _≤_, _<_}
 use native.Mathlib.Omega.{arith}
 use native.Mathlib.Numerals.{add-one}
-use lib.ListN.{length, take, drop}
+use lib.ListN.{length, take}
 use lib.Seq.{take-add}
 use lib.Dec.{eqb}
 use borrow.Author.Tests.{eqb-true, eqb-false, eq-eqb}
@@ -16,9 +16,8 @@ use Rattle.record.specs.Layout.{recordLength}
 use Rattle.record.specs.Record.{decodeOf}
 use Rattle.record.specs.Form.{isCreate}
 use Rattle.history.specs.History.{bytesAt}
-use Rattle.tables.specs.Tables.{Tables, Outcome, outcomeOf, emptyDrawing}
-use Rattle.tables.specs.Sound.{sitesRight}
-use Rattle.tables.proofs.Facts.{Sound}
+use Rattle.tables.specs.Tables.{Tables, Outcome, outcomeOf, emptyDrawing, sitesRight}
+use Rattle.soundness.proofs.Facts.{Sound}
 use Rattle.arrival.specs.Arrival.{answerTo, putRecord, withCreate, withSet, taken, acceptanceOf}
 use Rattle.arrival.proofs.Admitted.{Accepted, accepted}
 use Rattle.arrival.proofs.Records.{put-bytes-here, put-bytes-before}

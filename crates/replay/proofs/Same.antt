@@ -1,6 +1,6 @@
 -- What tables within their limits give a replay of their own records, and the answers of the check. Assumes nothing.
-use mathlib.Core.Path.{_≡_, refl}
-use mathlib.Core.Bool.{Bool, true, false, _&&_, and-false}
+use mathlib.Core.Path.{_≡_}
+use mathlib.Core.Bool.{true, false, _&&_, and-false}
 use mathlib.Core.List.{List}
 use Prim.Native.Nat.{ℕ, _*_, _≤_}
 use native.Mathlib.Omega.{arith}
@@ -12,8 +12,8 @@ use Rattle.record.specs.Layout.{recordLength}
 use Rattle.history.specs.History.{mostRecords}
 use Rattle.group.specs.Row.{mostObjects}
 use Rattle.tables.specs.declared.Counters.{Counters}
-use Rattle.tables.specs.Tables.{Tables, recordsLength, objectsLength, groupsLength}
-use Rattle.tables.specs.Sound.{lengthsRight, sitesRight, withinLimits}
+use Rattle.tables.specs.Tables.{Tables, recordsLength, objectsLength, groupsLength, lengthsRight, sitesRight}
+use Rattle.soundness.specs.Sound.{withinLimits}
 use Rattle.replay.specs.Replay.{givesBack, isTrue, checkOf}
 
 -- ---- what a replay asks

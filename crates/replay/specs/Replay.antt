@@ -9,8 +9,8 @@ use Rattle.ground.specs.Below.{all}
 use Rattle.history.specs.History.{bytesAt}
 use Rattle.record.specs.Layout.{mostSites}
 use Rattle.tables.specs.declared.Counters.{Counters}
-use Rattle.tables.specs.Tables.{Tables, Outcome, emptyDrawing}
-use Rattle.tables.specs.Sound.{lengthsRight, withinLimits}
+use Rattle.tables.specs.Tables.{Tables, emptyDrawing, lengthsRight}
+use Rattle.soundness.specs.Sound.{withinLimits}
 use Rattle.arrival.specs.Arrival.{acceptanceOf}
 
 -- the first refused record's number and its index from 0, and the tables after those before it

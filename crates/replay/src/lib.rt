@@ -3,7 +3,6 @@
 use arrival::Arrived;
 use group::GROUPS;
 use group::OBJECTS;
-use history::PLACES;
 use history::RECORDS;
 use index::MEMBERS;
 use record::RECORD;
@@ -11,14 +10,15 @@ use record::SITES;
 use tables::Answer;
 use tables::Counters;
 use tables::ENTRY;
+use walking::PLACES;
 ghost use mathlib.Core.Path.{_≡_};
 ghost use mathlib.Core.Bool.{true};
 ghost use Prim.Native.Nat.{_*_, _≤_};
 ghost use lib.ListN.{length};
 ghost use Rattle.record.specs.Layout.{mostSites, recordLength};
 ghost use Rattle.history.specs.History.{mostRecords};
-ghost use Rattle.tables.specs.Tables.{tablesOf, outcomeOf, numberOf, emptyDrawing};
-ghost use Rattle.tables.specs.Sound.{lengthsRight, sitesRight, withinLimits, sound};
+ghost use Rattle.tables.specs.Tables.{tablesOf, outcomeOf, numberOf, emptyDrawing, lengthsRight, sitesRight};
+ghost use Rattle.soundness.specs.Sound.{withinLimits, sound};
 ghost use Rattle.index.specs.Index.{IndexOf};
 ghost use Rattle.arrival.specs.Arrival.{acceptanceOf};
 ghost use Rattle.replay.specs.Replay.{replayed, replayOf, sameList, sameCounters, givesBack, checkOf};
@@ -229,7 +229,7 @@ fn is_same_counters(c: Counters, d: Counters) -> bool
     (c.sites == d.sites)
         & (c.records == d.records)
         & (c.objects == d.objects)
-        & tables::counts_agree(v, w)
+        & soundness::counts_agree(v, w)
 }
 
 // Whether no record is refused from an empty drawing, and they give these very tables.
@@ -266,7 +266,7 @@ pub fn check(c: Counters, records: &[u8], objects: &[u16], groups: &[u64]) -> An
     if !tables::lengths_right(records.len(), objects.len(), groups.len()) {
         return Answer::Unsound;
     }
-    if !tables::within_limits(c) {
+    if !soundness::within_limits(c) {
         return Answer::Unsound;
     }
     if is_replayed(c, records, objects, groups) {

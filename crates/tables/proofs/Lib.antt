@@ -1,7 +1,1 @@
-pub mod Zeros
-pub mod Groups
-pub mod Counts
-pub mod Tallies
-pub mod Sound
 pub mod Opening
-pub mod Facts

@@ -16,8 +16,9 @@ use Rattle.tables.specs.Tables.{
   recordsLength,
   objectsLength,
   groupsLength,
+  lengthsRight,
+  sitesRight,
 }
-use Rattle.tables.specs.Sound.{lengthsRight, sitesRight}
 use Rattle.tables.specs.Opening.{openingOf}
 
 module _ (t : Tables) (n : ℕ) where

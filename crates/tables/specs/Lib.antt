@@ -1,4 +1,2 @@
 pub mod Tables
-pub mod Sound
 pub mod Opening
-pub mod Passes

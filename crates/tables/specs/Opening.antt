@@ -2,8 +2,7 @@
 -- does not matter. Assumes nothing.
 use Prim.Native.Nat.{ℕ}
 use mathlib.Core.Bool.{cond}
-use Rattle.tables.specs.Tables.{Tables, Outcome, outcomeOf, emptyDrawing}
-use Rattle.tables.specs.Sound.{lengthsRight, sitesRight}
+use Rattle.tables.specs.Tables.{Tables, Outcome, outcomeOf, emptyDrawing, lengthsRight, sitesRight}
 
 unfoldable pub openingOf : Tables → ℕ → Outcome
 openingOf t n =

@@ -1,7 +1,9 @@
 -- The lent tables, their limits, and the answers. Assumes nothing.
 use Prim.Native.Nat.{ℕ, _+_, _*_}
 use mathlib.Core.List.{List}
-use lib.ListN.{getD, replicate}
+use mathlib.Core.Bool.{Bool, _&&_}
+use lib.ListN.{getD, length, replicate}
+use lib.Dec.{eqb, leb}
 use Rattle.record.specs.Layout.{mostSites, recordLength}
 use Rattle.record.specs.declared.Edit.{Edit}
 use Rattle.history.specs.History.{mostRecords, editsOf}
@@ -63,6 +65,14 @@ objectsLength = mostObjects * entryLength
 
 abbrev pub groupsLength : ℕ
 groupsLength = mostObjects * mostGroups
+
+abbrev pub lengthsRight : List ℕ → List ℕ → List ℕ → Bool
+lengthsRight rs os gs =
+    eqb (length rs) recordsLength && eqb (length os) objectsLength && eqb (length gs) groupsLength
+
+-- a drawing has 1 to 8 sites
+abbrev pub sitesRight : ℕ → Bool
+sitesRight n = leb 1 n && leb n mostSites
 
 -- the empty drawing of n sites: every entry is zero except N
 unfoldable pub emptyDrawing : ℕ → Tables

@@ -1,7 +1,6 @@
-// The entries of the lent slices: read with 0 past the end, tested for zero, and made zero.
+// The entries of the lent slices: read with 0 past the end, and made zero.
 ghost use mathlib.Core.Path.{_≡_};
 ghost use lib.ListN.{length, getD, replicate};
-ghost use Rattle.tables.specs.Sound.{zeroFrom};
 
 // The number at i, and 0 past the end.
 pub fn at16(s: &[u16], i: usize) -> u16
@@ -15,45 +14,6 @@ pub fn at64(s: &[u64], i: usize) -> u64
     ensures { λ r. ⌜ r ≡ getD (now (s .entry)) i 0 ⌝ }
 {
     if i < s.len() { s[i] } else { 0 }
-}
-
-// Whether every byte from k on is zero.
-pub fn is_zero_from8(s: &[u8], k: usize) -> bool
-    ensures { λ r. ⌜ r ≡ zeroFrom (now (s .entry)) k ⌝ }
-{
-    let mut zero = true;
-    let mut i = k;
-    while i < s.len() {
-        zero = zero & (s[i] == 0);
-        i += 1;
-    }
-    zero
-}
-
-// Whether every number from k on is zero.
-pub fn is_zero_from16(s: &[u16], k: usize) -> bool
-    ensures { λ r. ⌜ r ≡ zeroFrom (now (s .entry)) k ⌝ }
-{
-    let mut zero = true;
-    let mut i = k;
-    while i < s.len() {
-        zero = zero & (s[i] == 0);
-        i += 1;
-    }
-    zero
-}
-
-// Whether every group from k on is zero.
-pub fn is_zero_from64(s: &[u64], k: usize) -> bool
-    ensures { λ r. ⌜ r ≡ zeroFrom (now (s .entry)) k ⌝ }
-{
-    let mut zero = true;
-    let mut i = k;
-    while i < s.len() {
-        zero = zero & (s[i] == 0);
-        i += 1;
-    }
-    zero
 }
 
 // Makes every byte of the records zero.

@@ -6,14 +6,7 @@ ghost use Prim.Native.Nat.{_+_, _^_, _≤_, _<_};
 ghost use lib.ListN.{length, take};
 ghost use Rattle.text.specs.Decimal.{decimal};
 ghost use Rattle.text.specs.Words.{dotted, equated, headLine, refusalLine};
-ghost use Rattle.text.specs.Words.{
-  keyDigits,
-  wordDigits,
-  dottedLength,
-  equatedLength,
-  headLength,
-  refusalLength,
-};
+ghost use Rattle.text.specs.Words.{keyDigits, wordDigits, dottedLength, equatedLength, headLength, refusalLength};
 
 // The marks of the printed list.
 pub const SPACE: u8 = b' ';

@@ -22,7 +22,7 @@ use Rattle.history.specs.Answers.{recordsPass}
 use Rattle.history.proofs.Passed.{formed-at, seq-later}
 use Rattle.history.proofs.Ranks.{before-ranks}
 use Rattle.tables.specs.Tables.{Tables, heldBy}
-use Rattle.tables.proofs.Facts.{Sound}
+use Rattle.soundness.proofs.Facts.{Sound}
 use Rattle.order.proofs.Pairs.{pairs-snoc}
 use Rattle.version.specs.Version.{standsBefore}
 use Rattle.version.proofs.Unshared.{edit-in}

@@ -18,7 +18,7 @@ use Rattle.causal.specs.Causal.{ranksBefore}
 use Rattle.maximal.specs.Groups.{bit}
 use Rattle.history.specs.History.{setsOn}
 use Rattle.tables.specs.Tables.{Tables, heldBy}
-use Rattle.tables.proofs.Facts.{Sound}
+use Rattle.soundness.proofs.Facts.{Sound}
 use Rattle.arrival.specs.Truth.{noEdit, trueGroups}
 use Rattle.arrival.proofs.Values.{Member, Undone, Last, one-value, last-undone}
 use Rattle.version.specs.Version.{standsBefore, later, lastWith}

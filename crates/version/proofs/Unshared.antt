@@ -36,7 +36,7 @@ use Rattle.history.proofs.Passed.{next-at, one-place}
 use Rattle.maximal.specs.Groups.{bit}
 use Rattle.maximal.specs.Arrivals.{groupsOf}
 use Rattle.tables.specs.Tables.{Tables, heldBy}
-use Rattle.tables.proofs.Facts.{Sound}
+use Rattle.soundness.proofs.Facts.{Sound}
 use Rattle.arrival.specs.Truth.{noEdit, trueGroups}
 use Rattle.arrival.specs.Versions.{isDisputed, disputedOf}
 use Rattle.arrival.proofs.Identifiers.{identifiers-differ}

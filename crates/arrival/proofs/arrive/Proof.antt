@@ -3,7 +3,7 @@ use mathlib.Core.Bool.{true, false}
 use mathlib.Core.Path.{_≡_, sym, _∙_}
 use denote.Ref.{now}
 use borrow.Author.Tests.{not-true, not-false}
-use Rattle.tables.specs.Sound.{sound}
+use Rattle.soundness.specs.Sound.{sound}
 use Rattle.tables.specs.Tables.{tablesOf}
 use Rattle.arrival.specs.Arrival.{arrivalOf}
 use Rattle.arrival.proofs.Accepting.{surveyable}

@@ -4,7 +4,7 @@ use mathlib.Core.Bool.{true}
 use denote.Ref.{now}
 use borrow.Author.Tests.{not-true, not-false}
 use borrow.Author.Needs.{needs}
-use Rattle.tables.specs.Sound.{sitesRight}
+use Rattle.tables.specs.Tables.{sitesRight}
 use Rattle.block.specs.Block.{sitesIn}
 use Rattle.block.proofs.Outcomes.{over-limit, unfit-refused, sites-refused, accepted}
 use Rattle.block.proofs.read_trailer.Statement.{statement}

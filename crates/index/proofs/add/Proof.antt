@@ -11,7 +11,7 @@ use borrow.Author.Tests.{eq-eqb, ne-eqb}
 use Rattle.record.specs.Layout.{createKind}
 use Rattle.record.specs.Form.{isCreate}
 use Rattle.history.specs.History.{recordAt}
-use Rattle.history.specs.Index.{placesLength}
+use Rattle.walking.specs.Walk.{placesLength}
 use Rattle.group.specs.Row.{mostObjects}
 use Rattle.index.specs.Index.{numberAt}
 use Rattle.index.proofs.Added.{spot-low, number-low, number-more, create-added, target-at, room, low, set-added}

@@ -1,21 +1,18 @@
 -- `index::survey` meets its contract: by the index, or, for an edit that is refused, by looking through the records.
 -- Assumes nothing.
-use mathlib.Core.Path.{_≡_, refl, sym, ap, _∙_}
-use mathlib.Core.Bool.{Bool, true, false}
+use mathlib.Core.Path.{_≡_, sym, ap, _∙_}
+use mathlib.Core.Bool.{false}
 use mathlib.Core.List.{List, map}
 use Prim.Native.Nat.{ℕ, _-_, _*_, _≤_, _<_}
 use native.Mathlib.Omega.{arith}
 use lib.ListN.{getD, length, drop}
 use lib.Seq.{take-take}
 use denote.Ref.{now}
-use borrow.Author.Tests.{eq-eqb, not-true, not-false}
+use borrow.Author.Tests.{eq-eqb, not-false}
 use Rattle.record.specs.Layout.{createKind}
 use Rattle.history.specs.History.{recordAt, editsOf, setsOn, objectOf, conflictsWith}
-use Rattle.history.specs.Answers.{isTorn}
-use Rattle.history.specs.Index.{placeOf}
 use Rattle.group.specs.Row.{mostObjects, mostSets}
-use Rattle.index.specs.Index.{numberAt}
-use Rattle.index.proofs.Surveyed.{turn, torn-is, create-surveyed, Aimed, aimed, target-surveyed}
+use Rattle.index.proofs.Surveyed.{turn, torn-is, create-surveyed, aimed, target-surveyed}
 use borrow.Author.Needs.{needs}
 use Rattle.index.proofs.survey.Statement.{statement}
 use Rattle.index.proofs.survey.Tie as tie

@@ -89,7 +89,7 @@ use sound.WpLaws.{FmC, fmOf, WpFn-mono}
 use denote.RattleType.{owns}
 use denote.Memory.{mem}
 use denote.Laws.{Is, shows}
-use denote.Plain.{uint-makes, uint-vals, uint-tells}
+use denote.Plain.{uint-makes}
 use denote.Builtin.{u16, u64, u8}
 use denote.Ref.{MutRef, now, ptr-vals, mut-tells}
 use denote.Slice.{

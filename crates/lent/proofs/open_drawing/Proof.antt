@@ -92,20 +92,11 @@ use denote.Laws.{Is, shows}
 use denote.Plain.{uint-makes, uint-vals, uint-tells}
 use denote.Builtin.{u16, u64, u8}
 use denote.Ref.{MutRef, now, ptr-vals, mut-tells}
-use denote.Slice.{
-  MutSlice,
-  ShrSlice,
-  finally,
-  slice-vals,
-  mut-slice-tells,
-  shr-slice-tells,
-  mut-slice-lawful,
-  shr-slice-lawful,
-}
+use denote.Slice.{MutSlice, finally, slice-vals, mut-slice-tells, mut-slice-lawful}
 use denote.Steps.{only, opens, closes, owned, peeks, heard}
 use denote.Struct.Steps.{spelt}
 use denote.Struct.Laws as LL
-use denote.Signature.{plain, shrSliceOf}
+use denote.Signature.{plain}
 use denote.Triple.Entry.{Args, Vals, onEntry}
 use denote.Triple.Spec.{Meets, tripleOf}
 use denote.Triple.Statement.{Contract, Triple}

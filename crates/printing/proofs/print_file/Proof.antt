@@ -3,7 +3,7 @@
 use mathlib.Core.Path.{sym, _∙_}
 use native.Mathlib.Omega.{arith}
 use denote.Ref.{now}
-use Rattle.tables.specs.Tables.{tablesOf, numberOf, emptyDrawing}
+use Rattle.tables.specs.Tables.{numberOf, emptyDrawing}
 use Rattle.printing.proofs.Printed.{refusal-printed, list-printed, tables-sound, in-front}
 use borrow.Author.Needs.{needs}
 use Rattle.printing.proofs.print_file.Statement.{statement}

@@ -7,7 +7,7 @@ use denote.Ref.{now}
 use lib.ListN.{take}
 use lib.Seq.{slice}
 use Rattle.tables.specs.Tables.{tablesOf}
-use Rattle.tables.proofs.Facts.{sound-at}
+use Rattle.soundness.proofs.Facts.{sound-at}
 use Rattle.list.specs.Listing.{linesFor}
 use Rattle.list.specs.Code.{LeftOf}
 use Rattle.objects.proofs.Gathering.{in-order}

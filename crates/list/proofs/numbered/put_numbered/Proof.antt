@@ -4,7 +4,7 @@ use native.Mathlib.Omega.{arith}
 use denote.Ref.{now}
 use borrow.Author.Tests.{not-true, not-false}
 use Rattle.tables.specs.Tables.{tablesOf}
-use Rattle.tables.proofs.Facts.{sound-at}
+use Rattle.soundness.proofs.Facts.{sound-at}
 use Rattle.list.proofs.Search.{numbered-head, not-numbered, numbered}
 use borrow.Author.Needs.{needs}
 use Rattle.list.proofs.numbered.put_numbered.Statement.{statement}

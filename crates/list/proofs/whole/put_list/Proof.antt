@@ -3,7 +3,7 @@ use mathlib.Core.Path.{refl}
 use native.Mathlib.Omega.{arith}
 use denote.Ref.{now}
 use Rattle.tables.specs.Tables.{tablesOf}
-use Rattle.tables.proofs.Facts.{sound-at}
+use Rattle.soundness.proofs.Facts.{sound-at}
 use Rattle.arrival.proofs.Accepting.{holds}
 use Rattle.objects.proofs.Members.{index-members}
 use Rattle.list.proofs.Behind.{fewer-behind, more-behind}

@@ -4,7 +4,7 @@ use native.Mathlib.Omega.{arith}
 use denote.Ref.{now}
 use Rattle.group.specs.Row.{mostObjects}
 use Rattle.tables.specs.Tables.{tablesOf}
-use Rattle.tables.proofs.Facts.{sound-at}
+use Rattle.soundness.proofs.Facts.{sound-at}
 use Rattle.objects.proofs.Members.{rest-placed}
 use Rattle.list.proofs.Behind.{fewer-behind}
 use Rattle.list.proofs.Joined.{gathered-ready, gathered-lines}

@@ -9,7 +9,7 @@ use denote.Ref.{now}
 use lib.ListN.{length, take}
 use Rattle.group.specs.Row.{mostGroups}
 use Rattle.tables.specs.Tables.{tablesOf}
-use Rattle.tables.proofs.Facts.{sound-at}
+use Rattle.soundness.proofs.Facts.{sound-at}
 use Rattle.version.specs.Line.{lineLength}
 use Rattle.list.specs.Listing.{linesFor}
 use Rattle.objects.specs.Objects.{objectsOf}

@@ -1,0 +1,6 @@
+pub mod Zeros
+pub mod Groups
+pub mod Counts
+pub mod Tallies
+pub mod Sound
+pub mod Facts
