@@ -11,7 +11,8 @@ use Rattle.history.specs.History.{editsOf, countFrom}
 use Rattle.history.specs.Answers.{isRepeated, isEarly, isTorn, isAstray}
 use Rattle.tables.specs.Tables.{emptyDrawing}
 use Rattle.arrival.specs.Arrival.{isFull, isCrowded, firstOf, answerTo, withCreate, acceptanceOf}
-use Rattle.block.specs.Block.{trailerOf, blockOf}
+use Rattle.trailer.specs.Trailer.{trailerOf}
+use Rattle.block.specs.Writing.{blockOf}
 
 -- the record of the Create 0.1, which has seen nothing but itself
 abbrev create : List ℕ

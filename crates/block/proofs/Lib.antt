@@ -1,6 +1,4 @@
-pub mod Outcomes
 pub mod Writing
-pub mod TrailerBytes
 pub mod Located
 pub mod Examples
 pub mod Reading

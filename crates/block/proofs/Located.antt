@@ -18,11 +18,9 @@ use Rattle.tables.specs.Tables.{Tables, sitesRight}
 use Rattle.soundness.specs.Sound.{sound}
 use Rattle.soundness.proofs.Facts.{sound-at}
 use Rattle.replay.specs.Replay.{replayOf}
-use Rattle.block.specs.Block.{
+use Rattle.trailer.specs.Trailer.{
   fileLimit,
   trailerOf,
-  recordBytes,
-  blockOf,
   trailerAt,
   recordsIn,
   sitesIn,
@@ -31,8 +29,9 @@ use Rattle.block.specs.Block.{
   acceptedIn,
   located,
 }
-use Rattle.block.proofs.Outcomes.{Fit, accepted, located-by}
-use Rattle.block.proofs.TrailerBytes.{trailer-at, sites-back, records-back, trailer-fit, trailer-again}
+use Rattle.block.specs.Writing.{recordBytes, blockOf}
+use Rattle.trailer.proofs.Outcomes.{Fit, accepted, located-by}
+use Rattle.trailer.proofs.TrailerBytes.{trailer-at, sites-back, records-back, trailer-fit, trailer-again}
 
 -- ---- a block that was written
 

@@ -23,7 +23,7 @@ use Rattle.tables.specs.Tables.{
 use Rattle.arrival.proofs.Faithful.{Faithful}
 use Rattle.replay.specs.Replay.{Replayed, replayed, replayOf}
 use Rattle.replay.proofs.AnyRecords.{replay-faithful}
-use Rattle.block.specs.Block.{Found, found, located}
+use Rattle.trailer.specs.Trailer.{Found, found, located}
 use Rattle.block.specs.Reading.{recordsRead, readingOf}
 use Rattle.block.proofs.Located.{accepted-at}
 

@@ -18,7 +18,8 @@ use Rattle.soundness.specs.Sound.{sound}
 use Rattle.replay.specs.Replay.{Replayed, replayed, replayOf}
 use Rattle.replay.proofs.Going.{Going, going-faithful, going-sound}
 use Rattle.replay.proofs.Own.{records-same, going-of, holds, own-records}
-use Rattle.block.specs.Block.{fileLimit, Found, Located, recordBytes, blockOf, located}
+use Rattle.trailer.specs.Trailer.{fileLimit, Found, Located, located}
+use Rattle.block.specs.Writing.{recordBytes, blockOf}
 use Rattle.block.specs.Reading.{orEmpty, recordsRead, readingOf}
 use Rattle.block.proofs.Located.{block-located, accepted-at, block-again, replay-front}
 use Rattle.block.proofs.Reading.{all-taken, file-read}

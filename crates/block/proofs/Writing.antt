@@ -1,5 +1,5 @@
 -- What is written: the block in a part that is lent, and the outcomes of writing. Assumes nothing.
-use mathlib.Core.Path.{_≡_, refl, sym, ap, _∙_}
+use mathlib.Core.Path.{_≡_, sym, ap, _∙_}
 use mathlib.Core.Bool.{true, false}
 use mathlib.Core.List.{List, _++_, append-assoc}
 use Prim.Native.Nat.{ℕ, _+_, _-_, _*_, _≤_}
@@ -9,20 +9,16 @@ use lib.Seq.{length-take-le, take-all, take-at, drop-at, drop-drop}
 use lib.Dec.{leb}
 use borrow.Rule.Slice.PartMut.{midOf, putMid}
 use Rattle.record.specs.Layout.{recordLength}
-use Rattle.record.specs.Record.{countBytes}
 use Rattle.tables.specs.Tables.{Tables}
 use Rattle.soundness.specs.Sound.{sound}
 use Rattle.soundness.proofs.Facts.{sound-at}
-use Rattle.block.specs.Block.{trailerLength, trailerOf, recordBytes, blockOf}
+use Rattle.trailer.proofs.TrailerBytes.{trailer-long}
+use Rattle.trailer.specs.Trailer.{trailerLength, trailerOf}
+use Rattle.block.specs.Writing.{recordBytes, blockOf, writingOf}
 use Rattle.output.specs.Output.{writing}
 use Rattle.output.proofs.Lent.{lent-back, not-put, put-whole}
-use Rattle.block.specs.Writing.{writingOf}
 
 -- ---- the block
-
-pub trailer-long : (n sites : ℕ) → length (trailerOf n sites) ≡ trailerLength
-unfolding trailerOf countBytes
-trailer-long n sites = refl
 
 pub block-long :
     (t : Tables) → sound t ≡ true → length (blockOf t) ≡ t .counters .records * recordLength + trailerLength

@@ -1,3 +1,2 @@
-pub mod Block
 pub mod Writing
 pub mod Reading

@@ -7,7 +7,7 @@ use mathlib.Core.Bool.{cond}
 use lib.Dec.{eqb}
 use Rattle.tables.specs.Tables.{Tables, emptyDrawing, lengthsRight}
 use Rattle.replay.specs.Replay.{Replayed, replayed, replayOf}
-use Rattle.block.specs.Block.{located}
+use Rattle.trailer.specs.Trailer.{located}
 
 -- the answer, the index and the tables of a replay; a refused record leaves an empty drawing
 abbrev pub orEmpty : ℕ → Replayed → Replayed

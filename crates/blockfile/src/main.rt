@@ -14,7 +14,7 @@ ghost use mathlib.Core.Path.{_≡_};
 ghost use lib.ListN.{length};
 
 // One byte more than a file that is read may have.
-const MOST: usize = block::FILE_LIMIT + 1;
+const MOST: usize = trailer::FILE_LIMIT + 1;
 
 fn buffer() -> [u8; MOST]
     ensures { λ r. ⌜ 65537 ≡ length r ⌝ }
@@ -40,7 +40,7 @@ fn tell_written(n: usize, out: &[u8], file: &[u8]) {
     if n == 0 {
         return;
     }
-    if n > block::FILE_LIMIT {
+    if n > trailer::FILE_LIMIT {
         return;
     }
     let count = io::count(n as isize, out);

@@ -21,7 +21,7 @@ use Rattle.replay.specs.Replay.{oneMore, replayOf}
 use Rattle.replay.proofs.AnyRecords.{replay-faithful}
 use Rattle.order.specs.Settled.{listAnswer}
 use Rattle.order.proofs.Replayed.{next-answer, replay-holds}
-use Rattle.list.specs.Listing.{linesOf}
+use Rattle.numbered.specs.Listing.{linesOf}
 use Rattle.demands.specs.Over.{linesOver}
 use Rattle.demands.proofs.OverList.{lines-over-list}
 

@@ -31,7 +31,7 @@ use Rattle.text.specs.Words.{headLine}
 use Rattle.version.proofs.Unshared.{held-numbered}
 use Rattle.version.proofs.Ranks.{not-itself, ranks-through, held-ranked}
 use Rattle.version.proofs.AnyOrder.{Numbered, any-order-lines}
-use Rattle.list.specs.Listing.{linesOf}
+use Rattle.numbered.specs.Listing.{linesOf}
 use Rattle.list.specs.Printing.{joined, listOf}
 use Rattle.demands.specs.Over.{linesIn, versionLines, linesOver}
 use Rattle.demands.proofs.Flat.{flat-same}

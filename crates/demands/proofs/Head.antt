@@ -15,7 +15,7 @@ use Rattle.version.specs.Order.{versionsOf}
 use Rattle.version.specs.Line.{versionLine, objectLines}
 use Rattle.version.proofs.Sorted.{versions-length}
 use Rattle.objects.specs.Objects.{createOf, setsFor, createdBefore, objectsOf}
-use Rattle.list.specs.Listing.{linesFor, versionTotal, linesOf}
+use Rattle.numbered.specs.Listing.{linesFor, versionTotal, linesOf}
 use Rattle.demands.proofs.Flat.{flat-gathered, flat-below}
 use Rattle.demands.proofs.Objects.{numbers}
 

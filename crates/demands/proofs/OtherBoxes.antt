@@ -51,7 +51,7 @@ use Rattle.order.proofs.Members.{chosen-at}
 use Rattle.order.proofs.Pairs.{pairs-weaken}
 use Rattle.version.specs.Line.{objectLines}
 use Rattle.objects.specs.Objects.{createOf, setsFor, createdBefore, objectsOf}
-use Rattle.list.specs.Listing.{linesFor}
+use Rattle.numbered.specs.Listing.{linesFor}
 use Rattle.demands.specs.Others.{ownOf, isOther, othersThan, otherLines}
 use Rattle.demands.proofs.Flat.{flat-same}
 use Rattle.demands.proofs.Objects.{numbers, number-below, object-below, objects-sorted}

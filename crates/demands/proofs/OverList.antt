@@ -8,7 +8,7 @@ use Rattle.arrival.proofs.Faithful.{Faithful}
 use Rattle.text.specs.Words.{headLine}
 use Rattle.version.specs.Line.{objectLines}
 use Rattle.objects.specs.Objects.{createOf, setsFor, objectsOf}
-use Rattle.list.specs.Listing.{linesFor, versionTotal, linesOf}
+use Rattle.numbered.specs.Listing.{linesFor, versionTotal, linesOf}
 use Rattle.demands.specs.Over.{linesIn, versionLines, linesOver}
 use Rattle.demands.proofs.Flat.{flat-same, flat-made}
 use Rattle.demands.proofs.Objects.{object-below, creates-ordered}

@@ -10,7 +10,7 @@ use Rattle.record.specs.declared.Edit.{Edit}
 use Rattle.record.specs.Layout.{createKind, setKind}
 use Rattle.record.specs.Record.{encodeOf}
 use Rattle.replay.specs.Replay.{Replayed, replayOf}
-use Rattle.list.specs.Listing.{linesOf}
+use Rattle.numbered.specs.Listing.{linesOf}
 
 -- ---- what a case is
 

@@ -8,7 +8,7 @@ use Rattle.record.specs.Record.{decodeOf}
 use Rattle.record.specs.Form.{isCreate}
 use Rattle.history.specs.History.{objectOf}
 use Rattle.tables.specs.Tables.{Tables, heldBy}
-use Rattle.list.specs.Listing.{linesFor}
+use Rattle.numbered.specs.Listing.{linesFor}
 use Rattle.objects.specs.Objects.{objectsOf}
 
 -- a Create makes the next object, a Set is about the object that it names

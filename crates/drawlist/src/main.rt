@@ -6,11 +6,11 @@ use libc::STDOUT_FILENO;
 ghost use mathlib.Core.Path.{_≡_};
 ghost use Prim.Native.Nat.{_+_, _≤_};
 ghost use lib.ListN.{length};
-ghost use Rattle.block.specs.Block.{fileLimit};
+ghost use Rattle.trailer.specs.Trailer.{fileLimit};
 ghost use Rattle.list.specs.Printing.{listLength};
 
 // One byte more than a file that is read may have.
-const MOST: usize = block::FILE_LIMIT + 1;
+const MOST: usize = trailer::FILE_LIMIT + 1;
 
 fn buffer() -> [u8; MOST]
     ensures { λ r. ⌜ fileLimit + 1 ≡ length r ⌝ }

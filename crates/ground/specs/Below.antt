@@ -4,6 +4,8 @@
 use mathlib.Core.Bool.{Bool, true, false, _&&_, _||_, cond}
 use mathlib.Core.List.{List, [], _∷_, _++_}
 use Prim.Native.Nat.{ℕ, zero, suc, _+_}
+use lib.ListN.{getD, length}
+use lib.Dec.{eqb}
 
 -- some number below n passes
 unfoldable pub some : ℕ → (ℕ → Bool) → Bool
@@ -24,3 +26,7 @@ sum (suc n) f = sum n f + f n
 unfoldable pub keep : ℕ → (ℕ → Bool) → List ℕ
 keep zero f = []
 keep (suc n) f = keep n f ++ cond (f n) (n ∷ []) []
+
+-- two lists of numbers are the same
+abbrev pub sameList : List ℕ → List ℕ → Bool
+sameList l m = eqb (length l) (length m) && all (length l) (λ i. eqb (getD l i 0) (getD m i 0))

@@ -10,12 +10,14 @@ ghost use mathlib.Core.Path.{_≡_};
 ghost use Rattle.tables.specs.Tables.{tablesOf, outcomeOf, numberOf};
 ghost use Rattle.tables.specs.Opening.{openingOf};
 ghost use Rattle.arrival.specs.Arrival.{arrivalOf};
-ghost use Rattle.replay.specs.Replay.{replayed, checkOf};
+ghost use Rattle.replay.specs.Replay.{replayed};
+ghost use Rattle.checking.specs.Check.{checkOf};
 ghost use Rattle.output.specs.Output.{writing};
-ghost use Rattle.block.specs.Block.{found, located};
+ghost use Rattle.trailer.specs.Trailer.{found, located};
 ghost use Rattle.block.specs.Writing.{writingOf};
 ghost use Rattle.block.specs.Reading.{readingOf};
-ghost use Rattle.list.specs.Printing.{lineOf, listingOf};
+ghost use Rattle.numbered.specs.Numbered.{lineOf};
+ghost use Rattle.list.specs.Printing.{listingOf};
 
 // Opens an empty drawing of n sites; refused, everything stays as it was.
 #[no_mangle]
@@ -87,7 +89,7 @@ pub extern "C" fn spireslate_check(
     ensures { λ r. ⌜ r
         ≡ checkOf (tablesOf c (now (records .entry)) (now (objects .entry)) (now (groups .entry))) ⌝ }
 {
-    let said = replay::check(c, records, objects, groups);
+    let said = checking::check(c, records, objects, groups);
     tables::number(said)
 }
 
@@ -142,7 +144,7 @@ pub extern "C" fn spireslate_line(
         ≡ lineOf (tablesOf c (now (records .entry)) (now (objects .entry)) (now (groups .entry))) k
         (now (out .entry)) start ⌝ }
 {
-    let w = list::print_line(c, records, objects, groups, k, out, start);
+    let w = numbered::print_line(c, records, objects, groups, k, out, start);
     numbered(w)
 }
 
@@ -180,9 +182,9 @@ pub extern "C" fn spireslate_locate(file: &[u8]) -> Located
     ensures { λ r. ⌜ (found (r .number) (r .sites) (r .records) ≡ located (now (file .entry)) .trailer)
         × (r .start ≡ located (now (file .entry)) .start) ⌝ }
 {
-    let t = block::read_trailer(file);
+    let t = trailer::read_trailer(file);
     let said = t.answer;
-    let end = block::stretch_end(said, file.len());
+    let end = trailer::stretch_end(said, file.len());
     let start = end - t.records as usize * RECORD;
     Located {
         number: tables::number(said),

@@ -11,8 +11,9 @@ use lib.Seq.{take-suc, take-all}
 use Rattle.tables.specs.Tables.{Tables}
 use Rattle.soundness.specs.Sound.{sound}
 use Rattle.output.specs.Output.{Writing, writing, placed, writtenAt}
-use Rattle.list.specs.Listing.{linesOf}
-use Rattle.list.specs.Printing.{joined, lineOf, listOf}
+use Rattle.numbered.specs.Listing.{linesOf}
+use Rattle.list.specs.Printing.{joined, listOf}
+use Rattle.numbered.specs.Numbered.{lineOf}
 use Rattle.list.proofs.Behind.{placed-more, placed-length, joined-append, joined-snoc}
 
 -- line n printed behind what was printed from the start on

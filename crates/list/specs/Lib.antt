@@ -1,3 +1,2 @@
-pub mod Listing
 pub mod Printing
 pub mod Code

@@ -1,27 +1,16 @@
--- Printing at a start in a longer output: one line by its number, or all lines in their order. 8, then 12 where there
--- is no such line, then 11. All lines ask for room for the longest list, so that nothing is written in part.
--- Assumes nothing.
+-- Printing all lines in their order at a start in a longer output: 8, then 11. It asks for room for the longest list,
+-- so that nothing is written in part. Assumes nothing.
 use mathlib.Core.Bool.{cond}
 use mathlib.Core.List.{List, [], _∷_, _++_}
 use Prim.Native.Nat.{ℕ, _+_, _*_}
-use lib.ListN.{length, getD}
-use lib.Dec.{leb, ltb}
+use lib.ListN.{length}
+use lib.Dec.{leb}
 use Rattle.group.specs.Row.{mostObjects, mostGroups}
 use Rattle.tables.specs.Tables.{Tables}
 use Rattle.soundness.specs.Sound.{sound}
-use Rattle.output.specs.Output.{Writing, writing, placed, writtenAt}
+use Rattle.output.specs.Output.{Writing, writing, placed}
 use Rattle.version.specs.Line.{lineLength}
-use Rattle.list.specs.Listing.{linesOf}
-
--- ---- a line by its number
-
-unfoldable pub lineOf : Tables → ℕ → List ℕ → ℕ → Writing
-lineOf t k out start =
-    cond (sound t)
-    (cond (ltb k (length (linesOf t))) (writtenAt out start (getD (linesOf t) k [])) (writing 12 0 out))
-    (writing 8 0 out)
-
--- ---- all lines
+use Rattle.numbered.specs.Listing.{linesOf}
 
 -- one after another
 unfoldable pub joined : List (List ℕ) → List ℕ

@@ -3,27 +3,15 @@ use line::put_line;
 use objects::Gathered;
 use output::copy_in;
 use record::Edit;
-ghost use mathlib.Core.Path.{_≡_};
 ghost use mathlib.Core.List.{map};
 ghost use Prim.Native.Nat.{_+_, _*_, _≤_, _<_};
-ghost use lib.ListN.{length, getD, take};
+ghost use lib.ListN.{length, take};
 ghost use Rattle.group.specs.Row.{mostSets, mostGroups};
 ghost use Rattle.version.specs.Line.{lineLength};
 ghost use Rattle.version.specs.Code.{lineBy};
 ghost use Rattle.list.specs.Printing.{joined};
-ghost use Rattle.list.specs.Code.{Ready, lineIn, Behind};
-
-// Puts the line of the v-th version at the front of out.
-pub fn put_version(out: &mut [u8], g: Gathered, v: usize) -> usize
-    requires { ⌜ Ready g × (v < mostGroups) × (lineLength ≤ length (now out)) ⌝ }
-    ensures { λ r. ⌜ (take r (now (out .exit)) ≡ lineIn g (getD (g .versions) v 0)) × (r ≤ lineLength) ⌝ }
-{
-    let tags = g.tags;
-    let stamps = g.stamps;
-    let versions = g.versions;
-    let create = g.create;
-    put_line(out, create, &tags, &stamps, g.sets, versions[v])
-}
+ghost use Rattle.numbered.specs.Code.{Ready, lineIn};
+ghost use Rattle.list.specs.Code.{Behind};
 
 // Puts the line of the version g, of an object with t Sets, into out behind the first n bytes; says how many bytes
 // stand there then. The line is formed in a buffer of its own, so that no other byte of out changes.

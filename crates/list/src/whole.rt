@@ -1,11 +1,11 @@
 // All lines, put into the output one behind another.
-use super::head;
 use super::lines::put_versions;
 use group::OBJECTS;
 use group::SETS;
 use history::RECORDS;
 use index::MEMBERS;
 use line::LINE;
+use numbered::head;
 use objects::gather;
 use objects::sort_objects;
 use output::copy_in;
@@ -21,9 +21,10 @@ ghost use Rattle.tables.specs.Tables.{tablesOf};
 ghost use Rattle.soundness.specs.Sound.{sound};
 ghost use Rattle.version.specs.Line.{lineLength};
 ghost use Rattle.objects.specs.Code.{MembersOf};
-ghost use Rattle.list.specs.Listing.{linesFor};
+ghost use Rattle.numbered.specs.Listing.{linesFor};
 ghost use Rattle.list.specs.Printing.{joined, listOf, listLength};
-ghost use Rattle.list.specs.Code.{headOf, allLines, Behind};
+ghost use Rattle.numbered.specs.Code.{headOf};
+ghost use Rattle.list.specs.Code.{allLines, Behind};
 
 // Puts line 0 behind the first n bytes; says how many bytes stand there then. The line is formed in a buffer of its
 // own.

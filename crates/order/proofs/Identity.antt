@@ -10,7 +10,7 @@ use lib.ListN.{length, getD, drop}
 use lib.Seq.{ext-getD}
 use lib.Dec.{eqb}
 use borrow.Author.Tests.{eqb-true, eq-eqb, le-leb}
-use Rattle.ground.specs.Below.{all}
+use Rattle.ground.specs.Below.{all, sameList}
 use Rattle.ground.specs.Sorted.{filter}
 use Rattle.ground.proofs.Bools.{clash, both, and-on, eqb-self}
 use Rattle.ground.proofs.Below.{all-on, all-at}
@@ -24,7 +24,6 @@ use Rattle.maximal.specs.Arrivals.{groupsOf}
 use Rattle.maximal.proofs.Arrivals.{Distinct, has, no-more-of}
 use Rattle.history.specs.History.{isSetOn, setsOn}
 use Rattle.arrival.specs.Truth.{noEdit, trueGroups}
-use Rattle.replay.specs.Replay.{sameList}
 use Rattle.order.specs.Rearranged.{Mem}
 use Rattle.order.specs.Settled.{Differ, Apart}
 use Rattle.order.specs.Equal.{fieldsOf, isEqual}

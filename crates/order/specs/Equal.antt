@@ -3,7 +3,7 @@ use mathlib.Core.Bool.{Bool}
 use mathlib.Core.List.{List, _∷_}
 use Prim.Native.Nat.{ℕ}
 use Rattle.record.specs.declared.Edit.{Edit}
-use Rattle.replay.specs.Replay.{sameList}
+use Rattle.ground.specs.Below.{sameList}
 
 abbrev pub fieldsOf : Edit → List ℕ
 fieldsOf e =

@@ -9,7 +9,7 @@ use lib.Seq.{append-snoc}
 use borrow.Author.Tests.{le-leb, lt-leb}
 use Rattle.record.specs.Layout.{recordLength}
 use Rattle.history.specs.History.{recordAt, editsOf}
-use Rattle.block.specs.Block.{located}
+use Rattle.trailer.specs.Trailer.{located}
 use Rattle.block.proofs.Located.{accepted-at}
 use Rattle.reader.specs.Reader.{recordFrom, endMark, takenAt, givenFrom}
 

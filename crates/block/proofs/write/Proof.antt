@@ -7,7 +7,7 @@ use borrow.Author.Needs.{needs}
 use borrow.Author.Tests.{leb-true, not-true, not-false}
 use Rattle.tables.specs.Tables.{tablesOf}
 use Rattle.soundness.proofs.Facts.{sound-at}
-use Rattle.block.specs.Block.{blockOf}
+use Rattle.block.specs.Writing.{blockOf}
 use Rattle.block.proofs.Writing.{unsound-refused, no-room, written}
 use Rattle.block.proofs.write.Statement.{statement}
 use Rattle.block.proofs.write.Tie as tie

@@ -5,8 +5,9 @@ use Prim.Native.Nat.{_*_}
 use lib.ListN.{length}
 use borrow.Author.Needs.{needs}
 use Rattle.record.specs.Layout.{recordLength}
-use Rattle.block.specs.Block.{trailerLength}
-use Rattle.block.proofs.Writing.{trailer-long, block-put}
+use Rattle.trailer.specs.Trailer.{trailerLength}
+use Rattle.trailer.proofs.TrailerBytes.{trailer-long}
+use Rattle.block.proofs.Writing.{block-put}
 use Rattle.block.proofs.write_block.Statement.{statement}
 use Rattle.block.proofs.write_block.Tie as tie
 

@@ -2,7 +2,7 @@
 -- the stretch, which ends where the trailer starts. Assumes nothing.
 use denote.Ref.{now}
 use borrow.Author.Needs.{needs}
-use Rattle.block.proofs.Outcomes.{stretch-before-end, start-is}
+use Rattle.trailer.proofs.Outcomes.{stretch-before-end, start-is}
 use Rattle.interface.proofs.spireslate_locate.Statement.{statement}
 use Rattle.interface.proofs.spireslate_locate.Tie as tie
 

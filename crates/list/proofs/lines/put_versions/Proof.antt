@@ -8,7 +8,8 @@ use Prim.Native.Nat.{_-_, _*_, _≤_}
 use lib.ListN.{length, take}
 use Rattle.version.specs.Line.{lineLength}
 use Rattle.list.specs.Printing.{joined}
-use Rattle.list.specs.Code.{lineIn, Behind}
+use Rattle.numbered.specs.Code.{lineIn}
+use Rattle.list.specs.Code.{Behind}
 use borrow.Author.Needs.{needs}
 use Rattle.list.proofs.lines.put_versions.Statement.{statement}
 use Rattle.list.proofs.lines.put_versions.Tie as tie

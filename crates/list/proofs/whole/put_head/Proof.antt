@@ -1,7 +1,7 @@
 -- `list::whole::put_head` meets its contract: line 0 is formed in a buffer of its own and copied. Assumes nothing.
 use denote.Ref.{now}
 use native.Mathlib.Omega.{arith}
-use Rattle.list.specs.Code.{headOf}
+use Rattle.numbered.specs.Code.{headOf}
 use Rattle.list.proofs.Behind.{copied-behind}
 use borrow.Author.Needs.{needs}
 use Rattle.list.proofs.whole.put_head.Statement.{statement}

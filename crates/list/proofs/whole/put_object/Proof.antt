@@ -7,7 +7,7 @@ use Rattle.tables.specs.Tables.{tablesOf}
 use Rattle.soundness.proofs.Facts.{sound-at}
 use Rattle.objects.proofs.Members.{rest-placed}
 use Rattle.list.proofs.Behind.{fewer-behind}
-use Rattle.list.proofs.Joined.{gathered-ready, gathered-lines}
+use Rattle.numbered.proofs.Gathered.{gathered-ready, gathered-lines}
 use borrow.Author.Needs.{needs}
 use Rattle.list.proofs.whole.put_object.Statement.{statement}
 use Rattle.list.proofs.whole.put_object.Tie as tie

@@ -1,6 +1,7 @@
 -- `list::whole::put_objects` meets its contract: each turn puts the lines of one object behind those before it. Assumes
 -- nothing.
-use Rattle.list.proofs.Joined.{sorted-low, sorted-lines}
+use Rattle.numbered.proofs.Gathered.{sorted-low}
+use Rattle.list.proofs.Joined.{sorted-lines}
 use mathlib.Core.Path.{_≡_, refl, _∙_}
 use mathlib.Core.List.{map}
 use Prim.Native.Nat.{_-_, _*_, _≤_}
@@ -11,7 +12,7 @@ use Rattle.group.specs.Row.{mostGroups}
 use Rattle.tables.specs.Tables.{tablesOf}
 use Rattle.soundness.proofs.Facts.{sound-at}
 use Rattle.version.specs.Line.{lineLength}
-use Rattle.list.specs.Listing.{linesFor}
+use Rattle.numbered.specs.Listing.{linesFor}
 use Rattle.objects.specs.Objects.{objectsOf}
 use Rattle.list.specs.Printing.{joined}
 use Rattle.list.specs.Code.{Behind}
