@@ -2,8 +2,8 @@
 // has an answer, so none of them asks anything of its caller but that a pointer points to as many elements as it says.
 // Answers are document 01's numbers. A call that changes the counters takes them by `&mut`, where the caller keeps
 // them; any other takes them by value.
-use lent::FileAnswer;
 use output::Written;
+use plain::FileAnswer;
 use record::RECORD;
 use tables::Counters;
 ghost use mathlib.Core.Path.{_≡_};
@@ -33,7 +33,7 @@ pub extern "C" fn spireslate_open(
         ≡ openingOf
         (tablesOf (now (c .entry)) (now (records .entry)) (now (objects .entry)) (now (groups .entry))) n ⌝ }
 {
-    let opened = lent::open_by_value(*c, records, objects, groups, n);
+    let opened = plain::open_by_value(*c, records, objects, groups, n);
     *c = opened.counters;
     opened.number
 }
@@ -53,7 +53,7 @@ pub extern "C" fn spireslate_arrive(
         (tablesOf (now (c .entry)) (now (records .entry)) (now (objects .entry)) (now (groups .entry)))
         (now (rec .entry)) ⌝ }
 {
-    let arrived = lent::arrive_by_value(*c, records, objects, groups, rec);
+    let arrived = plain::arrive_by_value(*c, records, objects, groups, rec);
     *c = arrived.counters;
     arrived.number
 }
@@ -73,7 +73,7 @@ pub extern "C" fn spireslate_read(
         (tablesOf (now (c .entry)) (now (records .entry)) (now (objects .entry)) (now (groups .entry)))
         (now (file .entry)) ⌝ }
 {
-    let read = lent::read_by_value(*c, records, objects, groups, file);
+    let read = plain::read_by_value(*c, records, objects, groups, file);
     *c = read.counters;
     read.answer
 }

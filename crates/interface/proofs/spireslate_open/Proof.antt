@@ -123,15 +123,15 @@ use denote.Exit.{yes}
 use Rattle.tables.specs.Tables.{outcomeOf, tablesOf as tables-of}
 use Rattle.tables.specs.Opening.{openingOf}
 use Rattle.tables.specs.declared.Counters.{Counters}
-use Rattle.lent.specs.declared.Numbered.{Numbered}
+use Rattle.plain.specs.declared.Numbered.{Numbered}
 use Rattle.tables.proofs.Counters as T
 use Rattle.tables.proofs.Counters.Laws as T′
-use Rattle.lent.proofs.Numbered as R
-use Rattle.lent.proofs.Numbered.Laws as R′
-use Rattle.lent.proofs.open_by_value as core
-use Rattle.lent.proofs.open_by_value.Symbol as core-def
-use Rattle.lent.proofs.open_by_value.Symbol.{name as #lent·open-by-value}
-use Rattle.lent.proofs.open_by_value.Met as core-thm
+use Rattle.plain.proofs.Numbered as R
+use Rattle.plain.proofs.Numbered.Laws as R′
+use Rattle.plain.proofs.open_by_value as core
+use Rattle.plain.proofs.open_by_value.Symbol as core-def
+use Rattle.plain.proofs.open_by_value.Symbol.{name as #plain·open-by-value}
+use Rattle.plain.proofs.open_by_value.Met as core-thm
 use Rattle.interface.proofs.spireslate_open.Key.{name as #interface·spireslate-open}
 use Rattle.interface.proofs.spireslate_open as thin
 use Rattle.interface.proofs.spireslate_open.Statement as stated
@@ -229,7 +229,7 @@ module _ {M : Type 1} (𝓤 : URA M) (H : Heap 𝓤) (A : Atoms 𝓤) (W : Given
       fjoin ! $ owned ! u8 (Is u8) (uint-makes 𝓤 H A W w8) (r .number) _ is $ move ! (1 ∷ 0 ∷ []) $ done !
 
   module _ (C : Calls 𝓤 H) (Λ : Loops 𝓤 H) (fm : FmC 𝓤 H (W .laws) C)
-      (known : Triple 𝓤 (C #lent·open-by-value) (Core 𝓤 H A at-mem run)) where
+      (known : Triple 𝓤 (C #plain·open-by-value) (Core 𝓤 H A at-mem run)) where
     walk : Is (MutSlice (named 1) (κs .1 .0) u8) (a .1 .0) (vals .1 .0)
         → Is (MutSlice (named 2) (κs .1 .1 .0) u16) (a .1 .1 .0) (vals .1 .1 .0)
         → Is (MutSlice (named 3) (κs .1 .1 .1 .0) u64) (a .1 .1 .1 .0) (vals .1 .1 .1 .0)
@@ -330,7 +330,7 @@ module _ {M : Type 1} (𝓤 : URA M) (H : Heap 𝓤) (A : Atoms 𝓤) (W : Given
 
 module _ {M : Type 1} (𝓤 : URA M) (H : Heap 𝓤) (A : Atoms 𝓤) (W : Given 𝓤 H A) (mem : Memory → SProp 𝓤)
     (run : Routine → Fun 𝓤) where
-  walks : (C : Calls 𝓤 H) (Λ : Loops 𝓤 H) → FmC 𝓤 H (W .laws) C → Triple 𝓤 (C #lent·open-by-value)
+  walks : (C : Calls 𝓤 H) (Λ : Loops 𝓤 H) → FmC 𝓤 H (W .laws) C → Triple 𝓤 (C #plain·open-by-value)
       (Core 𝓤 H A mem run) → Walks 𝓤 H A thin.ended stayed (WpFn 𝓤 H C Λ code.function) (thin.clauses 𝓤 H A mem run)
   walks C Λ fm known = walked 𝓤 H A thin.ended stayed (thin.clauses 𝓤 H A mem run) (WpFn 𝓤 H C Λ code.function)
       (λ κs. (ptr-vals, (slice-vals, (slice-vals, (slice-vals, (uint-vals w8, tt)))))) (λ κs. (
@@ -362,7 +362,7 @@ module _ {M : Type 1} (𝓤 : URA M) (H : Heap 𝓤) (A : Atoms 𝓤) (W : Given
   )
 
 meets : {M : Type 1} (𝓤 : URA M) (H : Heap 𝓤) (A : Atoms 𝓤) → Given 𝓤 H A → (mem : Memory → SProp 𝓤)
-    (run : Routine → Fun 𝓤) (𝓣 : Tables 𝓤 H) → Triple 𝓤 (𝓣 .C #lent·open-by-value) (Core 𝓤 H A mem run)
+    (run : Routine → Fun 𝓤) (𝓣 : Tables 𝓤 H) → Triple 𝓤 (𝓣 .C #plain·open-by-value) (Core 𝓤 H A mem run)
     → Meets 𝓤 H A thin.signature (WpFn 𝓤 H (𝓣 .C) (𝓣 .Λ) code.function) (thin.spec 𝓤 H A mem run)
 meets 𝓤 H A W mem run 𝓣 known = walk-meets 𝓤 H A thin.ended stayed W (goes-all 𝓤 H A W mem run)
     (thin.clauses 𝓤 H A mem run) (WpFn 𝓤 H (𝓣 .C) (𝓣 .Λ) code.function) (WpFn-mono 𝓤 H (W .laws) 𝓣 code.function)
@@ -375,5 +375,5 @@ spireslate-open-spec 𝓤 H 𝓜 𝓖 𝓡 =
     (tables 𝓤 H 𝓜 𝓡 code.env .C) (tables 𝓤 H 𝓜 𝓡 code.env .Λ) #interface·spireslate-open code.function
     (code.unfolded 𝓤 H 𝓜 𝓡)
     (meets 𝓤 H (𝓖 .A) (givenOf 𝓤 H 𝓜 𝓖) (𝓜 .mem) (𝓡 .run) (tablesOf 𝓤 H 𝓜 (tables 𝓤 H 𝓜 𝓡 code.env))
-    (cited 𝓤 H (Core 𝓤 H (𝓖 .A) (𝓜 .mem) (𝓡 .run)) 𝓜 𝓡 code.env #lent·open-by-value core-def.routine
-    code.calls-lent·open-by-value (core-thm.met 𝓤 H 𝓜 𝓖 𝓡)))
+    (cited 𝓤 H (Core 𝓤 H (𝓖 .A) (𝓜 .mem) (𝓡 .run)) 𝓜 𝓡 code.env #plain·open-by-value core-def.routine
+    code.calls-plain·open-by-value (core-thm.met 𝓤 H 𝓜 𝓖 𝓡)))

@@ -132,17 +132,17 @@ use Rattle.tables.specs.Tables.{tablesOf as tables-of}
 use Rattle.replay.specs.Replay.{replayed}
 use Rattle.block.specs.Reading.{readingOf}
 use Rattle.tables.specs.declared.Counters.{Counters}
-use Rattle.lent.specs.declared.FileTaken.{FileTaken}
+use Rattle.plain.specs.declared.FileTaken.{FileTaken}
 use Rattle.tables.proofs.Counters as T
 use Rattle.tables.proofs.Counters.Laws as T′
-use Rattle.lent.proofs.FileTaken as R
-use Rattle.lent.proofs.FileTaken.Laws as R′
-use Rattle.lent.proofs.FileAnswer as X
-use Rattle.lent.proofs.FileAnswer.Laws as X′
-use Rattle.lent.proofs.read_by_value as core
-use Rattle.lent.proofs.read_by_value.Symbol as core-def
-use Rattle.lent.proofs.read_by_value.Symbol.{name as #lent·read-by-value}
-use Rattle.lent.proofs.read_by_value.Met as core-thm
+use Rattle.plain.proofs.FileTaken as R
+use Rattle.plain.proofs.FileTaken.Laws as R′
+use Rattle.plain.proofs.FileAnswer as X
+use Rattle.plain.proofs.FileAnswer.Laws as X′
+use Rattle.plain.proofs.read_by_value as core
+use Rattle.plain.proofs.read_by_value.Symbol as core-def
+use Rattle.plain.proofs.read_by_value.Symbol.{name as #plain·read-by-value}
+use Rattle.plain.proofs.read_by_value.Met as core-thm
 use Rattle.interface.proofs.spireslate_read.Key.{name as #interface·spireslate-read}
 use Rattle.interface.proofs.spireslate_read as thin
 use Rattle.interface.proofs.spireslate_read.Statement as stated
@@ -247,7 +247,7 @@ module _ {M : Type 1} (𝓤 : URA M) (H : Heap 𝓤) (A : Atoms 𝓤) (W : Given
       move ! (1 ∷ 0 ∷ []) $ done !
 
   module _ (C : Calls 𝓤 H) (Λ : Loops 𝓤 H) (fm : FmC 𝓤 H (W .laws) C)
-      (known : Triple 𝓤 (C #lent·read-by-value) (Core 𝓤 H A at-mem run)) where
+      (known : Triple 𝓤 (C #plain·read-by-value) (Core 𝓤 H A at-mem run)) where
     walk : Is (MutSlice (named 1) (κs .1 .0) u8) (a .1 .0) (vals .1 .0)
         → Is (MutSlice (named 2) (κs .1 .1 .0) u16) (a .1 .1 .0) (vals .1 .1 .0)
         → Is (MutSlice (named 3) (κs .1 .1 .1 .0) u64) (a .1 .1 .1 .0) (vals .1 .1 .1 .0)
@@ -351,7 +351,7 @@ module _ {M : Type 1} (𝓤 : URA M) (H : Heap 𝓤) (A : Atoms 𝓤) (W : Given
 
 module _ {M : Type 1} (𝓤 : URA M) (H : Heap 𝓤) (A : Atoms 𝓤) (W : Given 𝓤 H A) (mem : Memory → SProp 𝓤)
     (run : Routine → Fun 𝓤) where
-  walks : (C : Calls 𝓤 H) (Λ : Loops 𝓤 H) → FmC 𝓤 H (W .laws) C → Triple 𝓤 (C #lent·read-by-value)
+  walks : (C : Calls 𝓤 H) (Λ : Loops 𝓤 H) → FmC 𝓤 H (W .laws) C → Triple 𝓤 (C #plain·read-by-value)
       (Core 𝓤 H A mem run) → Walks 𝓤 H A thin.ended stayed (WpFn 𝓤 H C Λ code.function) (thin.clauses 𝓤 H A mem run)
   walks C Λ fm known = walked 𝓤 H A thin.ended stayed (thin.clauses 𝓤 H A mem run) (WpFn 𝓤 H C Λ code.function)
       (λ κs. (ptr-vals, (slice-vals, (slice-vals, (slice-vals, (slice-vals, tt)))))) (λ κs. (
@@ -383,7 +383,7 @@ module _ {M : Type 1} (𝓤 : URA M) (H : Heap 𝓤) (A : Atoms 𝓤) (W : Given
   )
 
 meets : {M : Type 1} (𝓤 : URA M) (H : Heap 𝓤) (A : Atoms 𝓤) → Given 𝓤 H A → (mem : Memory → SProp 𝓤)
-    (run : Routine → Fun 𝓤) (𝓣 : Tables 𝓤 H) → Triple 𝓤 (𝓣 .C #lent·read-by-value) (Core 𝓤 H A mem run)
+    (run : Routine → Fun 𝓤) (𝓣 : Tables 𝓤 H) → Triple 𝓤 (𝓣 .C #plain·read-by-value) (Core 𝓤 H A mem run)
     → Meets 𝓤 H A thin.signature (WpFn 𝓤 H (𝓣 .C) (𝓣 .Λ) code.function) (thin.spec 𝓤 H A mem run)
 meets 𝓤 H A W mem run 𝓣 known = walk-meets 𝓤 H A thin.ended stayed W (goes-all 𝓤 H A W mem run)
     (thin.clauses 𝓤 H A mem run) (WpFn 𝓤 H (𝓣 .C) (𝓣 .Λ) code.function) (WpFn-mono 𝓤 H (W .laws) 𝓣 code.function)
@@ -396,5 +396,5 @@ spireslate-read-spec 𝓤 H 𝓜 𝓖 𝓡 =
     (tables 𝓤 H 𝓜 𝓡 code.env .C) (tables 𝓤 H 𝓜 𝓡 code.env .Λ) #interface·spireslate-read code.function
     (code.unfolded 𝓤 H 𝓜 𝓡)
     (meets 𝓤 H (𝓖 .A) (givenOf 𝓤 H 𝓜 𝓖) (𝓜 .mem) (𝓡 .run) (tablesOf 𝓤 H 𝓜 (tables 𝓤 H 𝓜 𝓡 code.env))
-    (cited 𝓤 H (Core 𝓤 H (𝓖 .A) (𝓜 .mem) (𝓡 .run)) 𝓜 𝓡 code.env #lent·read-by-value core-def.routine
-    code.calls-lent·read-by-value (core-thm.met 𝓤 H 𝓜 𝓖 𝓡)))
+    (cited 𝓤 H (Core 𝓤 H (𝓖 .A) (𝓜 .mem) (𝓡 .run)) 𝓜 𝓡 code.env #plain·read-by-value core-def.routine
+    code.calls-plain·read-by-value (core-thm.met 𝓤 H 𝓜 𝓖 𝓡)))

@@ -1,8 +1,7 @@
--- `lent::read_on` meets its contract: a walk of its MIR, by hand. The counters are copied into a local, which is
--- lent as `&mut` to `read_file` for a lifetime made for the call, and come back at the last value that `read_file`
--- says. The slices are passed on, and given up for good.
--- All that the proof knows of `read_file` is that it meets its contract. A comment in brackets is the context at
--- that line. Assumes nothing.
+-- `lent::read_on` meets its contract: a walk of its MIR, by hand. The counters are copied into a local, which is lent
+-- as `&mut` to the call of the interface for a lifetime made for the call, and come back at the last value that it
+-- says. The slices are passed on, and given up for good. All that the proof knows of that call is that it meets its
+-- contract. A comment in brackets is the context at that line. Assumes nothing.
 use mathlib.Core.Path.{_≡_, refl, ap}
 use Prim.Native.Nat.{ℕ}
 use mathlib.Core.List.{[], _∷_}
@@ -124,19 +123,19 @@ use Rattle.tables.specs.Tables.{tablesOf as tables-of}
 use Rattle.replay.specs.Replay.{replayed}
 use Rattle.block.specs.Reading.{readingOf}
 use Rattle.tables.specs.declared.Counters.{Counters}
-use Rattle.lent.specs.declared.FileAnswer.{FileAnswer}
-use Rattle.lent.specs.declared.FileTaken.{FileTaken}
+use Rattle.plain.specs.declared.FileAnswer.{FileAnswer}
+use Rattle.plain.specs.declared.FileTaken.{FileTaken}
 use Rattle.ground.proofs.Within.{lies-in, lies-out}
 use Rattle.tables.proofs.Counters as T
 use Rattle.tables.proofs.Counters.Laws as T′
-use Rattle.lent.proofs.FileAnswer as X
-use Rattle.lent.proofs.FileAnswer.Laws as X′
-use Rattle.lent.proofs.FileTaken as R
-use Rattle.lent.proofs.FileTaken.Laws as R′
-use Rattle.lent.proofs.read_file as thin
-use Rattle.lent.proofs.read_file.Symbol as thin-def
-use Rattle.lent.proofs.read_file.Symbol.{name as #lent·read-file}
-use Rattle.lent.proofs.read_file.Met as thin-thm
+use Rattle.plain.proofs.FileAnswer as X
+use Rattle.plain.proofs.FileAnswer.Laws as X′
+use Rattle.plain.proofs.FileTaken as R
+use Rattle.plain.proofs.FileTaken.Laws as R′
+use Rattle.interface.proofs.spireslate_read as thin
+use Rattle.interface.proofs.spireslate_read.Symbol as thin-def
+use Rattle.interface.proofs.spireslate_read.Symbol.{name as #interface·spireslate-read}
+use Rattle.interface.proofs.spireslate_read.Met as thin-thm
 use Rattle.lent.proofs.read_on.Key.{name as #lent·read-on}
 use Rattle.lent.proofs.read_on as on
 use Rattle.lent.proofs.read_on.Statement as stated
@@ -202,7 +201,7 @@ module _ {M : Type 1} (𝓤 : URA M) (H : Heap 𝓤) (A : Atoms 𝓤) (W : Given
   toks = ‵ (flft (κs .0) (qs .0)) ⊛ ‵ (flft (κs .1 .0) (qs .1 .0)) ⊛ ‵ (flft (κs .1 .1 .0) (qs .1 .1 .0))
       ⊛ ‵ (flft (κs .1 .1 .1 .0) (qs .1 .1 .1 .0)) ⊛ ‵ ftrue
 
-  -- the call of `read_file`, at the local l, lent for ν under the name γ
+  -- the call of `spireslate_read`, at the local l, lent for ν under the name γ
   module _ (l ν : ℕ) (γ : GName) where
     abbrev κs₂ : Lfts 5
     κs₂ = (ν ∷ [], κs)
@@ -248,7 +247,7 @@ module _ {M : Type 1} (𝓤 : URA M) (H : Heap 𝓤) (A : Atoms 𝓤) (W : Given
         (is-made n (zs .0) is-answer was) $ move ! (1 ∷ 0 ∷ []) $ done !
 
   module _ (C : Calls 𝓤 H) (Λ : Loops 𝓤 H) (fm : FmC 𝓤 H (W .laws) C)
-      (known : Triple 𝓤 (C #lent·read-file) (Thin 𝓤 H A at-mem run)) where
+      (known : Triple 𝓤 (C #interface·spireslate-read) (Thin 𝓤 H A at-mem run)) where
     walk : Is T.the-row h (vals .0) → Is (MutSlice (named 0) (κs .0) u8) (a .1 .0) (vals .1 .0) → Is
         (MutSlice (named 1) (κs .1 .0) u16) (a .1 .1 .0) (vals .1 .1 .0) → Is (MutSlice (named 2) (κs .1 .1 .0) u64)
         (a .1 .1 .1 .0) (vals .1 .1 .1 .0) → Is (ShrSlice (named 3) (κs .1 .1 .1 .0) u8) (a .1 .1 .1 .1 .0)
@@ -363,7 +362,8 @@ module _ {M : Type 1} (𝓤 : URA M) (H : Heap 𝓤) (A : Atoms 𝓤) (W : Given
 
 module _ {M : Type 1} (𝓤 : URA M) (H : Heap 𝓤) (A : Atoms 𝓤) (W : Given 𝓤 H A) (mem : Memory → SProp 𝓤)
     (run : Routine → Fun 𝓤) where
-  walks : (C : Calls 𝓤 H) (Λ : Loops 𝓤 H) → FmC 𝓤 H (W .laws) C → Triple 𝓤 (C #lent·read-file) (Thin 𝓤 H A mem run)
+  walks : (C : Calls 𝓤 H) (Λ : Loops 𝓤 H) → FmC 𝓤 H (W .laws) C →
+      Triple 𝓤 (C #interface·spireslate-read) (Thin 𝓤 H A mem run)
       → Walks 𝓤 H A on.ended stayed (WpFn 𝓤 H C Λ code.function) (on.clauses 𝓤 H A mem run)
   walks C Λ fm known = walked 𝓤 H A on.ended stayed (on.clauses 𝓤 H A mem run) (WpFn 𝓤 H C Λ code.function)
       (λ κs. (LL.vals T.the-type T′.the-laws, (slice-vals, (slice-vals, (slice-vals, (slice-vals, tt))))))
@@ -399,7 +399,7 @@ module _ {M : Type 1} (𝓤 : URA M) (H : Heap 𝓤) (A : Atoms 𝓤) (W : Given
   )
 
 meets : {M : Type 1} (𝓤 : URA M) (H : Heap 𝓤) (A : Atoms 𝓤) → Given 𝓤 H A → (mem : Memory → SProp 𝓤)
-    (run : Routine → Fun 𝓤) (𝓣 : Tables 𝓤 H) → Triple 𝓤 (𝓣 .C #lent·read-file) (Thin 𝓤 H A mem run)
+    (run : Routine → Fun 𝓤) (𝓣 : Tables 𝓤 H) → Triple 𝓤 (𝓣 .C #interface·spireslate-read) (Thin 𝓤 H A mem run)
     → Meets 𝓤 H A on.signature (WpFn 𝓤 H (𝓣 .C) (𝓣 .Λ) code.function) (on.spec 𝓤 H A mem run)
 meets 𝓤 H A W mem run 𝓣 known = walk-meets 𝓤 H A on.ended stayed W (goes-all 𝓤 H A W mem run)
     (on.clauses 𝓤 H A mem run) (WpFn 𝓤 H (𝓣 .C) (𝓣 .Λ) code.function) (WpFn-mono 𝓤 H (W .laws) 𝓣 code.function)
@@ -411,5 +411,5 @@ read-on-spec 𝓤 H 𝓜 𝓖 𝓡 =
     entered 𝓤 H (tripleOf 𝓤 H (𝓖 .A) on.signature (on.spec 𝓤 H (𝓖 .A) (𝓜 .mem) (𝓡 .run)))
     (tables 𝓤 H 𝓜 𝓡 code.env .C) (tables 𝓤 H 𝓜 𝓡 code.env .Λ) #lent·read-on code.function (code.unfolded 𝓤 H 𝓜 𝓡)
     (meets 𝓤 H (𝓖 .A) (givenOf 𝓤 H 𝓜 𝓖) (𝓜 .mem) (𝓡 .run) (tablesOf 𝓤 H 𝓜 (tables 𝓤 H 𝓜 𝓡 code.env))
-    (cited 𝓤 H (Thin 𝓤 H (𝓖 .A) (𝓜 .mem) (𝓡 .run)) 𝓜 𝓡 code.env #lent·read-file thin-def.routine
-    code.calls-lent·read-file (thin-thm.met 𝓤 H 𝓜 𝓖 𝓡)))
+    (cited 𝓤 H (Thin 𝓤 H (𝓖 .A) (𝓜 .mem) (𝓡 .run)) 𝓜 𝓡 code.env #interface·spireslate-read thin-def.routine
+    code.calls-interface·spireslate-read (thin-thm.met 𝓤 H 𝓜 𝓖 𝓡)))

@@ -1,9 +1,9 @@
--- `lent::arrive_by_value` meets its contract. Assumes nothing.
+-- `plain::arrive_by_value` meets its contract. Assumes nothing.
 use borrow.Author.Needs.{needs}
-use Rattle.lent.proofs.arrive_by_value.Statement.{statement}
-use Rattle.lent.proofs.arrive_by_value.Tie as tie
-use Rattle.lent.proofs.arrive_by_value.Reads as reads
-use Rattle.lent.proofs.arrive_by_value.Lts as lts
+use Rattle.plain.proofs.arrive_by_value.Statement.{statement}
+use Rattle.plain.proofs.arrive_by_value.Tie as tie
+use Rattle.plain.proofs.arrive_by_value.Reads as reads
+use Rattle.plain.proofs.arrive_by_value.Lts as lts
 use Rattle.arrival.proofs.arrive.Reads as arrive-reads
 use Rattle.tables.proofs.number.Reads as number-reads
 
