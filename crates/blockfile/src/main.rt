@@ -69,7 +69,7 @@ fn tell(file: &[u8]) {
         held: [0u16; SITES],
     };
     let r = block::read_file(none, &mut records, &mut objects, &mut groups, file);
-    let mut out = [0u8; RECORDS * RECORD + 8];
+    let mut out = [0u8; RECORDS * RECORD + trailer::TRAILER];
     let c = r.counters;
     let w = block::write(c, &records, &objects, &groups, &mut out, 0);
     tell_read(r);

@@ -23,7 +23,7 @@ same-reflexive s q = rw (eqb-self (s .0), eqb-self (q .0))
 pub before-irreflexive : (a : Edit) → comesBefore a a ≡ false
 before-irreflexive a = rw (same-reflexive (a .site) (a .seq))
 
-pub concurrent-symmetric : (a b : Edit) → areConcurrent a b ≡ areConcurrent b a
+concurrent-symmetric : (a b : Edit) → areConcurrent a b ≡ areConcurrent b a
 concurrent-symmetric a b =
     ap (λ (t : Bool). not t && not (comesBefore a b) && not (comesBefore b a))
     (same-symmetric (a .site) (a .seq) (b .site) (b .seq))

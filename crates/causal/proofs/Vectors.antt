@@ -3,13 +3,13 @@
 use mathlib.Core.Path.{_≡_}
 use mathlib.Core.Bool.{true, _&&_}
 use mathlib.Core.List.{List}
-use Prim.Native.Nat.{ℕ, _*_, _≤_, _<_}
+use Prim.Native.Nat.{ℕ, _≤_, _<_}
 use lib.ListN.{getD}
 use lib.Dec.{eqb, ltb}
 use borrow.Author.Tests.{lt-ltb}
 use Rattle.ground.specs.Below.{sum}
 use Rattle.ground.proofs.Bools.{or-left}
-use Rattle.ground.proofs.Below.{sum-below, sum-lt}
+use Rattle.ground.proofs.Below.{sum-lt}
 use Rattle.record.specs.declared.Edit.{Edit}
 use Rattle.record.specs.Layout.{mostSites}
 use Rattle.causal.specs.Causal.{vectorSum, ranksBefore}
@@ -22,11 +22,6 @@ pub entries-sum-larger :
     (n : ℕ) (v w : List ℕ) → NowhereAbove n v w → (j : ℕ) → j < n → getD v j 0 < getD w j 0
     → sum n (λ i. getD v i 0) < sum n (λ i. getD w i 0)
 entries-sum-larger n v w h j l k = sum-lt n (λ i. getD v i 0) (λ i. getD w i 0) h j l k
-
--- entries of at most b cannot make a sum above n times b
-pub entries-sum-bounded :
-    (n b : ℕ) (v : List ℕ) → ((i : ℕ) → i < n → getD v i 0 ≤ b) → sum n (λ i. getD v i 0) ≤ n * b
-entries-sum-bounded n b v h = sum-below n b (λ i. getD v i 0) h
 
 pub larger-ranks-later :
     (a b : Edit) → NowhereAbove mostSites (a .vector) (b .vector) → (j : ℕ) → j < mostSites

@@ -1,7 +1,7 @@
 -- Tests put together and taken apart. What a test of two numbers says is in the kit, `borrow.Author.Tests`.
 -- Assumes nothing.
-use mathlib.Core.Path.{_≡_, refl, sym}
-use mathlib.Core.Bool.{Bool, true, false, _&&_, _||_, and-comm, Bool·beq}
+use mathlib.Core.Path.{_≡_, refl, sym, _∙_}
+use mathlib.Core.Bool.{Bool, true, false, _&&_, _||_, and-comm, or-assoc, or-comm, Bool·beq}
 use mathlib.Core.Logic.{_⊎_, inl, inr}
 use Prim.Native.Nat.{ℕ}
 use native.Mathlib.Omega.{arith}
@@ -53,6 +53,10 @@ neither false b h = (refl, h)
 
 pub or-off : (a b : Bool) → a ≡ false → b ≡ false → (a || b) ≡ false
 or-off a b p q = rw (p, q)
+
+-- the first two of three tests change places
+pub or-swap : (a b c : Bool) → (a || (b || c)) ≡ (b || (a || c))
+or-swap a b c = sym (or-assoc a b c) ∙ rw (or-comm a b) (or-assoc b a c)
 
 -- the last two of three tests change places
 pub and-turn : (a b c : Bool) → (a && b && c) ≡ (a && c && b)

@@ -7,10 +7,17 @@ use Prim.Native.Nat.{ℕ, zero, suc, _≤_, _<_}
 use native.Mathlib.Omega.{arith}
 use native.Mathlib.Decide.{decLt}
 use lib.Dec.{eqb}
-use lib.ListN.{length, getD}
+use lib.ListN.{length, getD, replicate}
 use borrow.Author.Tests.{eqb-true}
 use Rattle.ground.proofs.Bools.{clash, either, or-left, or-right, eqb-self}
 use Rattle.ground.specs.Sorted.{any, elem, filter, Ascending}
+
+-- ---- zeros
+
+pub zero-anywhere : (n i : ℕ) → _≡_ {A = ℕ} (getD (replicate n 0) i 0) 0
+zero-anywhere zero i = refl
+zero-anywhere (suc n) zero = refl
+zero-anywhere (suc n) (suc i) = zero-anywhere n i
 
 -- ---- elements
 

@@ -15,6 +15,7 @@ ghost use mathlib.Core.Path.{_≡_};
 ghost use mathlib.Core.Bool.{true, cond};
 ghost use Prim.Native.Nat.{_+_, _^_, _≤_, _<_};
 ghost use lib.ListN.{length, getD};
+ghost use Rattle.record.specs.Layout.{twoBytes};
 ghost use Rattle.history.specs.History.{mostRecords, recordAt, editsOf, isSetOn, setsOn, isTarget};
 ghost use Rattle.history.specs.Answers.{largerSomewhere, tears};
 ghost use Rattle.history.specs.Code.{bump, aheadElsewhere, repeatedAgainst, earlyAgainst};
@@ -35,7 +36,7 @@ pub struct Surveyed {
 
 // The edit in place p of a table of records; a place past the end holds zeros.
 pub fn decode_at(recs: &[u8], p: usize) -> Edit
-    requires { ⌜ p < 65536 ⌝ }
+    requires { ⌜ p < twoBytes ⌝ }
     ensures { λ r. ⌜ r ≡ recordAt (now (recs .entry)) p ⌝ }
 {
     let at = p * RECORD;
@@ -48,7 +49,7 @@ pub fn decode_at(recs: &[u8], p: usize) -> Edit
 
 // The kind of the edit in place p, read where it stands.
 pub fn kind_at(recs: &[u8], p: usize) -> u8
-    requires { ⌜ p < 65536 ⌝ }
+    requires { ⌜ p < twoBytes ⌝ }
     ensures { λ r. ⌜ r ≡ recordAt (now (recs .entry)) p .kind ⌝ }
 {
     record::byte_at(recs, p * RECORD + AT_KIND)
@@ -128,7 +129,7 @@ fn is_target(e: Edit, a: Edit) -> bool
 }
 
 // Whether e is a Set on the Create s.q.
-pub fn is_set_on(s: Site, q: Seq, e: Edit) -> bool
+fn is_set_on(s: Site, q: Seq, e: Edit) -> bool
     ensures { λ r. ⌜ r ≡ isSetOn s q e ⌝ }
 {
     (e.kind == SET) & is_same(e.tsite, e.tseq, s, q)

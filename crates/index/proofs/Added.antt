@@ -6,25 +6,16 @@ use mathlib.Core.Bool.{true, false, cond}
 use mathlib.Core.List.{List, [], _∷_, _++_}
 use Prim.Native.Nat.{ℕ, suc, _+_, _*_, _≤_, _<_}
 use native.Mathlib.Omega.{arith}
-use native.Mathlib.Decide.{decLt, ℕ-discrete}
+use native.Mathlib.Decide.{ℕ-discrete}
 use lib.Dec.{eqb}
-use lib.ListN.{
-  length,
-  getD,
-  set,
-  replicate,
-  length-set,
-  length-append,
-  getD-replicate,
-  List·getD-append,
-  List·getD-eq-default,
-}
+use lib.ListN.{length, getD, set, replicate, length-set, length-append, List·getD-append}
 use lib.Seq.{getD-set-same, getD-set-other, getD-append-seam}
 use borrow.Author.Tests.{eqb-true, eq-eqb}
 use Rattle.ground.specs.Sorted.{filter}
 use Rattle.ground.proofs.Bools.{clash, off, both, and-on}
 use Rattle.ground.proofs.Numbers.{last}
 use Rattle.ground.proofs.Below.{all-at, all-on}
+use Rattle.ground.proofs.Places.{zero-anywhere}
 use Rattle.record.specs.declared.Edit.{Edit}
 use Rattle.record.specs.Layout.{createKind, setKind}
 use Rattle.record.specs.Form.{isCreate, isSet}
@@ -55,15 +46,8 @@ index-starts rs ps ns ms a b d =
       numbered = λ p l. absurd (omega arith);
       counted = λ p l. absurd (omega arith);
       rows = λ p l. absurd (omega arith);
-      fresh = λ o l. zeros o;
+      fresh = λ o l. zero-anywhere mostObjects o;
     }
-  where
-    zeros : (o : ℕ) → _≡_ {A = ℕ} (getD (replicate mostObjects 0) o 0) 0
-    zeros o = go (decLt o mostObjects)
-      where
-        go : Dec (o < mostObjects) → _≡_ {A = ℕ} (getD (replicate mostObjects 0) o 0) 0
-        go (yes l) = getD-replicate mostObjects o 0 0 l
-        go (no d) = List·getD-eq-default (replicate mostObjects 0) 0 {n = o} (omega arith)
 
 pub none-numbered : (rs : List ℕ) → 0 ≡ numberAt rs 0
 unfolding creates editsOf filter

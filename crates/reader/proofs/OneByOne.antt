@@ -1,17 +1,26 @@
 -- A reader of a stretch of n records gives these, in their order, and then the end mark each time it is called.
 -- Assumes nothing.
 use mathlib.Core.Path.{_≡_, sym, ap, _∙_}
-use mathlib.Core.List.{List, _++_, append-nil}
+use mathlib.Core.Bool.{cond}
+use mathlib.Core.List.{List, [], _∷_, _++_, append-nil}
 use Prim.Native.Nat.{ℕ, zero, suc, _+_, _*_, _≤_, _<_}
 use native.Mathlib.Omega.{arith}
 use lib.ListN.{length}
 use lib.Seq.{append-snoc}
 use borrow.Author.Tests.{le-leb, lt-leb}
+use Rattle.record.specs.declared.Edit.{Edit}
 use Rattle.record.specs.Layout.{recordLength}
 use Rattle.history.specs.History.{recordAt, editsOf}
 use Rattle.trailer.specs.Trailer.{located}
 use Rattle.block.proofs.Located.{accepted-at}
-use Rattle.reader.specs.Reader.{recordFrom, endMark, takenAt, givenFrom}
+use Rattle.reader.specs.Reader.{recordFrom, endMark, takenAt}
+
+-- the edits that a reader of s at the place p gives before its first end mark, called k times
+unfoldable pub givenFrom : ℕ → List ℕ → ℕ → List Edit
+givenFrom zero s p = []
+givenFrom (suc k) s p =
+    let t = takenAt s p in
+    cond (t .given .found) (t .given .edit ∷ givenFrom k s (t .place)) []
 
 module _ (s : List ℕ) where
   -- where a record is left, it is given, and the place moves past it

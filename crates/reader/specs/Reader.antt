@@ -1,12 +1,11 @@
 -- What a reader gives that holds a stretch of records and its place in it: the record there, and the place after it;
 -- or, with fewer than 28 bytes left, the end mark, and the same place. Assumes nothing.
-use Prim.Native.Nat.{ℕ, zero, suc, _+_}
-use mathlib.Core.List.{List, [], _∷_}
+use Prim.Native.Nat.{ℕ, _+_}
+use mathlib.Core.List.{List, []}
 use mathlib.Core.Bool.{true, false, cond}
 use lib.ListN.{length, drop}
 use lib.Dec.{leb}
 use denote.Ref.{now}
-use Rattle.record.specs.declared.Edit.{Edit}
 use Rattle.record.specs.Layout.{recordLength}
 use Rattle.record.specs.Record.{decodeOf}
 use Rattle.reader.specs.declared.Given.{Given}
@@ -37,10 +36,3 @@ movedOn r = record { stretch = r .stretch; place = takenAt (now (r .stretch)) (r
 -- what a reader gives that is made at the start of s and called for the second time
 abbrev pub secondOf : List ℕ → Given
 secondOf s = takenAt s (takenAt s 0 .place) .given
-
--- the edits that a reader of s at the place p gives before its first end mark, called k times
-unfoldable pub givenFrom : ℕ → List ℕ → ℕ → List Edit
-givenFrom zero s p = []
-givenFrom (suc k) s p =
-    let t = takenAt s p in
-    cond (t .given .found) (t .given .edit ∷ givenFrom k s (t .place)) []

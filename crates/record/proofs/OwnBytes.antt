@@ -7,6 +7,7 @@ use native.Mathlib.Omega.{arith}
 use lib.ListN.{length, getD, set, take, drop, replicate, List·getD-eq-default}
 use lib.Seq.{getD-set-same, getD-set-other, getD-take, length-take-le}
 use native.Mathlib.Decide.{decLt, ℕ-discrete}
+use Rattle.ground.proofs.Places.{zero-anywhere}
 use Rattle.record.specs.Layout.{mostSites, kindAt, siteAt, seqAt, vectorAt, targetAt, keyAt, targetSeqAt, valueAt}
 use Rattle.record.specs.Record.{two, counts, decodeOf}
 use Rattle.record.proofs.Bytes.{counts-more, two-drop}
@@ -18,9 +19,7 @@ Same s t = (i : ℕ) → getD s i 0 ≡ getD t i 0
 -- ---- copied one by one
 
 pub zeros : (n : ℕ) (t : List ℕ) → Same (replicate n 0) (take 0 t)
-zeros zero t i = refl
-zeros (suc n) t zero = refl
-zeros (suc n) t (suc i) = zeros n t i
+zeros n t = zero-anywhere n
 
 pub one-more :
     (s t : List ℕ) (n : ℕ) → n < length s → n < length t → Same s (take n t) →

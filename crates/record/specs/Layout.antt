@@ -9,6 +9,10 @@ mostSites = 8
 abbrev pub keys : ℕ
 keys = 16
 
+-- a number of two bytes is below this one
+abbrev pub twoBytes : ℕ
+twoBytes = 65536
+
 abbrev pub createKind : ℕ
 createKind = 1
 
@@ -42,4 +46,4 @@ abbrev pub valueAt : ℕ
 valueAt = targetAt + 4
 
 abbrev pub recordLength : ℕ
-recordLength = targetAt + 8
+recordLength = valueAt + 4

@@ -34,7 +34,7 @@ pub const AT_TARGET_SEQ: usize = AT_TARGET + 2;
 const AT_VALUE: usize = AT_TARGET + 4;
 
 // The bytes of a record.
-pub const RECORD: usize = AT_TARGET + 8;
+pub const RECORD: usize = AT_VALUE + 4;
 
 // The number of a laptop. It is never taken for a sequence number.
 pub struct Site(pub u8);

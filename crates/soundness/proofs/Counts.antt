@@ -2,7 +2,7 @@
 use mathlib.Core.Path.{_≡_, refl, sym, _∙_}
 use mathlib.Core.Bool.{Bool, true, false, _&&_, cond, and-true, and-false}
 use mathlib.Core.List.{List}
-use Prim.Native.Nat.{ℕ, zero, suc, _+_, _≤_, _<_}
+use Prim.Native.Nat.{ℕ, _+_, _≤_, _<_}
 use native.Mathlib.Omega.{arith}
 use native.Mathlib.Numerals.{add-one}
 use native.Mathlib.Decide.{ℕ-discrete}
@@ -13,30 +13,19 @@ use borrow.Author.Tests.{ne-eqb}
 use borrow.Author.Count.{below-more}
 use Rattle.ground.specs.Sorted.{filter}
 use Rattle.ground.proofs.Bools.{eqb-self}
-use Rattle.ground.proofs.Snoc.{filter-length-snoc}
 use Rattle.record.specs.declared.Edit.{Edit}
 use Rattle.record.specs.Form.{isCreate, isSet}
 use Rattle.history.specs.History.{recordAt, editsOf, creates, mostRecords}
+use Rattle.history.proofs.History.{chosen-more, chosen-few}
 use Rattle.walking.specs.Walk.{placeOf}
 use Rattle.soundness.specs.Passes.{aimsAt, Numbered, Aimed}
 
 -- ---- those of the first n records that pass f
 
-pub count-more :
+count-more :
     (f : Edit → Bool) (rs : List ℕ) (n : ℕ) →
     length (filter f (editsOf rs (n + 1))) ≡ length (filter f (editsOf rs n)) + cond (f (recordAt rs n)) 1 0
-unfolding editsOf
-count-more f rs n = rw add-one (filter-length-snoc f (editsOf rs n) (recordAt rs n))
-
-one-le : (b : Bool) → cond b 1 0 ≤ 1
-one-le true = omega arith
-one-le false = omega arith
-
-pub count-le : (f : Edit → Bool) (rs : List ℕ) (n : ℕ) → length (filter f (editsOf rs n)) ≤ n
-unfolding editsOf filter
-count-le f rs zero = omega arith
-count-le f rs (suc n) =
-    omega (arith, filter-length-snoc f (editsOf rs n) (recordAt rs n), count-le f rs n, one-le (f (recordAt rs n)))
+count-more f rs n = rw add-one (chosen-more f rs n)
 
 -- ---- the Creates
 
@@ -52,7 +41,7 @@ creates-more rs n = sym (count-more isCreate rs n)
 
 pub creates-le : (rs : List ℕ) (n : ℕ) → length (creates (editsOf rs n)) ≤ n
 unfolding creates
-creates-le rs n = count-le isCreate rs n
+creates-le rs n = chosen-few isCreate rs n
 
 pub numbered-more :
     (rs ns : List ℕ) (n k : ℕ) →
@@ -73,7 +62,7 @@ aimed-none rs ps p l = getD-replicate mostRecords p 0 0 l
 
 pub aimed-le :
     (rs ps ts : List ℕ) (n p : ℕ) → Aimed rs n ps ts → p < mostRecords → getD ts p 0 ≤ n
-aimed-le rs ps ts n p h l = omega (arith, h p l, count-le (aimsAt ps p) rs n)
+aimed-le rs ps ts n p h l = omega (arith, h p l, chosen-few (aimsAt ps p) rs n)
 
 -- one more in place p, where b holds
 raise-at :

@@ -14,6 +14,7 @@ ghost use Prim.Native.Nat.{_^_, _≤_, _<_};
 ghost use lib.Dec.{eqb, ltb};
 ghost use lib.ListN.{length};
 ghost use Rattle.ground.specs.Below.{all};
+ghost use Rattle.record.specs.Layout.{twoBytes};
 ghost use Rattle.group.specs.Row.{mostObjects, mostGroups};
 ghost use Rattle.history.specs.History.{mostRecords, editsOf, creates};
 ghost use Rattle.tables.specs.Tables.{groupsLength};
@@ -122,7 +123,7 @@ fn entry_sound(
     p: usize,
     k: usize,
 ) -> bool
-    requires { ⌜ (p < 65536) × Numbered (now recs) n (now numbers) × Tallied (now recs) n (now tallies) ⌝ }
+    requires { ⌜ (p < twoBytes) × Numbered (now recs) n (now numbers) × Tallied (now recs) n (now tallies) ⌝ }
     ensures { λ r. ⌜ r ≡ entrySound (now (recs .entry)) n o p k ⌝ }
 {
     let kind = history::kind_at(recs, p);

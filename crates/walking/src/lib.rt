@@ -14,7 +14,7 @@ use record::Site;
 ghost use mathlib.Core.Path.{_≡_};
 ghost use Prim.Native.Nat.{_-_, _≤_, _<_};
 ghost use lib.ListN.{length};
-ghost use Rattle.record.specs.Layout.{mostSites};
+ghost use Rattle.record.specs.Layout.{mostSites, twoBytes};
 ghost use Rattle.history.specs.History.{mostRecords, recordAt};
 ghost use Rattle.history.specs.Answers.{largerSomewhere};
 ghost use Rattle.walking.specs.Walk.{placesLength, placeOf, seenBefore, tornBy, tornByLatest};
@@ -39,7 +39,7 @@ pub fn place_at(places: &[u16], s: Site, q: Seq) -> u16
 
 // The place, by the index, of the target of the edit in place p; that edit's bytes are read where they stand.
 pub fn target_place(recs: &[u8], places: &[u16], p: usize) -> u16
-    requires { ⌜ p < 65536 ⌝ }
+    requires { ⌜ p < twoBytes ⌝ }
     ensures { λ r. ⌜ r ≡ placeOf (now (places .entry)) (recordAt (now (recs .entry)) p .tsite .0)
         (recordAt (now (recs .entry)) p .tseq .0) ⌝ }
 {
