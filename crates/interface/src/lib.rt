@@ -19,8 +19,8 @@ ghost use Rattle.block.specs.Reading.{readingOf};
 ghost use Rattle.numbered.specs.Numbered.{lineOf};
 ghost use Rattle.list.specs.Printing.{listingOf};
 
-// Opens an empty drawing of n sites; refused, everything stays as it was.
 #[no_mangle]
+// Opens an empty drawing of n sites; refused, everything stays as it was.
 pub extern "C" fn spireslate_open(
     c: &mut Counters,
     records: &mut [u8],
@@ -38,8 +38,8 @@ pub extern "C" fn spireslate_open(
     opened.number
 }
 
-// An arriving edit, any bytes, at any tables: 8, then 1 to 7 in turn, the first that applies; else the edit is taken.
 #[no_mangle]
+// An arriving edit, any bytes, at any tables: 8, then 1 to 7 in turn, the first that applies; else the edit is taken.
 pub extern "C" fn spireslate_arrive(
     c: &mut Counters,
     records: &mut [u8],
@@ -58,8 +58,8 @@ pub extern "C" fn spireslate_arrive(
     arrived.number
 }
 
-// Reads a file, any bytes, into the tables: lengths (8), 10, 9, then its records in turn.
 #[no_mangle]
+// Reads a file, any bytes, into the tables: lengths (8), 10, 9, then its records in turn.
 pub extern "C" fn spireslate_read(
     c: &mut Counters,
     records: &mut [u8],
@@ -78,8 +78,8 @@ pub extern "C" fn spireslate_read(
     read.answer
 }
 
-// Whether the tables are what their records give from an empty drawing: 0, else 8.
 #[no_mangle]
+// Whether the tables are what their records give from an empty drawing: 0, else 8.
 pub extern "C" fn spireslate_check(
     c: Counters,
     records: &[u8],
@@ -101,7 +101,7 @@ pub struct WriteAnswer {
 }
 
 // The same answer, by its number.
-fn numbered(w: Written) -> WriteAnswer
+fn by_number(w: Written) -> WriteAnswer
     ensures { λ r. ⌜ (r .number ≡ numberOf (w .answer)) × (r .bytes ≡ w .bytes) ⌝ }
 {
     let said = w.answer;
@@ -111,8 +111,8 @@ fn numbered(w: Written) -> WriteAnswer
     }
 }
 
-// Writes the block of the tables into out from the start on; refused, everything stays as it was.
 #[no_mangle]
+// Writes the block of the tables into out from the start on; refused, everything stays as it was.
 pub extern "C" fn spireslate_write(
     c: Counters,
     records: &[u8],
@@ -126,11 +126,11 @@ pub extern "C" fn spireslate_write(
         (now (out .entry)) start ⌝ }
 {
     let w = block::write(c, records, objects, groups, out, start);
-    numbered(w)
+    by_number(w)
 }
 
-// Puts line k of the list into out from the start on; refused, everything stays as it was.
 #[no_mangle]
+// Puts line k of the list into out from the start on; refused, everything stays as it was.
 pub extern "C" fn spireslate_line(
     c: Counters,
     records: &[u8],
@@ -145,12 +145,12 @@ pub extern "C" fn spireslate_line(
         (now (out .entry)) start ⌝ }
 {
     let w = numbered::print_line(c, records, objects, groups, k, out, start);
-    numbered(w)
+    by_number(w)
 }
 
+#[no_mangle]
 // Puts all lines of the list into out from the start on, if there is room for the longest list; refused, everything
 // stays as it was.
-#[no_mangle]
 pub extern "C" fn spireslate_list(
     c: Counters,
     records: &[u8],
@@ -164,7 +164,7 @@ pub extern "C" fn spireslate_list(
         (now (out .entry)) start ⌝ }
 {
     let w = list::print_list(c, records, objects, groups, out, start);
-    numbered(w)
+    by_number(w)
 }
 
 // The number of the answer to a file, what its trailer says, and where the stretch of its records starts.
@@ -176,8 +176,8 @@ pub struct Located {
     pub start: usize,
 }
 
-// Locates the block of a file, any bytes: 10, then 9; refused, N, the records and the start are 0.
 #[no_mangle]
+// Locates the block of a file, any bytes: 10, then 9; refused, N, the records and the start are 0.
 pub extern "C" fn spireslate_locate(file: &[u8]) -> Located
     ensures { λ r. ⌜ (found (r .number) (r .sites) (r .records) ≡ located (now (file .entry)) .trailer)
         × (r .start ≡ located (now (file .entry)) .start) ⌝ }
