@@ -1,4 +1,4 @@
--- `interface::spireslate_line` meets its contract: what `list::print_line` gives, with the answer's number.
+-- `interface::spireslate_line` meets its contract: what `numbered::print_line` gives, with the answer's number.
 -- Assumes nothing.
 use borrow.Author.Needs.{needs}
 use Rattle.interface.proofs.spireslate_line.Statement.{statement}
