@@ -59,7 +59,7 @@ module _ (t : Tables) (b : List ℕ) (s : Sound t) (wide : length (t .counters .
   rs = t .records
 
   -- the identity of an accepted edit is new
-  pub identity-new : (p : ℕ) → p < n → recordAt rs p .site .0 ≡ e .site .0 → recordAt rs p .seq .0 ≡ e .seq .0 → ⊥
+  identity-new : (p : ℕ) → p < n → recordAt rs p .site .0 ≡ e .site .0 → recordAt rs p .seq .0 ≡ e .seq .0 → ⊥
   unfolding isRepeated
   identity-new p l hs hq =
       let x = recordAt rs p .site .0 in

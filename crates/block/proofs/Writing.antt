@@ -20,7 +20,7 @@ use Rattle.output.proofs.Lent.{lent-back, not-put, put-whole}
 
 -- ---- the block
 
-pub block-long :
+block-long :
     (t : Tables) → sound t ≡ true → length (blockOf t) ≡ t .counters .records * recordLength + trailerLength
 unfolding blockOf
 block-long t ok =

@@ -70,7 +70,7 @@ module _ (sites : ℕ) (rs : List ℕ) (n : ℕ) where
   abbrev b : List ℕ
   b = bytesAt rs n
 
-  pub refuses-none-before :
+  refuses-none-before :
       replayOf sites rs (suc n) .answer ≡ 0 → (replayOf sites rs n .answer ≡ 0) × (answerTo t b ≡ 0)
   unfolding replayOf acceptanceOf
   refuses-none-before h = go (eqb (r .answer) 0) refl (eqb (answerTo t b) 0) refl h
