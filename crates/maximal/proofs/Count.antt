@@ -46,6 +46,7 @@ module _ (c : ℕ → ℕ → Bool) (n m : ℕ) (S U : ℕ → Bool) (sm : (i j 
       (λ i b. let (x, y) = both (bit h i) (below n S i) b in top p (q .isFree) s i y x)
       (λ i b. and-on (bit h i) (below n S i) (s i b) (p .isFree .within i b)))
 
+  -- so the part has no more groups than the whole
   pub no-more-groups : length (groups c n S) ≤ length (groups c m U)
   no-more-groups =
       not-longer cut (groups c n S) (groups c m U) (groups-ascending c n S)

@@ -26,6 +26,8 @@ module _
     (b : List ℕ)
     (t′ : Tables)
     (a : outcomeOf 0 t′ ≡ acceptanceOf t b) where
+  -- ---- the record is taken
+
   answered : answerTo t b ≡ 0
   answered = was-taken t t′ b a .0
 
@@ -47,6 +49,8 @@ module _
       sym
       (ap (λ (rs : List ℕ). recordAt rs p) grown
       ∙ put-before (t .records) (t .counters .records) b (x .whole) (omega (arith, k .records-long, x .room)) p l)
+
+  -- ---- what the index needs
 
   pub holds-on : Holds (t′ .counters) (t′ .records)
   holds-on =
