@@ -1,9 +1,9 @@
--- What is known of an edit that passes 1 to 6, and of one that is accepted. Assumes nothing.
-use mathlib.Core.Path.{_≡_, refl, sym, _∙_}
+-- What is known of an edit that passes 1 to 6, of one that is accepted, and of the tables after it. Assumes nothing.
+use mathlib.Core.Path.{_≡_, refl, sym, ap, _∙_}
 use mathlib.Core.Logic.{inl, inr}
 use mathlib.Core.Bool.{Bool, true, false, not, _&&_, _||_, cond}
 use mathlib.Core.List.{List}
-use Prim.Native.Nat.{ℕ, _≤_, _<_}
+use Prim.Native.Nat.{ℕ, _+_, _≤_, _<_}
 use native.Mathlib.Omega.{arith}
 use lib.ListN.{length, getD}
 use lib.Dec.{eqb, leb, ltb}
@@ -17,8 +17,19 @@ use Rattle.record.proofs.WellFormed.{WellFormed, well-formed}
 use Rattle.history.specs.History.{mostRecords, isTarget}
 use Rattle.history.specs.Answers.{isRepeated, isEarly, isTorn, isAstray, passes}
 use Rattle.group.specs.Row.{mostObjects, mostSets, mostGroups}
-use Rattle.tables.specs.Tables.{Tables, heldBy}
-use Rattle.arrival.specs.Arrival.{matesOf, groupsAfter, isFull, isCrowded, answerTo}
+use Rattle.tables.specs.Tables.{Tables, Outcome, outcomeOf, heldBy}
+use Rattle.arrival.specs.Arrival.{
+  matesOf,
+  groupsAfter,
+  isFull,
+  isCrowded,
+  answerTo,
+  putRecord,
+  withCreate,
+  withSet,
+  taken,
+  acceptanceOf,
+}
 use Rattle.arrival.specs.Code.{six, sixth}
 use Rattle.arrival.proofs.Reasons.{none-present}
 use Rattle.arrival.proofs.Six.{answer-is}
@@ -100,3 +111,32 @@ accepted t b h = go (eqb (sixth t b) 0) refl (isCrowded t (decodeOf b)) refl (sy
               (then-off (isSet (decodeOf b)) _ k (unfold isCrowded in q));
         }
     go false p y q z = absurd (eqb-false (sixth t b) 0 p z)
+
+-- ---- an outcome of 0 is the edit taken
+
+pub was-taken :
+    (u t : Tables) (b : List ℕ) → outcomeOf 0 t ≡ acceptanceOf u b → (answerTo u b ≡ 0) × (t ≡ taken u b)
+unfolding acceptanceOf
+was-taken u t b h = go (eqb (answerTo u b) 0) refl h
+  where
+    go : (x : Bool) → eqb (answerTo u b) 0 ≡ x →
+        outcomeOf 0 t ≡ cond x (outcomeOf 0 (taken u b)) (outcomeOf (answerTo u b) u) →
+        (answerTo u b ≡ 0) × (t ≡ taken u b)
+    go true e q = (eqb-true (answerTo u b) 0 e, ap (λ (o : Outcome). o .after) q)
+    go false e q = absurd (eqb-false (answerTo u b) 0 e (sym (ap (λ (o : Outcome). o .answer) q)))
+
+-- which is one record more
+pub taken-records :
+    (u : Tables) (b : List ℕ) →
+    (taken u b .records ≡ putRecord (u .records) (u .counters .records) b)
+    × (taken u b .counters .records ≡ u .counters .records + 1)
+    × (taken u b .counters .sites ≡ u .counters .sites)
+unfolding withCreate withSet
+taken-records u b = go (isCreate (decodeOf b))
+  where
+    go : (k : Bool) →
+        (cond k (withCreate u b) (withSet u b) .records ≡ putRecord (u .records) (u .counters .records) b)
+        × (cond k (withCreate u b) (withSet u b) .counters .records ≡ u .counters .records + 1)
+        × (cond k (withCreate u b) (withSet u b) .counters .sites ≡ u .counters .sites)
+    go true = (refl, refl, refl)
+    go false = (refl, refl, refl)

@@ -3,32 +3,23 @@
 use mathlib.Core.Path.{_≡_, refl, sym, ap, ap₂, _∙_}
 use mathlib.Core.Logic.{inl, inr}
 use mathlib.Core.Bool.{Bool, true, false, not, cond}
-use mathlib.Core.List.{List, [], _∷_, _++_, append-nil}
+use mathlib.Core.List.{List, [], _∷_, _++_}
 use Prim.Native.Nat.{ℕ, zero, suc, _+_, _-_, _*_, _≤_, _<_}
 use native.Mathlib.Omega.{arith}
 use native.Mathlib.Decide.{ℕ-discrete}
-use lib.ListN.{length, getD, take, drop, replicate}
+use lib.ListN.{length, take, drop, replicate}
 use lib.Seq.{drop-cons}
 use lib.Dec.{eqb}
 use borrow.Author.Tests.{eqb-true}
-use Rattle.ground.specs.Sorted.{any, filter}
+use Rattle.ground.specs.Sorted.{any}
 use Rattle.ground.proofs.Numbers.{last}
-use Rattle.ground.proofs.Snoc.{filter-snoc}
-use Rattle.record.specs.declared.Site.{Site}
-use Rattle.record.specs.declared.Seq.{Seq}
 use Rattle.record.specs.declared.Edit.{Edit}
 use Rattle.record.specs.Layout.{mostSites}
 use Rattle.record.specs.Record.{decodeOf}
 use Rattle.record.specs.Form.{isCreate, isSet}
-use Rattle.causal.specs.Causal.{doConflict}
-use Rattle.causal.proofs.Laws.{same-reflexive, conflict-symmetric, conflict-irreflexive}
-use Rattle.maximal.specs.Groups.{bit, every, groups}
+use Rattle.maximal.specs.Groups.{groups}
 use Rattle.maximal.specs.Step.{step}
-use Rattle.maximal.specs.Arrivals.{rel, groupsOf}
-use Rattle.maximal.proofs.Groups.{no-elements}
-use Rattle.maximal.proofs.Arrivals.{arrives}
-use Rattle.history.specs.History.{recordAt, editsOf, isSetOn, setsOn, isTarget, objectOf, conflictsWith}
-use Rattle.history.proofs.Conflicts.{conflicts-bit}
+use Rattle.history.specs.History.{recordAt, editsOf, isTarget, objectOf, conflictsWith}
 use Rattle.group.specs.Row.{mostGroups, row, putRow}
 use Rattle.tables.specs.Tables.{Tables, outcomeOf, heldBy, placeAt, groupsAt, emptyDrawing, entryLength}
 use Rattle.soundness.proofs.Facts.{Sound}
@@ -45,7 +36,7 @@ use Rattle.arrival.specs.Arrival.{
   taken,
   acceptanceOf,
 }
-use Rattle.arrival.specs.Truth.{noEdit, trueGroups}
+use Rattle.arrival.specs.Truth.{trueGroups}
 use Rattle.arrival.proofs.Admitted.{Accepted, accepted, admitted-target, set-or-create}
 use Rattle.arrival.proofs.Records.{put-before, put-here}
 use Rattle.arrival.proofs.Entries.{
@@ -56,6 +47,7 @@ use Rattle.arrival.proofs.Entries.{
   entry-here,
   entry-other,
 }
+use Rattle.arrival.proofs.TrueGroups.{groups-same, groups-more, groups-first}
 use Rattle.arrival.proofs.Rows.{row-back, row-other}
 use Rattle.arrival.proofs.Kept.{room, held-after}
 use Rattle.arrival.proofs.KeptCreate.{create-not-set, no-set-held}
@@ -72,58 +64,6 @@ RowsTrue t =
 pub record Faithful (t : Tables) : Type 0 where
   pub kept : Kept t
   pub rows : RowsTrue t
-
--- ---- the groups of an object, one edit more
-
-groups-same :
-    (es : List Edit) (c e : Edit) → isSetOn (c .site) (c .seq) e ≡ false → trueGroups (es ++ (e ∷ [])) c ≡ trueGroups
-    es c
-unfolding trueGroups setsOn
-groups-same es c e d =
-    ap (groupsOf noEdit doConflict)
-    (filter-snoc (isSetOn (c .site) (c .seq)) es e
-    ∙ rw d (append-nil (filter (isSetOn (c .site) (c .seq)) es)))
-
-mask-bits :
-    (e : Edit) (ms : List Edit) (i : ℕ) → i < length ms → bit (conflictsWith e ms) i ≡ doConflict e (getD ms i noEdit)
-unfolding bit
-mask-bits e ms i l =
-    ap (λ (x : ℕ). eqb x 1) (conflicts-bit e ms noEdit i l) ∙ one (doConflict (getD ms i noEdit) e)
-    ∙ conflict-symmetric (getD ms i noEdit) e
-  where
-    one : (b : Bool) → eqb (cond b 1 0) 1 ≡ b
-    one true = refl
-    one false = refl
-
--- a Set on the object stands last among its Sets
-sets-more :
-    (es : List Edit) (e : Edit) → isSet e ≡ true →
-    setsOn (e .tsite) (e .tseq) (es ++ (e ∷ [])) ≡ setsOn (e .tsite) (e .tseq) es ++ (e ∷ [])
-unfolding setsOn
-sets-more es e k = filter-snoc (isSetOn (e .tsite) (e .tseq)) es e ∙ rw (k, same-reflexive (e .tsite) (e .tseq))
-
--- the step gives the groups of the Sets with the new one
-groups-more :
-    (es : List Edit) (e : Edit) → isSet e ≡ true → (c : Edit) → c .site ≡ e .tsite → c .seq ≡ e .tseq →
-    step (conflictsWith e (setsOn (e .tsite) (e .tseq) es)) (length (setsOn (e .tsite) (e .tseq) es)) (trueGroups es c)
-    ≡ trueGroups (es ++ (e ∷ [])) c
-unfolding trueGroups
-groups-more es e k c hs hq =
-    let ms = setsOn (e .tsite) (e .tseq) es in
-    let old : setsOn (c .site) (c .seq) es ≡ ms = ap₂ (λ (x : Site) (y : Seq). setsOn x y es) hs hq in
-    let new : setsOn (c .site) (c .seq) (es ++ (e ∷ [])) ≡ ms ++ (e ∷ [])
-    = ap₂ (λ (x : Site) (y : Seq). setsOn x y (es ++ (e ∷ []))) hs hq ∙ sets-more es e k in
-    ap (λ (l : List Edit). step (conflictsWith e ms) (length ms) (groupsOf noEdit doConflict l)) old
-    ∙ arrives noEdit doConflict conflict-symmetric conflict-irreflexive ms e (conflictsWith e ms) (mask-bits e ms)
-    ∙ ap (groupsOf noEdit doConflict) (sym new)
-
-groups-first : (es : List Edit) (c : Edit) → length (setsOn (c .site) (c .seq) es) ≡ 0 → trueGroups es c ≡ 0 ∷ []
-unfolding trueGroups
-groups-first es c h = go (setsOn (c .site) (c .seq) es) h
-  where
-    go : (ms : List Edit) → length ms ≡ 0 → groupsOf noEdit doConflict ms ≡ 0 ∷ []
-    go [] h = unfold groupsOf in no-elements (rel noEdit doConflict []) every
-    go (m ∷ ms) h = absurd (omega arith)
 
 -- ---- a Set whose target is held: the step gives all maximal sets of the object's Sets with the new one
 
@@ -204,7 +144,7 @@ module _ (t : Tables) (b : List ℕ) (f : Faithful t) (a : Accepted t b) where
         (put-here rs n b (a .admitted .whole) (room t b s wide (a .admitted))))
         ∙ ap (λ (q : ℕ). trueGroups (editsOf rs′ (n + 1)) (recordAt rs′ q)) (sym ep)
 
-    pub create-keeps-true : RowsTrue (withCreate t b)
+    create-keeps-true : RowsTrue (withCreate t b)
     unfolding withCreate
     create-keeps-true o l =
         let l′ : o < suc m = omega arith in
@@ -255,7 +195,7 @@ module _ (t : Tables) (b : List ℕ) (f : Faithful t) (a : Accepted t b) where
         ∙ ap (λ (q : ℕ). trueGroups (editsOf rs′ (n + 1)) (recordAt rs′ q))
         (sym (other-place (t .objects) o x sets (length after) d))
 
-    pub set-keeps-true : RowsTrue (withSet t b)
+    set-keeps-true : RowsTrue (withSet t b)
     unfolding withSet
     set-keeps-true o l =
         let l′ : o < t .counters .objects = omega arith in

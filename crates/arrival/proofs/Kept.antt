@@ -8,8 +8,8 @@ use Prim.Native.Nat.{ℕ, zero, suc, _+_, _-_, _*_, _≤_, _<_}
 use native.Mathlib.Omega.{arith}
 use native.Mathlib.Numerals.{add-one}
 use native.Mathlib.Decide.{ℕ-discrete}
-use lib.ListN.{length, getD, set, drop}
-use lib.Seq.{getD-set-same, getD-set-other, getD-drop}
+use lib.ListN.{length, getD, set}
+use lib.Seq.{getD-set-same, getD-set-other}
 use lib.Dec.{eqb}
 use borrow.Author.Tests.{eq-eqb, ne-eqb}
 use Rattle.ground.specs.Below.{all}
@@ -30,7 +30,7 @@ use Rattle.tables.specs.Tables.{Tables, heldBy, recordsLength}
 use Rattle.soundness.proofs.Facts.{Sound, Entry, ZeroFrom}
 use Rattle.arrival.specs.Arrival.{putRecord}
 use Rattle.arrival.proofs.Admitted.{Admitted, admitted-passes}
-use Rattle.arrival.proofs.Records.{put-long, put-behind, put-before, put-here, put-edits-before, put-edits}
+use Rattle.arrival.proofs.Records.{put-long, put-after, put-before, put-here, put-edits-before, put-edits}
 
 -- ---- counts over one edit more
 
@@ -116,27 +116,23 @@ module _ (t : Tables) (b : List ℕ) (s : Sound t) (wide : length (t .counters .
   -- past the last record there are zeros
   pub records-zero-after : ZeroFrom rs′ ((n + 1) * recordLength)
   records-zero-after i l k =
-      let m = n * recordLength + recordLength in
-      let j = i - m in
-      let w : m + j ≡ i = omega arith in
-      rw (← w)
-      (sym (getD-drop m rs′ j 0) ∙ ap (λ (r : List ℕ). getD r j 0) (put-behind rs n b (a .whole) room)
-      ∙ getD-drop m rs j 0 ∙ s .records-zero (m + j) (omega arith) (omega (arith, put-long rs n b (a .whole) room)))
+      put-after rs n b (a .whole) room i (omega arith)
+      ∙ s .records-zero i (omega arith) (omega (arith, put-long rs n b (a .whole) room))
 
   -- the place p < n, looked at after the edit
   module _ (p : ℕ) (l : p < n) where
     same : recordAt rs′ p ≡ recordAt rs p
     same = put-before rs n b (a .whole) room p l
 
-    pub create-after : isCreate (recordAt rs′ p) ≡ isCreate (recordAt rs p)
+    create-after : isCreate (recordAt rs′ p) ≡ isCreate (recordAt rs p)
     create-after = ap isCreate same
 
-    pub number-after : length (creates (editsOf rs′ p)) ≡ length (creates (editsOf rs p))
+    number-after : length (creates (editsOf rs′ p)) ≡ length (creates (editsOf rs p))
     number-after =
         ap (λ (es : List Edit). length (creates es)) (put-edits-before rs n b (a .whole) room p (omega arith))
 
     -- the Sets on the Create in it are those before and the edit, if it is one
-    pub sets-after :
+    sets-after :
         length (setsOn (recordAt rs′ p .site) (recordAt rs′ p .seq) (editsOf rs′ (n + 1)))
         ≡ length (setsOn (recordAt rs p .site) (recordAt rs p .seq) (heldBy t))
         + cond (isSetOn (recordAt rs p .site) (recordAt rs p .seq) e) 1 0

@@ -47,6 +47,8 @@ create-not-set e h =
     let k : e .kind ≡ createKind = eqb-true (e .kind) createKind h in
     ne-eqb (e .kind) setKind (λ q. omega arith)
 
+-- ---- an accepted edit is the first of its identity
+
 module _ (t : Tables) (b : List ℕ) (s : Sound t) (wide : length (t .counters .held) ≡ mostSites)
     (a : Admitted t b) where
   abbrev e : Edit
@@ -58,8 +60,8 @@ module _ (t : Tables) (b : List ℕ) (s : Sound t) (wide : length (t .counters .
   abbrev rs : List ℕ
   rs = t .records
 
-  -- the identity of an accepted edit is new
-  pub identity-new : (p : ℕ) → p < n → recordAt rs p .site .0 ≡ e .site .0 → recordAt rs p .seq .0 ≡ e .seq .0 → ⊥
+  -- no edit held has its identity
+  identity-new : (p : ℕ) → p < n → recordAt rs p .site .0 ≡ e .site .0 → recordAt rs p .seq .0 ≡ e .seq .0 → ⊥
   unfolding isRepeated
   identity-new p l hs hq =
       let x = recordAt rs p .site .0 in
@@ -71,7 +73,7 @@ module _ (t : Tables) (b : List ℕ) (s : Sound t) (wide : length (t .counters .
       hs in
       omega (arith, next-at (t .counters .sites) rs n (s .pass) p l)
 
-  -- so no Set held is on it
+  -- so no Set held names it
   pub no-set-held : length (setsOn (e .site) (e .seq) (heldBy t)) ≡ 0
   unfolding setsOn
   no-set-held =
@@ -82,6 +84,8 @@ module _ (t : Tables) (b : List ℕ) (s : Sound t) (wide : length (t .counters .
       let (q, lq, tgt) = target-before (t .counters .sites) rs n (s .pass) p l is in
       let x = target-parts m (recordAt rs q) tgt in
       identity-new q (omega arith) (x .site ∙ ap (λ (y : Site). y .0) ts) (x .seq ∙ ap (λ (y : Seq). y .0) tq)))
+
+  -- ---- the tables after an accepted Create
 
   module _ (k : isCreate e ≡ true) where
     abbrev m : ℕ
@@ -96,6 +100,7 @@ module _ (t : Tables) (b : List ℕ) (s : Sound t) (wide : length (t .counters .
     fits : m * entryLength + entryLength ≤ length (t .objects)
     fits = omega (arith, s .objects-long, a .create-room k)
 
+    -- the objects that there were, and the new one
     old-object : (o : ℕ) → o < m → Object rs′ (n + 1) os′ (t .groups) o
     old-object o l =
         let x = s .object o l in

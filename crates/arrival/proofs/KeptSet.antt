@@ -67,7 +67,7 @@ set-not-create e h =
     let k : e .kind ≡ setKind = eqb-true (e .kind) setKind h in
     ne-eqb (e .kind) createKind (λ q. omega arith)
 
--- ---- the tables after an accepted Set
+-- ---- the row of its object
 
 module _ (t : Tables) (b : List ℕ) (s : Sound t) (a : Accepted t b) (k : isSet (decodeOf b) ≡ true) where
   abbrev e : Edit
@@ -94,7 +94,7 @@ module _ (t : Tables) (b : List ℕ) (s : Sound t) (a : Accepted t b) (k : isSet
       (new-row (t .groups) o after (a .few k) (row-fits t s e aim) (suc (length (matesOf t e)))
       (after-ascending t s e aim) (after-below t s e aim) (after-some t s e aim))
 
-  -- ---- the tables after it
+  -- ---- the tables after an accepted Set
 
   module _ (wide : length (t .counters .held) ≡ mostSites) where
     abbrev n : ℕ
@@ -112,6 +112,7 @@ module _ (t : Tables) (b : List ℕ) (s : Sound t) (a : Accepted t b) (k : isSet
     fits : o * entryLength + entryLength ≤ length (t .objects)
     fits = omega (arith, s .objects-long, s .few-objects, (object-less t s e aim))
 
+    -- its object, which has one Set more
     its-object : Object rs′ (n + 1) os′ gs′ o
     its-object =
         let x = s .object o (object-less t s e aim) .entry in

@@ -7,6 +7,7 @@ pub mod Kept
 pub mod Entries
 pub mod KeptCreate
 pub mod Rows
+pub mod TrueGroups
 pub mod Aimed
 pub mod KeptSet
 pub mod Keeps

@@ -28,7 +28,7 @@ use Rattle.soundness.proofs.Facts.{Sound}
 
 -- ---- the first that passes
 
-pub index-at :
+index-at :
     (f : Edit → Bool) (d : Edit) (es : List Edit) → any f es ≡ true →
     (indexOf f es < length es) × (f (getD es (indexOf f es) d) ≡ true)
 unfolding any indexOf
@@ -106,7 +106,7 @@ module _ (t : Tables) (s : Sound t) where
 
   -- ---- every Create held is an object
 
-  pub object-at-place :
+  object-at-place :
       (p : ℕ) → p < t .counters .records → isCreate (recordAt (t .records) p) ≡ true →
       (length (creates (editsOf (t .records) p)) < t .counters .objects)
       × (placeAt (t .objects) (length (creates (editsOf (t .records) p))) ≡ p)

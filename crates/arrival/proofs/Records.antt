@@ -1,24 +1,18 @@
 -- The table of records with one record more: the places before it hold what they held, and the edits held are those
 -- before and the new one. Assumes nothing.
-use mathlib.Core.Path.{_≡_, refl, sym, ap, _∙_}
+use mathlib.Core.Path.{_≡_, sym, ap, _∙_}
 use mathlib.Core.List.{List, [], _∷_, _++_}
-use Prim.Native.Nat.{ℕ, zero, suc, _+_, _-_, _*_, _≤_, _<_}
+use Prim.Native.Nat.{ℕ, suc, _+_, _-_, _*_, _≤_, _<_}
 use native.Mathlib.Omega.{arith}
-use lib.ListN.{length, getD, take, drop, length-drop, length-append, List·getD-append}
-use lib.Seq.{getD-take, getD-drop, drop-at, drop-drop, length-take-le, ext-getD, take-at}
+use lib.ListN.{length, getD, take, drop, length-drop}
+use lib.Seq.{getD-take, getD-drop, length-take-le, ext-getD, take-at}
+use Rattle.ground.proofs.Parts as parts
 use Rattle.record.specs.Layout.{recordLength}
 use Rattle.record.specs.Record.{decodeOf}
 use Rattle.record.proofs.Agree.{agree-append, decode-agree}
 use Rattle.history.specs.History.{bytesAt, recordAt, editsOf}
+use Rattle.history.proofs.History.{edits-same}
 use Rattle.arrival.specs.Arrival.{putRecord}
-
--- ---- the edits in the first places depend on these alone
-
-pub edits-agree :
-    (rs rs′ : List ℕ) (n : ℕ) → ((p : ℕ) → p < n → recordAt rs p ≡ recordAt rs′ p) → editsOf rs n ≡ editsOf rs′ n
-unfolding editsOf
-edits-agree rs rs′ zero h = refl
-edits-agree rs rs′ (suc n) h = rw (edits-agree rs rs′ n (λ p l. h p (omega arith)), h n (omega arith))
 
 -- ---- one record more
 
@@ -27,30 +21,20 @@ module _ (rs : List ℕ) (n : ℕ) (b : List ℕ) (whole : length b ≡ recordLe
   abbrev after : List ℕ
   after = putRecord rs n b
 
-  front-long : length (take (n * recordLength) rs) ≡ n * recordLength
-  front-long = length-take-le (n * recordLength) rs (omega arith)
-
   pub put-long : length after ≡ length rs
-  put-long =
-      simp (length-append, length-drop) (omega (arith, front-long))
+  put-long = parts.put-long rs (n * recordLength) recordLength b whole room
 
-  -- the bytes before the new record are as they were
-  pub put-front : (i : ℕ) → i < n * recordLength → getD after i 0 ≡ getD rs i 0
-  put-front i l =
-      List·getD-append (take (n * recordLength) rs) (b ++ drop (n * recordLength + recordLength) rs) 0 i
-      (omega (arith, front-long))
-      ∙ getD-take (n * recordLength) rs i 0 l
+  -- the bytes before the new record, and those behind it, are as they were
+  put-front : (i : ℕ) → i < n * recordLength → getD after i 0 ≡ getD rs i 0
+  put-front = parts.put-before rs (n * recordLength) recordLength b whole room
 
-  pub put-at : drop (n * recordLength) after ≡ b ++ drop (n * recordLength + recordLength) rs
-  put-at =
-      drop-at (take (n * recordLength) rs) (b ++ drop (n * recordLength + recordLength) rs) (n * recordLength)
-      front-long
+  pub put-after : (i : ℕ) → n * recordLength + recordLength ≤ i → getD after i 0 ≡ getD rs i 0
+  put-after = parts.put-after rs (n * recordLength) recordLength b whole room
 
-  -- and so are those behind it
-  pub put-behind : drop (n * recordLength + recordLength) after ≡ drop (n * recordLength + recordLength) rs
-  put-behind =
-      sym (drop-drop recordLength (n * recordLength) after) ∙ ap (drop recordLength) put-at
-      ∙ drop-at b (drop (n * recordLength + recordLength) rs) recordLength whole
+  put-from : drop (n * recordLength) after ≡ b ++ drop (n * recordLength + recordLength) rs
+  put-from = parts.put-from rs (n * recordLength) recordLength b whole room
+
+  -- ---- the edits
 
   pub put-before : (p : ℕ) → p < n → recordAt after p ≡ recordAt rs p
   put-before p l =
@@ -60,12 +44,12 @@ module _ (rs : List ℕ) (n : ℕ) (b : List ℕ) (whole : length b ≡ recordLe
 
   pub put-here : recordAt after n ≡ decodeOf b
   put-here =
-      ap decodeOf put-at
+      ap decodeOf put-from
       ∙ decode-agree (b ++ drop (n * recordLength + recordLength) rs) b
       (agree-append recordLength b (drop (n * recordLength + recordLength) rs) (omega arith))
 
   pub put-edits-before : (p : ℕ) → p ≤ n → editsOf after p ≡ editsOf rs p
-  put-edits-before p l = edits-agree after rs p (λ q k. put-before q (omega arith))
+  put-edits-before p l = edits-same after rs p (λ q k. put-before q (omega arith))
 
   pub put-edits : editsOf after (suc n) ≡ editsOf rs n ++ (decodeOf b ∷ [])
   unfolding editsOf
@@ -75,7 +59,7 @@ module _ (rs : List ℕ) (n : ℕ) (b : List ℕ) (whole : length b ≡ recordLe
 
   pub put-bytes-here : bytesAt after n ≡ b
   put-bytes-here =
-      ap (take recordLength) put-at ∙ take-at b (drop (n * recordLength + recordLength) rs) recordLength whole
+      ap (take recordLength) put-from ∙ take-at b (drop (n * recordLength + recordLength) rs) recordLength whole
 
   pub put-bytes-before : (p : ℕ) → p < n → bytesAt after p ≡ bytesAt rs p
   put-bytes-before p l =

@@ -8,8 +8,8 @@ use native.Mathlib.Omega.{arith}
 use lib.ListN.{length, take, drop, length-append, length-drop, take-append-drop}
 use lib.Seq.{length-take-le, take-at, drop-at, drop-drop, take-append-le, drop-append-le, getD-drop}
 use lib.Dec.{leb}
-use borrow.Author.Tests.{leb-true, le-leb}
-use Rattle.ground.proofs.Bools.{both, and-on}
+use borrow.Author.Tests.{le-leb}
+use Rattle.ground.proofs.Bools.{and-on}
 use Rattle.record.specs.Layout.{mostSites, recordLength}
 use Rattle.record.specs.Record.{two, four}
 use Rattle.record.proofs.Bytes.{Bytes, two-drop, bytes-drop}
@@ -30,6 +30,7 @@ use Rattle.trailer.specs.Trailer.{
   located,
 }
 use Rattle.block.specs.Writing.{recordBytes, blockOf}
+use Rattle.block.proofs.Writing.{records-long}
 use Rattle.trailer.proofs.Outcomes.{Fit, accepted, located-by}
 use Rattle.trailer.proofs.TrailerBytes.{trailer-at, sites-back, records-back, trailer-fit, trailer-again}
 
@@ -42,13 +43,8 @@ module _ (t : Tables) (ok : sound t ≡ true) (ahead : List ℕ) where
   abbrev front : List ℕ
   front = ahead ++ recordBytes t
 
-  records-long : length (recordBytes t) ≡ n * recordLength
-  records-long =
-      let s = sound-at t ok in
-      length-take-le (n * recordLength) (t .records) (omega (arith, s .records-long, s .few-records))
-
   front-long : length front ≡ length ahead + n * recordLength
-  front-long = length-append ahead (recordBytes t) ∙ rw records-long
+  front-long = length-append ahead (recordBytes t) ∙ rw (records-long t ok)
 
   file-is : ahead ++ blockOf t ≡ front ++ trailerOf n (t .counters .sites)
   unfolding blockOf
@@ -80,7 +76,7 @@ module _ (t : Tables) (ok : sound t ≡ true) (ahead : List ℕ) where
         append-assoc ahead (recordBytes t) (trailerOf n sites),
         drop-at ahead (recordBytes t ++ trailerOf n sites) (length ahead) refl,
       )
-      (take-at (recordBytes t) (trailerOf n sites) (n * recordLength) records-long) in
+      (take-at (recordBytes t) (trailerOf n sites) (n * recordLength) (records-long t ok)) in
       rw file-is
       (accepted file within fit right
       ∙ rw (sites-back front n sites, records-back front n sites few, at, start, stretch))
@@ -89,8 +85,7 @@ module _ (t : Tables) (ok : sound t ≡ true) (ahead : List ℕ) where
 
 pub record Accepted (file : List ℕ) (l : Located) : Type 0 where
   pub few-records : l .trailer .records ≤ mostRecords
-  pub some-sites : 1 ≤ l .trailer .sites
-  pub few-sites : l .trailer .sites ≤ mostSites
+  pub right-sites : sitesRight (l .trailer .sites) ≡ true
   pub stretch-long : length (l .stretch) ≡ l .trailer .records * recordLength
   pub whole :
       Bytes file →
@@ -112,7 +107,6 @@ module _ (file : List ℕ) where
 
   fit-accepted : Fit file → sitesRight (sitesIn file) ≡ true → Accepted file (acceptedIn file)
   fit-accepted f k =
-      let (some, few) = both (leb 1 (sitesIn file)) (leb (sitesIn file) mostSites) k in
       let w = recordsIn file * recordLength in
       let start = trailerAt file - w in
       let end : trailerAt file ≡ start + w = omega (arith, f .inside) in
@@ -120,8 +114,7 @@ module _ (file : List ℕ) where
       λ bytes. trailer-is bytes f ∙ ap (λ (k : ℕ). drop k file) end ∙ sym (drop-drop w start file) in
       record {
         few-records = f .few;
-        some-sites = leb-true 1 (sitesIn file) some;
-        few-sites = leb-true (sitesIn file) mostSites few;
+        right-sites = k;
         stretch-long = length-take-le w (drop start file) (simp length-drop (omega (arith, f .inside)));
         whole = λ bytes. rw (tail bytes, take-append-drop w (drop start file)) (take-append-drop start file);
       }

@@ -7,8 +7,8 @@ use Prim.Native.Nat.{ℕ, _*_, _≤_}
 use native.Mathlib.Omega.{arith}
 use lib.ListN.{length}
 use lib.Dec.{eqb, leb}
-use borrow.Author.Tests.{eq-eqb, ne-eqb, leb-true, le-leb}
-use Rattle.ground.proofs.Bools.{both, and-on}
+use borrow.Author.Tests.{eq-eqb, ne-eqb, leb-true}
+use Rattle.ground.proofs.Bools.{both}
 use Rattle.record.specs.Layout.{mostSites, recordLength}
 use Rattle.history.specs.History.{mostRecords}
 use Rattle.tables.specs.Tables.{
@@ -72,8 +72,7 @@ module _ (t : Tables) (file : List ℕ) where
           let x = accepted-at file (sym (ap (λ (f : Found). f .answer) h) ∙ z) in
           let es : s ≡ located file .trailer .sites = ap (λ (f : Found). f .sites) h in
           let en : n ≡ located file .trailer .records = ap (λ (f : Found). f .records) h in (
-            and-on (leb 1 s) (leb s mostSites) (le-leb 1 s (omega (arith, x .some-sites)))
-                (le-leb s mostSites (omega (arith, x .few-sites))),
+            rw es (x .right-sites),
             rw en (x .few-records),
             rw (en, q, x .stretch-long) (omega arith),
           )

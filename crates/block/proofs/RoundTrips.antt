@@ -8,10 +8,9 @@ use Prim.Native.Nat.{ℕ, _+_, _*_, _≤_}
 use native.Mathlib.Omega.{arith}
 use lib.ListN.{length, take}
 use lib.Seq.{take-all}
-use lib.Dec.{eqb, leb}
-use borrow.Author.Tests.{eqb-true, eqb-false, le-leb}
-use Rattle.ground.proofs.Bools.{and-on}
-use Rattle.record.specs.Layout.{mostSites, recordLength}
+use lib.Dec.{eqb}
+use borrow.Author.Tests.{eqb-true, eqb-false}
+use Rattle.record.specs.Layout.{recordLength}
 use Rattle.record.proofs.Bytes.{Bytes}
 use Rattle.tables.specs.Tables.{Tables, emptyDrawing, lengthsRight, sitesRight}
 use Rattle.soundness.specs.Sound.{sound}
@@ -88,20 +87,13 @@ read-is u file h = go (lengthsRight (u .records) (u .objects) (u .groups)) h
     go true h = inner (eqb (f .answer) 0) refl h
     go false h = absurd (omega arith)
 
--- the N of a located block is one that a drawing may have
-located-sites : (file : List ℕ) → located file .trailer .answer ≡ 0 → sitesRight (located file .trailer .sites) ≡ true
-located-sites file accepted =
-    let a = accepted-at file accepted in
-    let n = located file .trailer .sites in
-    and-on (leb 1 n) (leb n mostSites) (le-leb 1 n (a .some-sites)) (le-leb n mostSites (a .few-sites))
-
 -- the tables of a file that reads with answer 0 are sound
 pub accepted-sound :
     (u : Tables) (file : List ℕ) → readingOf u file .answer ≡ 0 → sound (readingOf u file .after) ≡ true
 accepted-sound u file h =
     let (accepted, g) = read-is u file h in
     let l = located file in
-    going-sound (l .trailer .sites) (l .stretch) (located-sites file accepted) (l .trailer .records)
+    going-sound (l .trailer .sites) (l .stretch) (accepted-at file accepted .right-sites) (l .trailer .records)
     (readingOf u file .after) g
 
 -- so they may be written, and their block is the file from its first record on
@@ -114,7 +106,7 @@ read-and-written u file bytes h =
     let l = located file in
     let f = l .trailer in
     let t = readingOf u file .after in
-    let has = holds (f .sites) (l .stretch) (located-sites file accepted) (f .records) t g in
+    let has = holds (f .sites) (l .stretch) (accepted-at file accepted .right-sites) (f .records) t g in
     let same : recordBytes t ≡ l .stretch
     = ap (λ (k : ℕ). take (k * recordLength) (t .records)) (has .count)
     ∙ records-same (t .records) (l .stretch) (f .records) (has .bytes)

@@ -20,17 +20,18 @@ use Rattle.output.proofs.Lent.{lent-back, not-put, put-whole}
 
 -- ---- the block
 
-pub block-long :
+pub records-long : (t : Tables) → sound t ≡ true → length (recordBytes t) ≡ t .counters .records * recordLength
+records-long t ok =
+    let s = sound-at t ok in
+    length-take-le (t .counters .records * recordLength) (t .records) (omega (arith, s .records-long, s .few-records))
+
+block-long :
     (t : Tables) → sound t ≡ true → length (blockOf t) ≡ t .counters .records * recordLength + trailerLength
 unfolding blockOf
 block-long t ok =
-    let s = sound-at t ok in
     let n = t .counters .records in
     length-append (recordBytes t) (trailerOf n (t .counters .sites))
-    ∙ rw (
-      length-take-le (n * recordLength) (t .records) (omega (arith, s .records-long, s .few-records)),
-      trailer-long n (t .counters .sites),
-    )
+    ∙ rw (records-long t ok, trailer-long n (t .counters .sites))
 
 -- e bytes of rs are copied first, then b behind them
 pub block-put :

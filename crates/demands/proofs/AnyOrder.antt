@@ -84,7 +84,7 @@ module _ (es fs : List Edit) (r : Rearranged es fs) (u : Apart es) (small : Numb
       (λ c m. any-order-lines es fs r u small c)
       ∙ ap (flatMap (linesIn fs)) same-creates
 
-  pub same-lines-over : (n : ℕ) → linesOver n es ≡ linesOver n fs
+  same-lines-over : (n : ℕ) → linesOver n es ≡ linesOver n fs
   unfolding linesOver
   same-lines-over n =
       ap₂ (λ (k : ℕ) (ls : List (List ℕ)). headLine n k (length ls) ∷ ls) (same-length creates-rearranged)

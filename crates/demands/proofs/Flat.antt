@@ -28,7 +28,7 @@ flat-made f h (x ∷ xs) = rw (flat-made f h xs)
 -- ---- how long
 
 module _ {A B : Type 0} (f : A → List B) where
-  pub flat-append : (xs ys : List A) → length (flatMap f (xs ++ ys)) ≡ length (flatMap f xs) + length (flatMap f ys)
+  flat-append : (xs ys : List A) → length (flatMap f (xs ++ ys)) ≡ length (flatMap f xs) + length (flatMap f ys)
   unfolding flatMap
   flat-append [] ys = omega arith
   flat-append (x ∷ xs) ys =

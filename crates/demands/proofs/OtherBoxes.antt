@@ -2,7 +2,7 @@
 -- Assumes tables that are sound, with a count for each of 8 sites as the code's arrays have.
 use mathlib.Core.Path.{_≡_, refl, sym, ap, ap₂, subst, _∙_}
 use mathlib.Core.Bool.{Bool, true, false, not, cond}
-use mathlib.Core.List.{List, [], _∷_, _++_, flatMap, append-nil, List·Memᴰ·not-nil}
+use mathlib.Core.List.{List, [], _∷_, _++_, flatMap, List·Memᴰ·not-nil}
 use Prim.Native.Nat.{ℕ, _+_, _<_}
 use native.Mathlib.Omega.{arith}
 use native.Mathlib.Numerals.{add-one}
@@ -13,7 +13,6 @@ use borrow.Author.Tests.{eqb-false, not-true}
 use Rattle.ground.specs.Below.{keep}
 use Rattle.ground.specs.Sorted.{any, filter, insertBy, gatherBy}
 use Rattle.ground.proofs.Bools.{eqb-self}
-use Rattle.ground.proofs.Snoc.{filter-snoc}
 use Rattle.ground.proofs.Gathered.{gathered-snoc, gathered-same, left-out}
 use Rattle.record.specs.declared.Edit.{Edit}
 use Rattle.record.specs.Layout.{mostSites}
@@ -37,16 +36,16 @@ use Rattle.arrival.specs.Arrival.{
   acceptanceOf,
   arrivalOf,
 }
-use Rattle.arrival.proofs.Admitted.{Accepted, accepted, admitted-target, set-or-create}
+use Rattle.arrival.proofs.Admitted.{Accepted, accepted, admitted-target, set-or-create, was-taken}
 use Rattle.arrival.proofs.Records.{put-before}
 use Rattle.arrival.proofs.Entries.{counts-place, other-place, other-groups, entry-other}
 use Rattle.arrival.proofs.Rows.{row-other}
+use Rattle.arrival.proofs.TrueGroups.{sets-same}
 use Rattle.arrival.proofs.Kept.{room, held-after}
 use Rattle.arrival.proofs.KeptCreate.{create-not-set}
 use Rattle.arrival.proofs.Aimed.{object-less, row-fits}
 use Rattle.arrival.proofs.KeptSet.{not-on}
 use Rattle.arrival.proofs.Keeps.{Kept}
-use Rattle.replay.proofs.Own.{was-taken}
 use Rattle.order.proofs.Members.{chosen-at}
 use Rattle.order.proofs.Pairs.{pairs-weaken}
 use Rattle.version.specs.Line.{objectLines}
@@ -70,10 +69,9 @@ record Leaves (t u : Tables) (own : ℕ) (e : Edit) : Type 0 where
 module _ (t u : Tables) (own : ℕ) (e : Edit) (l : Leaves t u own e) where
   same-sets : (o : ℕ) → o < t .counters .objects → (o ≡ own → ⊥) →
       setsOn (createOf t o .site) (createOf t o .seq) (heldBy u) ≡ setsFor t o
-  unfolding setsOn
   same-sets o m d =
-      let f = isSetOn (createOf t o .site) (createOf t o .seq) in
-      ap (filter f) (l .held) ∙ filter-snoc f (heldBy t) e ∙ rw (l .none o m d) (append-nil (filter f (heldBy t)))
+      let c = createOf t o in
+      ap (setsOn (c .site) (c .seq)) (l .held) ∙ sets-same (heldBy t) c e (l .none o m d)
 
   same-lines : (o : ℕ) → o < t .counters .objects → (o ≡ own → ⊥) → linesFor u o ≡ linesFor t o
   unfolding linesFor

@@ -70,7 +70,7 @@ module _ {E : Type 0} (d : E) (conf : E → E → Bool)
 
 module _ {E : Type 0} (d : E) (eq : E → E → Bool)
     (eq-on : (x y : E) → eq x y ≡ true → x ≡ y) (eq-self : (x : E) → eq x x ≡ true) where
-  pub idx-at : (xs : List E) (x : E) → x ∈ has eq xs → (idx eq xs x < length xs) × (getD xs (idx eq xs x) d ≡ x)
+  idx-at : (xs : List E) (x : E) → x ∈ has eq xs → (idx eq xs x < length xs) × (getD xs (idx eq xs x) d ≡ x)
   unfolding any idx
   idx-at [] x h = clash h refl
   idx-at (y ∷ ys) x h = go (eq x y) refl h (idx-at ys x)

@@ -2,7 +2,7 @@
 -- number that has given bits. Assumes nothing.
 use mathlib.Core.Path.{_≡_, refl, sym, _∙_, ap, fun-ext}
 use mathlib.Core.Logic.{_↔_, _⊎_, inl, inr}
-use mathlib.Core.Bool.{Bool, true, false, not, _&&_, _||_, or-false}
+use mathlib.Core.Bool.{Bool, true, false, not, _&&_, _||_}
 use Prim.Native.Nat.{ℕ, zero, suc, _+_, _-_, _*_, _/_, _%_, _^_, _≤_, _<_, min, max}
 use native.Mathlib.Omega.{arith}
 use native.Mathlib.Nat.{div-one}
@@ -55,7 +55,7 @@ bit-digit g = rw (bit-zero g) (go (decide (eqb (g % 2) 1)))
 
 -- ---- no bit at or past n
 
-pub bit-none : (i : ℕ) → bit 0 i ≡ false
+bit-none : (i : ℕ) → bit 0 i ≡ false
 unfolding bit
 bit-none zero = refl
 bit-none (suc i) = bit-suc 0 i ∙ bit-none i
@@ -70,7 +70,7 @@ bit-below n g h i b = elim (decLt i n) [ yes l ↦ l | no d ↦ clash b (bit-hig
 
 -- ---- a number is known by its bits
 
-pub bit-ext : (n g h : ℕ) → g < 2 ^ n → h < 2 ^ n → ((i : ℕ) → i < n → bit g i ≡ bit h i) → g ≡ h
+bit-ext : (n g h : ℕ) → g < 2 ^ n → h < 2 ^ n → ((i : ℕ) → i < n → bit g i ≡ bit h i) → g ≡ h
 bit-ext zero g h l m e = omega arith
 bit-ext (suc n) g h l m e =
     let q : g / 2 ≡ h / 2 = bit-ext n (g / 2) (h / 2) (omega arith) (omega arith) rest in
@@ -90,7 +90,7 @@ unfolding pack
 pack-below zero f = omega arith
 pack-below (suc n) f = omega (arith, pack-below n (λ i. f (suc i)), digit-below (f 0))
 
-pub bit-pack : (n : ℕ) (f : ℕ → Bool) (i : ℕ) → i < n → bit (pack n f) i ≡ f i
+bit-pack : (n : ℕ) (f : ℕ → Bool) (i : ℕ) → i < n → bit (pack n f) i ≡ f i
 unfolding pack
 bit-pack zero f i l = absurd (omega arith)
 bit-pack (suc n) f zero l =
@@ -130,7 +130,7 @@ module _ (op at : ℕ → ℕ → ℕ) (on : Bool → Bool → Bool)
       bit-suc (op a b) i ∙ ap (λ (x : ℕ). bit x i) (low a b .1) ∙ bit-op (a / 2) (b / 2) i
       ∙ rw (bit-suc a i, bit-suc b i)
 
-pub bit-and : (a b i : ℕ) → bit (bitAnd a b) i ≡ (bit a i && bit b i)
+bit-and : (a b i : ℕ) → bit (bitAnd a b) i ≡ (bit a i && bit b i)
 bit-and = bit-op bitAnd min _&&_ and-step digits
   where
     digits : (x y : Bool) → min (digit x) (digit y) ≡ digit (x && y)
@@ -139,7 +139,7 @@ bit-and = bit-op bitAnd min _&&_ and-step digits
     digits false true = refl
     digits false false = refl
 
-pub bit-or : (a b i : ℕ) → bit (bitOr a b) i ≡ (bit a i || bit b i)
+bit-or : (a b i : ℕ) → bit (bitOr a b) i ≡ (bit a i || bit b i)
 bit-or = bit-op bitOr max _||_ or-step digits
   where
     digits : (x y : Bool) → max (digit x) (digit y) ≡ digit (x || y)
@@ -149,7 +149,7 @@ bit-or = bit-op bitOr max _||_ or-step digits
     digits false false = refl
 
 -- what a has and b lacks
-pub bit-minus : (a b i : ℕ) → bit (a - bitAnd a b) i ≡ (bit a i && not (bit b i))
+bit-minus : (a b i : ℕ) → bit (a - bitAnd a b) i ≡ (bit a i && not (bit b i))
 bit-minus = bit-op (λ a b. a - bitAnd a b) (λ a b. a - min a b) (λ x y. x && not y) split digits
   where
     split :
@@ -164,7 +164,7 @@ bit-minus = bit-op (λ a b. a - bitAnd a b) (λ a b. a - min a b) (λ x y. x && 
     digits false false = refl
 
 -- the number with one bit
-pub bit-power : (k i : ℕ) → bit (2 ^ k) i ≡ eqb i k
+bit-power : (k i : ℕ) → bit (2 ^ k) i ≡ eqb i k
 bit-power zero zero = bit-zero 1
 bit-power zero (suc i) = bit-suc 1 i ∙ bit-none i ∙ sym (ne-eqb (suc i) 0 (λ e. omega arith))
 bit-power (suc k) zero =
@@ -211,9 +211,6 @@ module _ (m k g : ℕ) where
 
   pub candidate-new : bit (candidate m k g) k ≡ true
   candidate-new = bit-candidate k ∙ or-right (bit g k && not (bit m k)) (eqb k k) (eqb-self k)
-
-  pub candidate-old : (i : ℕ) → (i ≡ k → ⊥) → bit (candidate m k g) i ≡ (bit g i && not (bit m i))
-  candidate-old i d = bit-candidate i ∙ rw (ne-eqb i k d) (or-false (bit g i && not (bit m i)))
 
   pub candidate-below : g < 2 ^ k → candidate m k g < 2 ^ suc k
   candidate-below l = or-lt (suc k) (g - bitAnd g m) (2 ^ k) (omega arith) (omega (arith, pow-pos k))

@@ -1,6 +1,6 @@
--- More elements never lose a group: each group lies in a group of the larger set, two different ones never in the
--- same, and so the groups never become fewer. Last, what tells two groups apart. That a group lies in a larger one
--- assumes that the relation is symmetric and irreflexive; the other laws assume nothing of it.
+-- More elements never lose a group: each group lies in a group of the larger set, which gives it back, and so the
+-- groups never become fewer; this assumes that the relation is symmetric and irreflexive. Last, what tells two groups
+-- apart; this assumes nothing of it.
 use mathlib.Core.Path.{_≡_, sym, _∙_}
 use mathlib.Core.Logic.{inl, inr}
 use mathlib.Core.Bool.{Bool, true, false, _&&_}
@@ -18,50 +18,39 @@ use Rattle.maximal.proofs.Groups.{below-at, below-on, groups-at, has-nu
 
 -- ---- S below n is part of U below m
 
-module _ (c : ℕ → ℕ → Bool) (n m : ℕ) (S U : ℕ → Bool) where
-  -- two groups that lie in the same one are one
-  pub never-joined :
-      (g g' h : ℕ) → elem g (groups c n S) ≡ true → elem g' (groups c n S) ≡ true → elem h (groups c m U) ≡ true →
-      bit g ⊆ bit h → bit g' ⊆ bit h → g ≡ g'
-  never-joined g g' h e e' f s s' =
+module _ (c : ℕ → ℕ → Bool) (n m : ℕ) (S U : ℕ → Bool) (sm : (i j : ℕ) → c i j ≡ c j i)
+    (irr : (i : ℕ) → c i i ≡ false) (sub : below n S ⊆ below m U) where
+  -- each group lies in one of the larger set
+  kept : (g : ℕ) → elem g (groups c n S) ≡ true → (h : ℕ) × (elem h (groups c m U) ≡ true) × (bit g ⊆ bit h)
+  kept g e =
+      let w = groups-at c n S g e .1 in
+      let inside : bit g ⊆ below m U = λ i b. sub i (w .isFree .within i b) in
+      let free : Free c (below m U) (bit g) = record { within = inside; free = w .isFree .free } in
+      let (Q, q, s) = within-maximal c sm irr m (below m U) (λ i h. below-at m U i h .0) (bit g) free in
+      let (h, f, b) = has-number c m U Q q in
+      (h, f, rw b s)
+
+  -- what a group of the larger set holds of the smaller one, as a number
+  cut : ℕ → ℕ
+  cut h = pack n (λ i. bit h i && below n S i)
+
+  cut-back : (g h : ℕ) → elem g (groups c n S) ≡ true → elem h (groups c m U) ≡ true → bit g ⊆ bit h → cut h ≡ g
+  unfolding cut
+  cut-back g h e f s =
       let (l, p) = groups-at c n S g e in
-      let (l', p') = groups-at c n S g' e' in
-      let (k, q) = groups-at c m U h f in
-      same-bits n g g' l l'
-      (same-set (λ i b. top p' (q .isFree) s' i (p .isFree .within i b) (s i b))
-      (λ i b. top p (q .isFree) s i (p' .isFree .within i b) (s' i b)))
+      let q = groups-at c m U h f .1 in
+      let P : ℕ → Bool = λ i. bit h i && below n S i in
+      same-bits n (pack n P) g (pack-below n P) l
+      (packed n P (λ i b. below-at n S i (both (bit h i) (below n S i) b .1) .0)
+      ∙ same-set
+      (λ i b. let (x, y) = both (bit h i) (below n S i) b in top p (q .isFree) s i y x)
+      (λ i b. and-on (bit h i) (below n S i) (s i b) (p .isFree .within i b)))
 
-  module _ (sm : (i j : ℕ) → c i j ≡ c j i) (irr : (i : ℕ) → c i i ≡ false) (sub : below n S ⊆ below m U) where
-    -- each group lies in one of the larger set
-    pub kept : (g : ℕ) → elem g (groups c n S) ≡ true → (h : ℕ) × (elem h (groups c m U) ≡ true) × (bit g ⊆ bit h)
-    kept g e =
-        let w = groups-at c n S g e .1 in
-        let inside : bit g ⊆ below m U = λ i b. sub i (w .isFree .within i b) in
-        let free : Free c (below m U) (bit g) = record { within = inside; free = w .isFree .free } in
-        let (Q, q, s) = within-maximal c sm irr m (below m U) (λ i h. below-at m U i h .0) (bit g) free in
-        let (h, f, b) = has-number c m U Q q in
-        (h, f, rw b s)
-
-    -- what a group of the larger set holds of the smaller one, as a number
-    cut : ℕ → ℕ
-    cut h = pack n (λ i. bit h i && below n S i)
-
-    cut-back : (g h : ℕ) → elem g (groups c n S) ≡ true → elem h (groups c m U) ≡ true → bit g ⊆ bit h → cut h ≡ g
-    unfolding cut
-    cut-back g h e f s =
-        let (l, p) = groups-at c n S g e in
-        let q = groups-at c m U h f .1 in
-        let P : ℕ → Bool = λ i. bit h i && below n S i in
-        same-bits n (pack n P) g (pack-below n P) l
-        (packed n P (λ i b. below-at n S i (both (bit h i) (below n S i) b .1) .0)
-        ∙ same-set
-        (λ i b. let (x, y) = both (bit h i) (below n S i) b in top p (q .isFree) s i y x)
-        (λ i b. and-on (bit h i) (below n S i) (s i b) (p .isFree .within i b)))
-
-    pub no-more-groups : length (groups c n S) ≤ length (groups c m U)
-    no-more-groups =
-        not-longer cut (groups c n S) (groups c m U) (groups-ascending c n S)
-        (λ g e. let (h, f, s) = kept g e in (h, f, cut-back g h e f s))
+  -- so the part has no more groups than the whole
+  pub no-more-groups : length (groups c n S) ≤ length (groups c m U)
+  no-more-groups =
+      not-longer cut (groups c n S) (groups c m U) (groups-ascending c n S)
+      (λ g e. let (h, f, s) = kept g e in (h, f, cut-back g h e f s))
 
 -- ---- what tells two groups apart
 

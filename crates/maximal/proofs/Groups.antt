@@ -1,7 +1,7 @@
 -- What is in the list of groups: the numbers whose bits are a maximal conflict-free set. The tests that compute, and
--- what they say. Assumes nothing of the relation, but for `some-group`.
+-- what they say. Assumes nothing of the relation.
 use mathlib.Core.Path.{_≡_, refl, sym, _∙_}
-use mathlib.Core.Bool.{Bool, true, false, not, _&&_, Bool·beq}
+use mathlib.Core.Bool.{Bool, true, not, _&&_, Bool·beq}
 use mathlib.Core.List.{[], _∷_}
 use Prim.Native.Nat.{ℕ, _^_, _<_}
 use lib.Dec.{ltb}
@@ -11,9 +11,9 @@ use Rattle.ground.specs.Sorted.{elem, Ascending}
 use Rattle.ground.proofs.Bools.{clash, off, same-test, both, and-on, beq-on, beq-eq}
 use Rattle.ground.proofs.Below.{all-on, all-at, keep-at, keep-on, keep-same}
 use Rattle.ground.proofs.Sorted.{keep-ascending}
-use Rattle.maximal.specs.Sets.{_∈_, Fits, Free, Maximal}
+use Rattle.maximal.specs.Sets.{_∈_, Fits, Maximal}
 use Rattle.maximal.specs.Groups.{bit, below, fits, isMaximal, groups}
-use Rattle.maximal.proofs.Sets.{carried, within-maximal}
+use Rattle.maximal.proofs.Sets.{carried}
 use Rattle.maximal.proofs.Bits.{pack, pack-below, packed, bit-below}
 
 -- ---- the members of S below n
@@ -30,13 +30,13 @@ module _ (n : ℕ) (S : ℕ → Bool) (i : ℕ) where
 -- ---- the tests
 
 module _ (c : ℕ → ℕ → Bool) (n : ℕ) where
-  pub fits-on : (P : ℕ → Bool) (i : ℕ) → Fits c P i → fits c n P i ≡ true
+  fits-on : (P : ℕ → Bool) (i : ℕ) → Fits c P i → fits c n P i ≡ true
   unfolding fits
   fits-on P i h =
       all-on n (λ j. not (P j && c i j))
       (λ j l. rw (off (P j && c i j) (λ e. let (p, q) = both (P j) (c i j) e in clash q (h j p))))
 
-  pub fits-at : (P : ℕ → Bool) (i : ℕ) → ((j : ℕ) → j ∈ P → j < n) → fits c n P i ≡ true → Fits c P i
+  fits-at : (P : ℕ → Bool) (i : ℕ) → ((j : ℕ) → j ∈ P → j < n) → fits c n P i ≡ true → Fits c P i
   unfolding fits
   fits-at P i b h j p = rw p at (not-true (P j && c i j) (all-at n (λ j. not (P j && c i j)) h j (b j p)))
 
@@ -97,16 +97,6 @@ groups-ascending c n S = keep-ascending (2 ^ n) (λ g. isMaximal c n S (bit g))
 pub no-elements : (c : ℕ → ℕ → Bool) (S : ℕ → Bool) → groups c 0 S ≡ 0 ∷ []
 unfolding groups keep isMaximal all
 no-elements c S = refl
-
--- there is always a group
-pub some-group :
-    (c : ℕ → ℕ → Bool) → ((i j : ℕ) → c i j ≡ c j i) → ((i : ℕ) → c i i ≡ false) → (n : ℕ) (S : ℕ → Bool) →
-    (g : ℕ) × (elem g (groups c n S) ≡ true)
-some-group c sm irr n S =
-    let none : Free c (below n S) (λ i. false) = record { within = λ i h. clash h refl; free = λ i h. clash h refl } in
-    let (P, m, sub) = within-maximal c sm irr n (below n S) (λ i h. below-at n S i h .0) (λ i. false) none in
-    let (g, e, b) = has-number c n S P m in
-    (g, e)
 
 -- only the conflicts among the elements count
 pub groups-agree :

@@ -24,15 +24,15 @@ unfoldable pub offer : (ℕ → Bool) → ℕ → (ℕ → Bool) → ℕ → Boo
 offer D k P = with (without P D) k
 
 module _ (D : ℕ → Bool) (k : ℕ) (P : ℕ → Bool) where
-  pub offer-new : k ∈ offer D k P
+  offer-new : k ∈ offer D k P
   unfolding offer
   offer-new = with-new (without P D) k
 
-  pub offer-old : (i : ℕ) → i ∈ P → D i ≡ false → i ∈ offer D k P
+  offer-old : (i : ℕ) → i ∈ P → D i ≡ false → i ∈ offer D k P
   unfolding offer
   offer-old i p d = with-old (without P D) k i (without-on P D i p d)
 
-  pub offer-cases : (i : ℕ) → i ∈ offer D k P → ((i ∈ P) × (D i ≡ false)) ⊎ (i ≡ k)
+  offer-cases : (i : ℕ) → i ∈ offer D k P → ((i ∈ P) × (D i ≡ false)) ⊎ (i ≡ k)
   unfolding offer
   offer-cases i h = elim (with-cases (without P D) k i h) [ inl a ↦ inl (without-at P D i a) | inr e ↦ inr e ]
 

@@ -86,7 +86,7 @@ module _ {c : ℕ → ℕ → Bool} {n : ℕ} {S : ℕ → Bool} {d : ℕ → �
       (rw (bit-image m U f g)
       (and-on (below m U (q j)) (bit g (f (q j))) (r .back j s) (rw (r .there j s) b)))))
 
-  pub image-group :
+  image-group :
       (g : ℕ) → elem g (groups c n S) ≡ true →
       (elem (image m U f g) (groups d m U) ≡ true) × (image n S q (image m U f g) ≡ g)
   image-group g e =

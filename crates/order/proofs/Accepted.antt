@@ -1,5 +1,5 @@
 -- A list of edits that is accepted throughout is settled, and its order is causal. Assumes at most eight sites.
-use mathlib.Core.Path.{_≡_, sym, ap, subst, _∙_}
+use mathlib.Core.Path.{_≡_, refl, sym, subst, _∙_}
 use mathlib.Core.Logic.{inl, inr}
 use mathlib.Core.Bool.{true, false, not, and-false}
 use mathlib.Core.List.{
@@ -21,21 +21,18 @@ use borrow.Author.Tests.{lt-leb, le-ltb}
 use Rattle.ground.specs.Sorted.{filter, Asc}
 use Rattle.ground.proofs.Bools.{clash, decide, off, both}
 use Rattle.ground.proofs.Below.{some-off}
-use Rattle.ground.proofs.Snoc.{filter-snoc}
 use Rattle.record.specs.declared.Edit.{Edit}
 use Rattle.record.specs.Layout.{mostSites}
 use Rattle.record.specs.Form.{isCreate, isSet, unfit}
 use Rattle.record.proofs.WellFormed.{WellFormed, well-formed}
-use Rattle.causal.specs.Causal.{sameEdit, hasSeen, doConflict}
-use Rattle.maximal.specs.Groups.{every}
-use Rattle.maximal.specs.Arrivals.{rel, groupsOf}
-use Rattle.maximal.proofs.Groups.{no-elements}
+use Rattle.causal.specs.Causal.{sameEdit, comesBefore, hasSeen}
 use Rattle.history.specs.History.{creates, isSetOn, setsOn, mostRecords}
 use Rattle.history.specs.Answers.{largerSomewhere, tears}
 use Rattle.group.specs.Row.{mostObjects, mostSets, mostGroups}
-use Rattle.arrival.specs.Truth.{noEdit, trueGroups}
+use Rattle.arrival.specs.Truth.{trueGroups}
 use Rattle.causal.proofs.Identities.{same-parts}
 use Rattle.arrival.proofs.Kept.{creates-snoc, sets-snoc}
+use Rattle.arrival.proofs.TrueGroups.{groups-same, groups-first}
 use Rattle.order.specs.Rearranged.{Mem}
 use Rattle.order.specs.Settled.{named, AllAccepted, MayPrecede, Causal, Differ, Apart, Settled}
 use Rattle.order.proofs.Members.{split-mem, mem-along, mem-middle, fronts}
@@ -61,14 +58,9 @@ set-on-at c e h =
     let (p, q) = same-parts (e .tsite) (e .tseq) (c .site) (c .seq) on in
     (s, p, q)
 
--- an edit that is none of its Sets leaves an object its groups
-groups-same :
-    (es : List Edit) (c e : Edit) → isSetOn (c .site) (c .seq) e ≡ false →
-    trueGroups (es ++ (e ∷ [])) c ≡ trueGroups es c
-unfolding trueGroups setsOn
-groups-same es c e d =
-    ap (groupsOf noEdit doConflict)
-    (filter-snoc (isSetOn (c .site) (c .seq)) es e ∙ rw d (append-nil (filter (isSetOn (c .site) (c .seq)) es)))
+-- a has not seen b, so b does not come before a
+unseen-may-follow : (a b : Edit) → Unseen a b → comesBefore b a ≡ false
+unseen-may-follow a b h = rw h (and-false (not (sameEdit (b .site) (b .seq) (a .site) (a .seq))))
 
 module _ (n : ℕ) (few : n ≤ mostSites) (es : List Edit) (t : AllAccepted n es) where
   over :
@@ -108,7 +100,7 @@ module _ (n : ℕ) (few : n ≤ mostSites) (es : List Edit) (t : AllAccepted n e
   pub accepted-causal : Causal es
   accepted-causal =
       pairs-weaken Unseen MayPrecede es
-      (λ a b m k h. rw h (and-false (not (sameEdit (b .site) (b .seq) (a .site) (a .seq)))))
+      (λ a b m k h. unseen-may-follow a b h)
       later-unseen
 
   whole : (a e : Edit) → Mem a es → Mem e es → tears e a ≡ false
@@ -151,7 +143,7 @@ module _ (n : ℕ) (few : n ≤ mostSites) (es : List Edit) (t : AllAccepted n e
   few-groups : (c : Edit) → length (trueGroups es c) ≤ mostGroups
   few-groups c =
       over (λ us. length (trueGroups us c) ≤ mostGroups)
-      (unfold trueGroups setsOn filter groupsOf in rw (no-elements (rel noEdit doConflict []) every) (omega arith))
+      (rw (groups-first [] c (unfold setsOn filter in refl)) (omega arith))
       (λ us x f h. elim (decide (isSetOn (c .site) (c .seq) x)) [
         | inl k ↦
             (let (s, p, q) = set-on-at c x k in

@@ -26,14 +26,14 @@ accepted-exactly n few es = (
   (λ (s, c). settled-accepted n few es s c),
 )
 
-pub any-order :
+any-order :
     (n : ℕ) → n ≤ mostSites → (es fs : List Edit) → Rearranged es fs → Causal fs → AllAccepted n es → AllAccepted n fs
 any-order n few es fs r c a =
     settled-accepted n few fs (settled-in-any-order n es fs r (accepted-settled n few es a)) c
 
 -- ---- records
 
-pub edits-decoded : (rs : List ℕ) (n : ℕ) → map decodeOf (recordsOf rs n) ≡ editsOf rs n
+edits-decoded : (rs : List ℕ) (n : ℕ) → map decodeOf (recordsOf rs n) ≡ editsOf rs n
 unfolding recordsOf editsOf
 edits-decoded rs zero = refl
 edits-decoded rs (suc n) =

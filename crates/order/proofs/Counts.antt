@@ -36,6 +36,8 @@ pub counted-none : Counted []
 unfolding countFrom filter
 counted-none = record { entries = λ a m. absurd (List·Memᴰ·not-nil m); present = λ s q a b. absurd (omega arith) }
 
+-- ---- one edit more, which is in turn
+
 module _ (n : ℕ) (xs : List Edit) (e : Edit) (t : InTurn n xs e) (c : Counted xs) where
   count-own : countFrom (e .site .0) (xs ++ (e ∷ [])) ≡ countFrom (e .site .0) xs + 1
   count-own = count-snoc (e .site .0) xs e ∙ rw (eqb-self (e .site .0))

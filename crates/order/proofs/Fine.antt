@@ -36,6 +36,7 @@ pub record Fine (n : ℕ) (es : List Edit) (e : Edit) : Type 0 where
   pub set-room : isSet e ≡ true → length (setsOn (e .tsite) (e .tseq) es) < mostSets
   pub few : isSet e ≡ true → length (trueGroups (es ++ (e ∷ [])) (named e)) ≤ mostGroups
 
+-- b does not hold where a does
 off-where : (a b : Bool) → (a ≡ true → b ≡ false) → (a && b) ≡ false
 off-where true b h = h refl
 off-where false b h = refl
@@ -52,6 +53,8 @@ module _ (n : ℕ) (es : List Edit) (e : Edit) where
 
   abbrev groups : ℕ
   groups = length (trueGroups (es ++ (e ∷ [])) (named e))
+
+  -- ---- an answer of 0 gives the facts
 
   pub fine-at : listAnswer n es e ≡ 0 → Fine n es e
   unfolding listAnswer isTorn isAstray fullOver crowdedOver
@@ -71,6 +74,8 @@ module _ (n : ℕ) (es : List Edit) (e : Edit) where
         set-room = λ k. leb-false mostSets (length (setsOn (e .tsite) (e .tseq) es)) (then-off (isSet e) _ k s);
         few = λ k. ltb-false mostGroups groups (then-off (isSet e) (ltb mostGroups groups) k (no 6));
       }
+
+  -- ---- the facts give an answer of 0: no reason is present
 
   module _ (f : Fine n es e) where
     not-repeated : isRepeated es e ≡ false

@@ -101,7 +101,7 @@ pub one-edit :
     sameEdit (a .site) (a .seq) (b .site) (b .seq) ≡ true → a ≡ b
 one-edit es u a b m k h = elim (pairs-two Differ differ-turned es u a b m k) [ inl e ↦ e | inr d ↦ clash h d ]
 
-pub distinct : (xs : List Edit) → Apart xs → Distinct noEdit xs
+distinct : (xs : List Edit) → Apart xs → Distinct noEdit xs
 distinct [] u i j a b e = absurd (omega arith)
 distinct (x ∷ xs) (u, v) zero zero a b e = refl
 distinct (x ∷ xs) (u, v) zero (suc j) a b e =

@@ -1,8 +1,8 @@
 -- The answer at a faithful drawing is the answer over the list of the edits that it holds, and after an accepted edit
 -- it holds that one too. Assumes nothing.
-use mathlib.Core.Path.{_≡_, refl, ap, _∙_}
+use mathlib.Core.Path.{_≡_, refl, ap, ap₂, _∙_}
 use mathlib.Core.Logic.{inl, inr}
-use mathlib.Core.Bool.{Bool, true, false, not, cond}
+use mathlib.Core.Bool.{Bool, true, false, not}
 use mathlib.Core.List.{List, [], _∷_, _++_}
 use Prim.Native.Nat.{ℕ}
 use lib.ListN.{length}
@@ -13,14 +13,14 @@ use Rattle.ground.proofs.Bools.{decide}
 use Rattle.record.specs.declared.Edit.{Edit}
 use Rattle.record.specs.Layout.{recordLength}
 use Rattle.record.specs.Record.{decodeOf}
-use Rattle.record.specs.Form.{isCreate, isSet, unfit, malformed}
-use Rattle.history.specs.History.{recordAt, isTarget, objectOf}
+use Rattle.record.specs.Form.{isSet, unfit, malformed}
+use Rattle.history.specs.History.{recordAt, editsOf, isTarget, objectOf}
 use Rattle.history.specs.Answers.{isRepeated, isEarly, isTorn, isAstray}
 use Rattle.history.proofs.History.{edits-length}
 use Rattle.group.specs.Row.{mostGroups}
 use Rattle.tables.specs.Tables.{Tables, heldBy, placeAt}
-use Rattle.arrival.specs.Arrival.{isFull, isCrowded, firstOf, answerTo, withCreate, withSet, taken}
-use Rattle.arrival.proofs.Admitted.{accepted, then-off}
+use Rattle.arrival.specs.Arrival.{isFull, isCrowded, firstOf, answerTo, taken}
+use Rattle.arrival.proofs.Admitted.{accepted, taken-records, then-off}
 use Rattle.arrival.proofs.Kept.{held-after}
 use Rattle.arrival.proofs.Aimed.{target-site, target-seq}
 use Rattle.arrival.proofs.Faithful.{Faithful}
@@ -72,15 +72,6 @@ module _ (t : Tables) (f : Faithful t) where
   -- ---- after an accepted edit
 
   pub taken-holds : (b : List ℕ) → answerTo t b ≡ 0 → heldBy (taken t b) ≡ heldBy t ++ (decodeOf b ∷ [])
-  taken-holds b h = go (isCreate (decodeOf b))
-    where
-      go : (x : Bool) → heldBy (cond x (withCreate t b) (withSet t b)) ≡ heldBy t ++ (decodeOf b ∷ [])
-      go true = unfold withCreate in held-after t b (f .kept .isSound) (f .kept .wide) (accepted t b h .admitted)
-      go false = unfold withSet in held-after t b (f .kept .isSound) (f .kept .wide) (accepted t b h .admitted)
-
-pub taken-sites : (t : Tables) (b : List ℕ) → taken t b .counters .sites ≡ t .counters .sites
-taken-sites t b = go (isCreate (decodeOf b))
-  where
-    go : (x : Bool) → cond x (withCreate t b) (withSet t b) .counters .sites ≡ t .counters .sites
-    go true = unfold withCreate in refl
-    go false = unfold withSet in refl
+  taken-holds b h =
+      let (records, count, _) = taken-records t b in
+      ap₂ editsOf records count ∙ held-after t b (f .kept .isSound) (f .kept .wide) (accepted t b h .admitted)

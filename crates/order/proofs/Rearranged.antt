@@ -11,6 +11,8 @@ use Rattle.order.specs.Rearranged.{Mem, Rearranged, none, skip, swap, th
 use Rattle.order.proofs.Members.{any-on, any-at}
 
 module _ {A : Type 0} where
+  -- ---- any list, and back again
+
   pub unchanged : (xs : List A) → Rearranged xs xs
   unchanged [] = none
   unchanged (x ∷ xs) = skip (unchanged xs)
@@ -20,6 +22,8 @@ module _ {A : Type 0} where
   turned (skip r) = skip (turned r)
   turned swap = swap
   turned (then r s) = then (turned s) (turned r)
+
+  -- ---- the same elements
 
   pub same-length : {xs ys : List A} → Rearranged xs ys → length xs ≡ length ys
   same-length none = refl
@@ -46,6 +50,8 @@ module _ {A : Type 0} where
   any-rearranged f {xs} {ys} r =
       same-test (any f xs) (any f ys) (λ h. let (x, m, p) = any-at f xs h in any-on f (same-members r x m) p)
       (λ h. let (x, m, p) = any-at f ys h in any-on f (same-members (turned r) x m) p)
+
+  -- ---- what is chosen of the elements, and what is made of each
 
   pub chosen-rearranged : (f : A → Bool) {xs ys : List A} → Rearranged xs ys → Rearranged (filter f xs) (filter f ys)
   unfolding filter

@@ -27,14 +27,14 @@ use Rattle.record.proofs.Agree.{decode-agree}
 use Rattle.history.specs.History.{bytesAt, recordAt, editsOf}
 use Rattle.tables.specs.Tables.{Tables, Outcome, outcomeOf, heldBy, emptyDrawing}
 use Rattle.arrival.specs.Arrival.{answerTo, taken, acceptanceOf}
-use Rattle.arrival.proofs.Admitted.{accepted}
+use Rattle.arrival.proofs.Admitted.{accepted, taken-records}
 use Rattle.arrival.proofs.Faithful.{Faithful}
 use Rattle.replay.specs.Replay.{Replayed, replayed, replayOf}
 use Rattle.replay.proofs.AnyRecords.{replay-faithful}
 use Rattle.order.specs.Rearranged.{recordsOf, Whole}
 use Rattle.order.specs.Settled.{listAnswer, AllAccepted}
 use Rattle.order.proofs.Members.{mem-middle, split-snoc}
-use Rattle.order.proofs.OverList.{answer-over-list, taken-holds, taken-sites}
+use Rattle.order.proofs.OverList.{answer-over-list, taken-holds}
 
 -- ---- lists that grow at their end
 
@@ -70,7 +70,7 @@ module _ (sites : ℕ) (rs : List ℕ) (n : ℕ) where
   abbrev b : List ℕ
   b = bytesAt rs n
 
-  pub refuses-none-before :
+  refuses-none-before :
       replayOf sites rs (suc n) .answer ≡ 0 → (replayOf sites rs n .answer ≡ 0) × (answerTo t b ≡ 0)
   unfolding replayOf acceptanceOf
   refuses-none-before h = go (eqb (r .answer) 0) refl (eqb (answerTo t b) 0) refl h
@@ -114,7 +114,7 @@ module _ (sites : ℕ) (some : 1 ≤ sites) (few : sites ≤ mostSites) (rs : Li
       let next : replayOf sites rs (suc n) .after ≡ taken t b = taken-next sites rs n z a in (
         ap heldBy next ∙ taken-holds t (faithful n) b a
             ∙ ap₂ (λ (es : List Edit) (e : Edit). es ++ (e ∷ [])) held (bytes-decoded rs n),
-        ap (λ (u : Tables). u .counters .sites) next ∙ taken-sites t b ∙ same,
+        ap (λ (u : Tables). u .counters .sites) next ∙ taken-records t b .2 ∙ same,
       )
 
   -- the next record's answer is the answer over the list

@@ -36,6 +36,13 @@ use Rattle.replay.proofs.AnyRecords.{replay-faithful}
 abbrev pub Going : ℕ → List ℕ → ℕ → Tables → Type 0
 Going sites rs i t = replayed 0 0 t ≡ replayOf sites rs i
 
+-- t has the stated lengths
+abbrev pub RightlyLong : Tables → Type 0
+RightlyLong t =
+    (length (t .records) ≡ recordsLength)
+    × (length (t .objects) ≡ objectsLength)
+    × (length (t .groups) ≡ groupsLength)
+
 -- ---- the start
 
 pub opened :
@@ -69,20 +76,13 @@ module _ (sites : ℕ) (rs : List ℕ) (right : sitesRight sites ≡ true) (i : 
   pub going-sound : sound t ≡ true
   going-sound = sound-on t (going-faithful .kept .isSound)
 
-  pub going-long :
-      (length (t .records) ≡ recordsLength)
-      × (length (t .objects) ≡ objectsLength)
-      × (length (t .groups) ≡ groupsLength)
+  pub going-long : RightlyLong t
   going-long =
       let s = going-faithful .kept .isSound in
       (s .records-long, s .objects-long, s .groups-long)
 
   -- the lengths stay, whatever the next record is answered
-  pub next-long :
-      (a : ℕ) (t′ : Tables) → outcomeOf a t′ ≡ acceptanceOf t (bytesAt rs i) →
-      (length (t′ .records) ≡ recordsLength)
-      × (length (t′ .objects) ≡ objectsLength)
-      × (length (t′ .groups) ≡ groupsLength)
+  pub next-long : (a : ℕ) (t′ : Tables) → outcomeOf a t′ ≡ acceptanceOf t (bytesAt rs i) → RightlyLong t′
   next-long a t′ h =
       let f : Faithful t′
       = subst Faithful (sym (ap (λ (o : Outcome). o .after) h)) (acceptance-faithful t (bytesAt rs i) going-faithful) in

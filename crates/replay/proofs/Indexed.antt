@@ -1,27 +1,21 @@
 -- The index goes along with the tables: what an accepted record leaves holds what the index needs to take it in.
 -- Assumes nothing.
-use mathlib.Core.Path.{_≡_, refl, sym, ap, _∙_}
-use mathlib.Core.Logic.{inl, inr}
-use mathlib.Core.Bool.{Bool, true, false, cond}
+use mathlib.Core.Path.{_≡_, sym, ap, _∙_}
+use mathlib.Core.Bool.{true}
 use mathlib.Core.List.{List}
 use Prim.Native.Nat.{ℕ, _+_, _<_}
 use native.Mathlib.Omega.{arith}
-use lib.Dec.{eqb}
 use lib.ListN.{length}
-use borrow.Author.Tests.{eqb-true}
-use Rattle.ground.proofs.Bools.{decide}
 use Rattle.record.specs.Layout.{mostSites}
-use Rattle.record.specs.Record.{decodeOf}
-use Rattle.record.specs.Form.{isCreate}
 use Rattle.history.specs.History.{recordAt}
 use Rattle.tables.specs.Tables.{Tables, Outcome, outcomeOf}
 use Rattle.soundness.specs.Sound.{sound}
 use Rattle.soundness.proofs.Facts.{sound-at, sound-on}
 use Rattle.index.specs.Index.{numberAt, IndexOf, Holds}
 use Rattle.index.proofs.Same.{number-same, index-same}
-use Rattle.arrival.specs.Arrival.{putRecord, answerTo, withCreate, withSet, taken, acceptanceOf}
+use Rattle.arrival.specs.Arrival.{putRecord, answerTo, taken, acceptanceOf}
 use Rattle.arrival.proofs.Records.{put-before}
-use Rattle.arrival.proofs.Admitted.{accepted}
+use Rattle.arrival.proofs.Admitted.{accepted, was-taken, taken-records}
 use Rattle.arrival.proofs.Keeps.{acceptance-keeps}
 use Rattle.arrival.proofs.Accepting.{holds}
 
@@ -32,31 +26,20 @@ module _
     (b : List ℕ)
     (t′ : Tables)
     (a : outcomeOf 0 t′ ≡ acceptanceOf t b) where
+  -- ---- the record is taken
+
   answered : answerTo t b ≡ 0
-  unfolding acceptanceOf
-  answered =
-      elim (decide (eqb (answerTo t b) 0)) [
-        | inl y ↦ eqb-true (answerTo t b) 0 y
-        | inr d ↦ sym (ap (λ (o : Outcome). o .answer) (rw d at a))
-      ]
+  answered = was-taken t t′ b a .0
 
   is-taken : t′ ≡ taken t b
-  unfolding acceptanceOf
-  is-taken = ap (λ (o : Outcome). o .after) (rw answered at a)
+  is-taken = was-taken t t′ b a .1
 
   -- one record more
-  one-more : (x : Bool) →
-      (cond x (withCreate t b) (withSet t b) .records ≡ putRecord (t .records) (t .counters .records) b)
-      × (cond x (withCreate t b) (withSet t b) .counters .records ≡ t .counters .records + 1)
-  unfolding withCreate withSet
-  one-more true = (refl, refl)
-  one-more false = (refl, refl)
-
   grown : t′ .records ≡ putRecord (t .records) (t .counters .records) b
-  grown = ap (λ (u : Tables). u .records) is-taken ∙ one-more (isCreate (decodeOf b)) .0
+  grown = ap (λ (u : Tables). u .records) is-taken ∙ taken-records t b .0
 
   pub counted-on : t′ .counters .records ≡ t .counters .records + 1
-  counted-on = ap (λ (u : Tables). u .counters .records) is-taken ∙ one-more (isCreate (decodeOf b)) .1
+  counted-on = ap (λ (u : Tables). u .counters .records) is-taken ∙ taken-records t b .1
 
   -- those before it are as they were
   stay : (p : ℕ) → p < t .counters .records → recordAt (t .records) p ≡ recordAt (t′ .records) p
@@ -66,6 +49,8 @@ module _
       sym
       (ap (λ (rs : List ℕ). recordAt rs p) grown
       ∙ put-before (t .records) (t .counters .records) b (x .whole) (omega (arith, k .records-long, x .room)) p l)
+
+  -- ---- what the index needs
 
   pub holds-on : Holds (t′ .counters) (t′ .records)
   holds-on =

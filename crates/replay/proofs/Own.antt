@@ -13,20 +13,18 @@ use lib.Dec.{eqb}
 use borrow.Author.Tests.{eqb-true, eqb-false, eq-eqb}
 use Rattle.ground.proofs.Numbers.{last}
 use Rattle.record.specs.Layout.{recordLength}
-use Rattle.record.specs.Record.{decodeOf}
-use Rattle.record.specs.Form.{isCreate}
 use Rattle.history.specs.History.{bytesAt}
-use Rattle.tables.specs.Tables.{Tables, Outcome, outcomeOf, emptyDrawing, sitesRight}
+use Rattle.tables.specs.Tables.{Tables, outcomeOf, emptyDrawing, sitesRight}
 use Rattle.soundness.proofs.Facts.{Sound}
-use Rattle.arrival.specs.Arrival.{answerTo, putRecord, withCreate, withSet, taken, acceptanceOf}
-use Rattle.arrival.proofs.Admitted.{Accepted, accepted}
+use Rattle.arrival.specs.Arrival.{putRecord, taken, acceptanceOf}
+use Rattle.arrival.proofs.Admitted.{Accepted, accepted, was-taken, taken-records}
 use Rattle.arrival.proofs.Records.{put-bytes-here, put-bytes-before}
 use Rattle.replay.specs.Replay.{Replayed, replayed, oneMore, replayOf}
 use Rattle.replay.proofs.Going.{Going, going-faithful}
 
 -- ---- only the records' bytes count
 
-pub replay-same :
+replay-same :
     (sites : ℕ) (rs rs′ : List ℕ) (n : ℕ) → ((p : ℕ) → p < n → bytesAt rs p ≡ bytesAt rs′ p) →
     replayOf sites rs n ≡ replayOf sites rs′ n
 unfolding replayOf
@@ -45,7 +43,7 @@ records-same rs rs′ (suc n) h =
 -- ---- one record back
 
 -- where none is refused, the index is 0
-pub index-none : (sites : ℕ) (rs : List ℕ) (n : ℕ) → replayOf sites rs n .answer ≡ 0 → replayOf sites rs n .index ≡ 0
+index-none : (sites : ℕ) (rs : List ℕ) (n : ℕ) → replayOf sites rs n .answer ≡ 0 → replayOf sites rs n .index ≡ 0
 unfolding replayOf
 index-none sites rs zero h = refl
 index-none sites rs (suc n) h = go (eqb (r .answer) 0) refl h (index-none sites rs n)
@@ -64,7 +62,7 @@ going-of sites rs n h =
     ap₂ (λ (a i : ℕ). replayed a i (replayOf sites rs n .after)) (sym h) (sym (index-none sites rs n h))
 
 -- the tables before the last record, and that it was taken there
-pub going-back :
+going-back :
     (sites : ℕ) (rs : List ℕ) (n : ℕ) (t : Tables) → Going sites rs (suc n) t →
     (u : Tables) × Going sites rs n u × (outcomeOf 0 t ≡ acceptanceOf u (bytesAt rs n))
 unfolding replayOf
@@ -83,33 +81,6 @@ going-back sites rs n t g = go (eqb (r .answer) 0) refl g
     go false e q = absurd (eqb-false (r .answer) 0 e (sym (ap (λ (y : Replayed). y .answer) q)))
 
 -- ---- the records that a drawing holds
-
-taken-records :
-    (u : Tables) (b : List ℕ) →
-    (taken u b .records ≡ putRecord (u .records) (u .counters .records) b)
-    × (taken u b .counters .records ≡ u .counters .records + 1)
-    × (taken u b .counters .sites ≡ u .counters .sites)
-unfolding withCreate withSet
-taken-records u b = go (isCreate (decodeOf b))
-  where
-    go : (k : Bool) →
-        (cond k (withCreate u b) (withSet u b) .records ≡ putRecord (u .records) (u .counters .records) b)
-        × (cond k (withCreate u b) (withSet u b) .counters .records ≡ u .counters .records + 1)
-        × (cond k (withCreate u b) (withSet u b) .counters .sites ≡ u .counters .sites)
-    go true = (refl, refl, refl)
-    go false = (refl, refl, refl)
-
--- an outcome of 0 is the edit taken
-pub was-taken :
-    (u t : Tables) (b : List ℕ) → outcomeOf 0 t ≡ acceptanceOf u b → (answerTo u b ≡ 0) × (t ≡ taken u b)
-unfolding acceptanceOf
-was-taken u t b h = go (eqb (answerTo u b) 0) refl h
-  where
-    go : (x : Bool) → eqb (answerTo u b) 0 ≡ x →
-        outcomeOf 0 t ≡ cond x (outcomeOf 0 (taken u b)) (outcomeOf (answerTo u b) u) →
-        (answerTo u b ≡ 0) × (t ≡ taken u b)
-    go true e q = (eqb-true (answerTo u b) 0 e, ap (λ (o : Outcome). o .after) q)
-    go false e q = absurd (eqb-false (answerTo u b) 0 e (sym (ap (λ (o : Outcome). o .answer) q)))
 
 pub record Holds (sites : ℕ) (rs : List ℕ) (n : ℕ) (t : Tables) : Type 0 where
   pub count : t .counters .records ≡ n

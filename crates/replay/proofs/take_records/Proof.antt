@@ -1,15 +1,19 @@
 -- `replay::take_records` meets its contract. Assumes nothing.
 use mathlib.Core.Path.{_≡_, sym, _∙_}
-use Prim.Native.Nat.{_≤_, _-_}
+use mathlib.Core.List.{List}
+use Prim.Native.Nat.{ℕ, _≤_, _-_}
 use native.Mathlib.Numerals.{add-one}
 use native.Mathlib.Omega.{arith}
 use lib.ListN.{length}
 use denote.Ref.{now}
 use borrow.Author.Needs.{needs}
-use Rattle.tables.specs.Tables.{tablesOf, numberOf, recordsLength, objectsLength, groupsLength}
+use Rattle.history.specs.History.{bytesAt}
+use Rattle.tables.specs.Tables.{Tables, tablesOf, outcomeOf, numberOf}
 use Rattle.index.specs.Index.{IndexOf}
+use Rattle.arrival.specs.Arrival.{acceptanceOf}
 use Rattle.replay.proofs.Going.{
   Going,
+  RightlyLong,
   going-start,
   going-faithful,
   going-sound,
@@ -34,22 +38,62 @@ abbrev μ-loop : tie.MeasureT-loop
     numbers counts members c i =
     n - i
 
-started :
-    (s : tie.Start Inv-loop μ-loop) →
-    Going (s .args .empty .sites) (now (s .args .recs)) 0
-    (tablesOf (s .args .empty) (now (s .args .records)) (now (s .args .objects)) (now (s .args .groups)))
-started s =
-    going-start (s .args .empty .sites) (now (s .args .recs))
-    (tablesOf (s .args .empty) (now (s .args .records)) (now (s .args .objects)) (now (s .args .groups))) (s .pre .0)
+-- ---- where things stand
 
-start-long :
-    (s : tie.Start Inv-loop μ-loop) →
-    (length (now (s .args .records)) ≡ recordsLength)
-    × (length (now (s .args .objects)) ≡ objectsLength)
-    × (length (now (s .args .groups)) ≡ groupsLength)
-start-long s =
-    going-long (s .args .empty .sites) (now (s .args .recs)) (s .pre .2) 0
-    (tablesOf (s .args .empty) (now (s .args .records)) (now (s .args .objects)) (now (s .args .groups))) (started s)
+abbrev start-of : tie.At-loop Inv-loop μ-loop → tie.Start Inv-loop μ-loop
+start-of b = b .before .before .before .before .before .before .before .before .before
+
+abbrev round-of : tie.After-take-next Inv-loop μ-loop → tie.In-loop Inv-loop μ-loop
+round-of m = m .before .before .before .before .before .before .before .before .before
+
+abbrev call-of : tie.After-number Inv-loop μ-loop → tie.After-take-next Inv-loop μ-loop
+call-of d =
+    d .before .before .before .before .before .before .before .before
+    .before .before .before .before .before .before .before .before
+
+-- the records to take, and the tables at the start and where the loop stands
+abbrev recs-of : tie.At-loop Inv-loop μ-loop → List ℕ
+recs-of b = now (start-of b .args .recs)
+
+abbrev tables-of : tie.At-loop Inv-loop μ-loop → Tables
+tables-of b = tablesOf (b .loop .c) (b .loop .records) (b .loop .objects) (b .loop .groups)
+
+abbrev empty-of : tie.Start Inv-loop μ-loop → Tables
+empty-of s = tablesOf (s .args .empty) (now (s .args .records)) (now (s .args .objects)) (now (s .args .groups))
+
+-- ---- the lengths stay
+
+started : (s : tie.Start Inv-loop μ-loop) → Going (s .args .empty .sites) (now (s .args .recs)) 0 (empty-of s)
+started s = going-start (s .args .empty .sites) (now (s .args .recs)) (empty-of s) (s .pre .0)
+
+-- t has the lengths that the tables had at the start
+abbrev AsLong : tie.Start Inv-loop μ-loop → Tables → Type 0
+AsLong s t =
+    (length (t .records) ≡ length (now (s .args .records)))
+    × (length (t .objects) ≡ length (now (s .args .objects)))
+    × (length (t .groups) ≡ length (now (s .args .groups)))
+
+as-long : (s : tie.Start Inv-loop μ-loop) (t : Tables) → RightlyLong t → AsLong s t
+as-long s t (x, y, z) =
+    let (u, v, w) = going-long (s .args .empty .sites) (now (s .args .recs)) (s .pre .2) 0 (empty-of s) (started s) in
+    (x ∙ sym u, y ∙ sym v, z ∙ sym w)
+
+-- where the loop stands, and after a call there
+loop-long : (b : tie.At-loop Inv-loop μ-loop) → AsLong (start-of b) (tables-of b)
+loop-long b =
+    let s = start-of b in
+    as-long s (tables-of b)
+    (going-long (s .args .empty .sites) (recs-of b) (s .pre .2) (b .loop .i) (tables-of b) (b .loop .inv .1))
+
+call-long :
+    (b : tie.At-loop Inv-loop μ-loop) (a : ℕ) (t : Tables) →
+    outcomeOf a t ≡ acceptanceOf (tables-of b) (bytesAt (recs-of b) (b .loop .i)) → AsLong (start-of b) t
+call-long b a t h =
+    let s = start-of b in
+    as-long s t
+    (next-long (s .args .empty .sites) (recs-of b) (s .pre .2) (b .loop .i) (tables-of b) (b .loop .inv .1) a t h)
+
+-- ---- the needs
 
 loop-holds : tie.Need-loop-holds Inv-loop μ-loop
 loop-holds c =
@@ -73,12 +117,11 @@ part-take-next-end c = search needs
 
 take-next-requires : tie.Need-take-next-requires Inv-loop μ-loop
 take-next-requires c κs =
-    let s9 = c .before .before .before .before .before .before .before .before .before in
-    let s = s9 .before .before .before .before .before .before .before .before .before in
-    let l = s9 .loop in
-    let rs = now (s .args .recs) in (
-      going-sound (s .args .empty .sites) rs (s .pre .2) (l .i) _ (l .inv .1),
-      going-faithful (s .args .empty .sites) rs (s .pre .2) (l .i) _ (l .inv .1) .kept .wide,
+    let b = c .before .before .before .before .before .before .before .before .before in
+    let s = start-of b in
+    let l = b .loop in (
+      going-sound (s .args .empty .sites) (recs-of b) (s .pre .2) (l .i) _ (l .inv .1),
+      going-faithful (s .args .empty .sites) (recs-of b) (s .pre .2) (l .i) _ (l .inv .1) .kept .wide,
       l .inv .2,
     )
 
@@ -87,206 +130,106 @@ number-requires c κs = search needs
 
 same-length : tie.Need-same-length Inv-loop μ-loop
 same-length c =
-    let s10 = c .before .before .before .before .before .before .before .before .before .before in
-    let s17 = s10 .before .before .before .before .before .before .before in
-    let s27 = s17 .before .before .before .before .before .before .before .before .before .before in
-    let s = s27 .before .before .before .before .before .before .before .before .before in
-    let l = s27 .loop in
-    let m = s17 .take-next in
-    let rs = now (s .args .recs) in
-    next-long (s .args .empty .sites) rs (s .pre .2) (l .i) _ (l .inv .1) (numberOf (m .result .answer)) _
-    (rw (lent-is rs (l .i)) at (m .ensures .0)) .0
-    ∙ sym (start-long s .0)
+    let m = call-of (c .before) in
+    let b = round-of m .before in
+    call-long b _ _ (rw (lent-is (recs-of b) (b .loop .i)) at (m .take-next .ensures .0)) .0
 
 same-length-2 : tie.Need-same-length-2 Inv-loop μ-loop
 same-length-2 c =
-    let s10 = c .before .before .before .before .before .before .before .before .before .before in
-    let s17 = s10 .before .before .before .before .before .before .before in
-    let s27 = s17 .before .before .before .before .before .before .before .before .before .before in
-    let s = s27 .before .before .before .before .before .before .before .before .before in
-    let l = s27 .loop in
-    let m = s17 .take-next in
-    let rs = now (s .args .recs) in
-    next-long (s .args .empty .sites) rs (s .pre .2) (l .i) _ (l .inv .1) (numberOf (m .result .answer)) _
-    (rw (lent-is rs (l .i)) at (m .ensures .0)) .1
-    ∙ sym (start-long s .1)
+    let m = call-of (c .before) in
+    let b = round-of m .before in
+    call-long b _ _ (rw (lent-is (recs-of b) (b .loop .i)) at (m .take-next .ensures .0)) .1
 
 same-length-3 : tie.Need-same-length-3 Inv-loop μ-loop
 same-length-3 c =
-    let s10 = c .before .before .before .before .before .before .before .before .before .before in
-    let s17 = s10 .before .before .before .before .before .before .before in
-    let s27 = s17 .before .before .before .before .before .before .before .before .before .before in
-    let s = s27 .before .before .before .before .before .before .before .before .before in
-    let l = s27 .loop in
-    let m = s17 .take-next in
-    let rs = now (s .args .recs) in
-    next-long (s .args .empty .sites) rs (s .pre .2) (l .i) _ (l .inv .1) (numberOf (m .result .answer)) _
-    (rw (lent-is rs (l .i)) at (m .ensures .0)) .2
-    ∙ sym (start-long s .2)
+    let m = call-of (c .before) in
+    let b = round-of m .before in
+    call-long b _ _ (rw (lent-is (recs-of b) (b .loop .i)) at (m .take-next .ensures .0)) .2
 
 same-length-4 : tie.Need-same-length-4 Inv-loop μ-loop
 same-length-4 c =
+    let b = round-of (call-of (c .before)) .before in
     let known = c .before .before .before .before .before .before .before .before .before .slice-known11 .given in
-    let m = c .before .before .before .before .before .before .before .before .before .before .before .before
-    .before .before .before .before .before .before .before .before .before .before .before .before .before .before
-    .before .loop .inv .2 .places-long in
-    search (
-      needs,
-      known,
-      m,
-      c .before .before .before .before .before .before .before .before .before .before
-          .before .before .before .before .before .before .before .before .before .before .before .before .before
-          .before
-          .before .before .before .before .before .before .before .before .before .before .before .before .pre .1
-          .places-long,
-    )
+    search (needs, known, b .loop .inv .2 .places-long, start-of b .pre .1 .places-long)
 
 same-length-5 : tie.Need-same-length-5 Inv-loop μ-loop
 same-length-5 c =
+    let b = round-of (call-of (c .before)) .before in
     let known = c .before .before .before .before .before .before .before .slice-known12 .given in
-    let m = c .before .before .before .before .before .before .before .before .before .before .before .before
-    .before .before .before .before .before .before .before .before .before .before .before .before .before .before
-    .before .loop .inv .2 .numbers-long in
-    search (
-      needs,
-      known,
-      m,
-      c .before .before .before .before .before .before .before .before .before .before
-          .before .before .before .before .before .before .before .before .before .before .before .before .before
-          .before
-          .before .before .before .before .before .before .before .before .before .before .before .before .pre .1
-          .numbers-long,
-    )
+    search (needs, known, b .loop .inv .2 .numbers-long, start-of b .pre .1 .numbers-long)
 
 same-length-6 : tie.Need-same-length-6 Inv-loop μ-loop
 same-length-6 c =
+    let b = round-of (call-of (c .before)) .before in
     let known = c .before .before .before .before .before .slice-known13 .given in
-    let m = c .before .before .before .before .before .before .before .before .before .before .before .before
-    .before .before .before .before .before .before .before .before .before .before .before .before .before .before
-    .before .loop .inv .2 .counts-long in
-    search (
-      needs,
-      known,
-      m,
-      c .before .before .before .before .before .before .before .before .before .before
-          .before .before .before .before .before .before .before .before .before .before .before .before .before
-          .before
-          .before .before .before .before .before .before .before .before .before .before .before .before .pre .1
-          .counts-long,
-    )
+    search (needs, known, b .loop .inv .2 .counts-long, start-of b .pre .1 .counts-long)
 
 same-length-7 : tie.Need-same-length-7 Inv-loop μ-loop
 same-length-7 c =
+    let b = round-of (call-of (c .before)) .before in
     let known = c .before .before .before .slice-known14 .given in
-    let m = c .before .before .before .before .before .before .before .before .before .before .before .before
-    .before .before .before .before .before .before .before .before .before .before .before .before .before .before
-    .before .loop .inv .2 .members-long in
-    search (
-      needs,
-      known,
-      m,
-      c .before .before .before .before .before .before .before .before .before .before
-          .before .before .before .before .before .before .before .before .before .before .before .before .before
-          .before
-          .before .before .before .before .before .before .before .before .before .before .before .before .pre .1
-          .members-long,
-    )
+    search (needs, known, b .loop .inv .2 .members-long, start-of b .pre .1 .members-long)
 
 returns : tie.Need-returns Inv-loop μ-loop
 returns c =
-    let s10 = c .before .before .before .before .before .before .before .before .before .before in
-    let s17 = s10 .before .before .before .before .before .before .before in
-    let s26 = s17 .before .before .before .before .before .before .before .before .before in
-    let s27 = s26 .before in
-    let s = s27 .before .before .before .before .before .before .before .before .before in
-    let l = s27 .loop in
-    let m = s17 .take-next in
-    let rs = now (s .args .recs) in
-    going-ends (s .args .empty .sites) rs (s .pre .2) (l .i) _ (l .inv .1) (numberOf (m .result .answer)) _
-    (rw (lent-is rs (l .i)) at (m .ensures .0))
+    let m = call-of (c .before) in
+    let b = round-of m .before in
+    let s = start-of b in
+    let l = b .loop in
+    going-ends (s .args .empty .sites) (recs-of b) (s .pre .2) (l .i) _ (l .inv .1)
+    (numberOf (m .take-next .result .answer)) _
+    (rw (lent-is (recs-of b) (l .i)) at (m .take-next .ensures .0))
     (λ z. c .if1 .taken (c .before .number .ensures ∙ z))
     (s .args .n)
-    (s26 .loop-test .taken)
+    (round-of m .loop-test .taken)
 
 add-i : tie.Need-add-i Inv-loop μ-loop
 add-i c =
-    let s10 = c .before .before .before .before .before .before .before .before .before .before in
-    let s20 = s10 .before .before .before .before .before .before .before .before .before .before in
-    let s26 = s20 .before .before .before .before .before .before in
-    let s = s26 .before .before .before .before .before .before .before .before .before .before in
-    omega (arith, s26 .loop-test .taken, s .pre .3)
+    let r = round-of (call-of (c .before)) in
+    omega (arith, r .loop-test .taken, start-of (r .before) .pre .3)
 
 loop-less : tie.Need-loop-less Inv-loop μ-loop
-loop-less c =
-    let s10 = c .before .before .before .before .before .before .before .before .before .before in
-    let s20 = s10 .before .before .before .before .before .before .before .before .before .before in
-    let s26 = s20 .before .before .before .before .before .before in
-    omega (arith, s26 .loop-test .taken)
+loop-less c = omega (arith, round-of (call-of (c .before)) .loop-test .taken)
 
 loop-again : tie.Need-loop-again Inv-loop μ-loop
 loop-again c =
-    let s10 = c .before .before .before .before .before .before .before .before .before .before in
-    let s17 = s10 .before .before .before .before .before .before .before in
-    let s26 = s17 .before .before .before .before .before .before .before .before .before in
-    let s27 = s26 .before in
-    let s = s27 .before .before .before .before .before .before .before .before .before in
-    let l = s27 .loop in
-    let m = s17 .take-next in
-    let rs = now (s .args .recs) in
-    let z : numberOf (m .result .answer) ≡ 0 = sym (c .before .number .ensures) ∙ c .if1 .left in (
-      omega (arith, s26 .loop-test .taken),
+    let m = call-of (c .before) in
+    let b = round-of m .before in
+    let s = start-of b in
+    let l = b .loop in
+    let z : numberOf (m .take-next .result .answer) ≡ 0 = sym (c .before .number .ensures) ∙ c .if1 .left in (
+      omega (arith, round-of m .loop-test .taken),
       rw (add-one (l .i))
-          (going-on (s .args .empty .sites) rs (s .pre .2) (l .i) _ (l .inv .1) _
-          (rw (z, lent-is rs (l .i)) at (m .ensures .0))),
-      m .ensures .1 z,
+          (going-on (s .args .empty .sites) (recs-of b) (s .pre .2) (l .i) _ (l .inv .1) _
+          (rw (z, lent-is (recs-of b) (l .i)) at (m .take-next .ensures .0))),
+      m .take-next .ensures .1 z,
     )
 
 same-length-8 : tie.Need-same-length-8 Inv-loop μ-loop
-same-length-8 c =
-    let s = c .before .before .before .before .before .before .before .before .before .before in
-    let l = c .before .loop in
-    going-long (s .args .empty .sites) (now (s .args .recs)) (s .pre .2) (l .i) _ (l .inv .1) .0 ∙ sym
-    (start-long s .0)
+same-length-8 c = loop-long (c .before) .0
 
 same-length-9 : tie.Need-same-length-9 Inv-loop μ-loop
-same-length-9 c =
-    let s = c .before .before .before .before .before .before .before .before .before .before in
-    let l = c .before .loop in
-    going-long (s .args .empty .sites) (now (s .args .recs)) (s .pre .2) (l .i) _ (l .inv .1) .1 ∙ sym
-    (start-long s .1)
+same-length-9 c = loop-long (c .before) .1
 
 same-length-10 : tie.Need-same-length-10 Inv-loop μ-loop
-same-length-10 c =
-    let s = c .before .before .before .before .before .before .before .before .before .before in
-    let l = c .before .loop in
-    going-long (s .args .empty .sites) (now (s .args .recs)) (s .pre .2) (l .i) _ (l .inv .1) .2 ∙ sym
-    (start-long s .2)
+same-length-10 c = loop-long (c .before) .2
 
 same-length-11 : tie.Need-same-length-11 Inv-loop μ-loop
-same-length-11 c =
-    let s10 = c .before .before .before .before .before .before .before .before .before .before in
-    c .before .loop .inv .2 .places-long ∙ sym (s10 .pre .1 .places-long)
+same-length-11 c = c .before .loop .inv .2 .places-long ∙ sym (start-of (c .before) .pre .1 .places-long)
 
 same-length-12 : tie.Need-same-length-12 Inv-loop μ-loop
-same-length-12 c =
-    let s10 = c .before .before .before .before .before .before .before .before .before .before in
-    c .before .loop .inv .2 .numbers-long ∙ sym (s10 .pre .1 .numbers-long)
+same-length-12 c = c .before .loop .inv .2 .numbers-long ∙ sym (start-of (c .before) .pre .1 .numbers-long)
 
 same-length-13 : tie.Need-same-length-13 Inv-loop μ-loop
-same-length-13 c =
-    let s10 = c .before .before .before .before .before .before .before .before .before .before in
-    c .before .loop .inv .2 .counts-long ∙ sym (s10 .pre .1 .counts-long)
+same-length-13 c = c .before .loop .inv .2 .counts-long ∙ sym (start-of (c .before) .pre .1 .counts-long)
 
 same-length-14 : tie.Need-same-length-14 Inv-loop μ-loop
-same-length-14 c =
-    let s10 = c .before .before .before .before .before .before .before .before .before .before in
-    c .before .loop .inv .2 .members-long ∙ sym (s10 .pre .1 .members-long)
+same-length-14 c = c .before .loop .inv .2 .members-long ∙ sym (start-of (c .before) .pre .1 .members-long)
 
 returns-2 : tie.Need-returns-2 Inv-loop μ-loop
 returns-2 c =
-    let s10 = c .before .before .before .before .before .before .before .before .before .before in
     let l = c .before .loop in
-    let k : l .i ≡ s10 .args .n = omega arith in
+    let k : l .i ≡ start-of (c .before) .args .n = omega arith in
     rw k at (l .inv .1)
 
 pub take-records-spec : {M : Type 1} → statement M
