@@ -9,7 +9,7 @@ use lib.ListN.{length, getD}
 use lib.Dec.{eqb, leb, ltb}
 use borrow.Author.Tests.{eqb-true, eqb-false, leb-false, ltb-false, not-false}
 use Rattle.ground.specs.Sorted.{any}
-use Rattle.ground.proofs.Bools.{clash, neither}
+use Rattle.ground.proofs.Bools.{clash, neither, then-off}
 use Rattle.record.specs.Layout.{recordLength}
 use Rattle.record.specs.Record.{decodeOf}
 use Rattle.record.specs.Form.{isCreate, isSet, malformed, unfit}
@@ -33,10 +33,6 @@ use Rattle.arrival.specs.Arrival.{
 use Rattle.arrival.specs.Code.{six, sixth}
 use Rattle.arrival.proofs.Reasons.{none-present}
 use Rattle.arrival.proofs.Six.{answer-is}
-
-pub then-off : (a b : Bool) → a ≡ true → (a && b) ≡ false → b ≡ false
-then-off true b e h = h
-then-off false b e h = clash e refl
 
 -- ---- an edit that passes 1 to 6
 

@@ -16,7 +16,8 @@ use Rattle.history.specs.History.{recordAt, setsOn, isTarget, objectOf, conflic
 use Rattle.history.proofs.History.{Target}
 use Rattle.group.specs.Row.{mostGroups}
 use Rattle.tables.specs.Tables.{Tables, heldBy, placeAt, setsAt, groupsAt}
-use Rattle.soundness.proofs.Facts.{Sound, Row}
+use Rattle.soundness.proofs.Facts.{Sound}
+use Rattle.soundness.proofs.EachObject.{Row}
 use Rattle.arrival.specs.Arrival.{matesOf, rowOf, groupsAfter}
 use Rattle.arrival.proofs.Objects.{target-object}
 use Rattle.causal.proofs.Identities.{same-site, same-seq}

@@ -7,7 +7,7 @@ use native.Mathlib.Omega.{arith}
 use lib.ListN.{length, getD, set, length-set}
 use lib.Seq.{getD-set-same, getD-set-other}
 use Rattle.tables.specs.Tables.{entryLength, placeAt, setsAt, groupsAt}
-use Rattle.soundness.proofs.Facts.{Entry, Row, Object}
+use Rattle.soundness.proofs.EachObject.{Entry, Row, Object}
 use Rattle.arrival.specs.Arrival.{putCounts, putEntry}
 
 -- an object that is as its entry says

@@ -50,7 +50,8 @@ use Rattle.arrival.proofs.Entries.{
 use Rattle.arrival.proofs.TrueGroups.{groups-same, groups-more, groups-first}
 use Rattle.arrival.proofs.Rows.{row-back, row-other}
 use Rattle.arrival.proofs.Kept.{room, held-after}
-use Rattle.arrival.proofs.KeptCreate.{create-not-set, no-set-held}
+use Rattle.record.proofs.WellFormed.{create-not-set}
+use Rattle.arrival.proofs.KeptCreate.{no-set-held}
 use Rattle.arrival.proofs.Aimed.{object-less, target-site, target-seq, row-fits}
 use Rattle.arrival.proofs.KeptSet.{not-on}
 use Rattle.arrival.proofs.Keeps.{Kept, empty-kept, acceptance-keeps}

@@ -4,8 +4,7 @@ use mathlib.Core.Bool.{Bool, true, false, cond}
 use mathlib.Core.List.{List}
 use Prim.Native.Nat.{ℕ, _+_, _≤_}
 use native.Mathlib.Omega.{arith}
-use native.Mathlib.Decide.{decLt}
-use lib.ListN.{length, getD, set, replicate, length-set, length-replicate, getD-replicate, List·getD-eq-default}
+use lib.ListN.{length, getD, set, replicate, length-set, length-replicate}
 use lib.Dec.{eqb}
 use borrow.Author.Tests.{eqb-true}
 use Rattle.ground.specs.Below.{all}
@@ -22,6 +21,7 @@ use Rattle.arrival.specs.Arrival.{answerTo, withCreate, withSet, taken, 
 use Rattle.arrival.proofs.Admitted.{accepted, set-or-create}
 use Rattle.arrival.proofs.KeptCreate.{create-keeps-sound}
 use Rattle.arrival.proofs.KeptSet.{set-keeps-sound}
+use Rattle.ground.proofs.Places.{zero-anywhere}
 
 -- sound tables with a count for each site, as the code's arrays have
 pub record Kept (t : Tables) : Type 0 where
@@ -29,13 +29,6 @@ pub record Kept (t : Tables) : Type 0 where
   pub wide : length (t .counters .held) ≡ mostSites
 
 -- ---- the empty drawing
-
-zeros : (n i : ℕ) → _≡_ {A = ℕ} (getD (replicate n 0) i 0) 0
-zeros n i =
-    elim (decLt i n) [
-      | yes h ↦ getD-replicate n i 0 0 h
-      | no h ↦ List·getD-eq-default (replicate n 0) 0 (omega (arith, length-replicate {A = ℕ} n 0))
-    ]
 
 pub empty-kept : (n : ℕ) → 1 ≤ n → n ≤ mostSites → Kept (emptyDrawing n)
 unfolding emptyDrawing editsOf countFrom creates filter recordsPass all
@@ -50,13 +43,13 @@ empty-kept n some few =
             few-sites = few;
             few-records = omega arith;
             few-objects = omega arith;
-            held = λ s l. zeros mostSites s;
+            held = λ s l. zero-anywhere mostSites s;
             objects = refl;
             pass = refl;
             object = λ o l. absurd (omega arith);
-            records-zero = λ i l k. zeros recordsLength i;
-            objects-zero = λ i l k. zeros objectsLength i;
-            groups-zero = λ i l k. zeros groupsLength i;
+            records-zero = λ i l k. zero-anywhere recordsLength i;
+            objects-zero = λ i l k. zero-anywhere objectsLength i;
+            groups-zero = λ i l k. zero-anywhere groupsLength i;
           };
       wide = refl;
     }

@@ -27,7 +27,8 @@ use Rattle.history.specs.History.{recordAt, editsOf, countFrom, creates, isSetO
 use Rattle.history.specs.Answers.{passes, recordsPass}
 use Rattle.group.specs.Row.{mostSets}
 use Rattle.tables.specs.Tables.{Tables, heldBy, recordsLength}
-use Rattle.soundness.proofs.Facts.{Sound, Entry, ZeroFrom}
+use Rattle.soundness.proofs.Facts.{Sound, ZeroFrom}
+use Rattle.soundness.proofs.EachObject.{Entry}
 use Rattle.arrival.specs.Arrival.{putRecord}
 use Rattle.arrival.proofs.Admitted.{Admitted, admitted-passes}
 use Rattle.arrival.proofs.Records.{put-long, put-after, put-before, put-here, put-edits-before, put-edits}

@@ -7,13 +7,13 @@ use Prim.Native.Nat.{ℕ, zero, suc, _+_, _*_, _≤_, _<_}
 use native.Mathlib.Omega.{arith}
 use lib.ListN.{length, getD}
 use lib.Dec.{eqb}
-use borrow.Author.Tests.{eqb-true, eq-eqb, ne-eqb, leb-false}
+use borrow.Author.Tests.{eq-eqb, leb-false}
 use Rattle.ground.proofs.Bools.{off, both}
 use Rattle.ground.proofs.Numbers.{last}
 use Rattle.record.specs.declared.Site.{Site}
 use Rattle.record.specs.declared.Seq.{Seq}
 use Rattle.record.specs.declared.Edit.{Edit}
-use Rattle.record.specs.Layout.{mostSites, createKind, setKind}
+use Rattle.record.specs.Layout.{mostSites}
 use Rattle.record.specs.Record.{decodeOf}
 use Rattle.record.specs.Form.{isCreate, isSet}
 use Rattle.causal.specs.Causal.{sameEdit}
@@ -23,7 +23,8 @@ use Rattle.history.proofs.History.{target-parts, count-more, count-grows}
 use Rattle.history.proofs.Passed.{next-at, target-before}
 use Rattle.group.specs.Row.{mostGroups}
 use Rattle.tables.specs.Tables.{Tables, heldBy, placeAt, entryLength}
-use Rattle.soundness.proofs.Facts.{Sound, Entry, Row, Object}
+use Rattle.soundness.proofs.Facts.{Sound}
+use Rattle.soundness.proofs.EachObject.{Entry, Row, Object}
 use Rattle.arrival.specs.Arrival.{putEntry, putRecord, withCreate}
 use Rattle.arrival.proofs.Admitted.{Admitted}
 use Rattle.arrival.proofs.Records.{put-here, put-edits-before}
@@ -41,11 +42,7 @@ use Rattle.arrival.proofs.Kept.{
   records-zero-after,
   entry-kept,
 }
-
-pub create-not-set : (e : Edit) → isCreate e ≡ true → isSet e ≡ false
-create-not-set e h =
-    let k : e .kind ≡ createKind = eqb-true (e .kind) createKind h in
-    ne-eqb (e .kind) setKind (λ q. omega arith)
+use Rattle.record.proofs.WellFormed.{create-not-set}
 
 -- ---- an accepted edit is the first of its identity
 

@@ -8,14 +8,12 @@ use native.Mathlib.Omega.{arith}
 use native.Mathlib.Numerals.{add-one}
 use native.Mathlib.Decide.{ℕ-discrete}
 use lib.ListN.{length, replicate}
-use lib.Dec.{eqb}
-use borrow.Author.Tests.{eqb-true, ne-eqb}
 use Rattle.ground.specs.Sorted.{any}
 use Rattle.ground.proofs.Bools.{off, both}
 use Rattle.record.specs.declared.Site.{Site}
 use Rattle.record.specs.declared.Seq.{Seq}
 use Rattle.record.specs.declared.Edit.{Edit}
-use Rattle.record.specs.Layout.{mostSites, createKind, setKind}
+use Rattle.record.specs.Layout.{mostSites}
 use Rattle.record.specs.Record.{decodeOf}
 use Rattle.record.specs.Form.{isCreate, isSet}
 use Rattle.causal.specs.Causal.{sameEdit}
@@ -24,7 +22,8 @@ use Rattle.history.specs.History.{recordAt, editsOf, creates, isSetOn, isTarget
 use Rattle.history.proofs.Passed.{one-place}
 use Rattle.group.specs.Row.{mostGroups, row, putRow}
 use Rattle.tables.specs.Tables.{Tables, heldBy, placeAt, setsAt, groupsAt, entryLength}
-use Rattle.soundness.proofs.Facts.{Sound, Entry, Row, Object}
+use Rattle.soundness.proofs.Facts.{Sound}
+use Rattle.soundness.proofs.EachObject.{Entry, Row, Object}
 use Rattle.arrival.specs.Arrival.{matesOf, groupsAfter, putCounts, putRecord, withSet}
 use Rattle.arrival.proofs.Admitted.{Accepted, admitted-target}
 use Rattle.causal.proofs.Identities.{same-parts}
@@ -61,11 +60,7 @@ use Rattle.arrival.proofs.Kept.{
   entry-kept,
   entry-grown,
 }
-
-pub set-not-create : (e : Edit) → isSet e ≡ true → isCreate e ≡ false
-set-not-create e h =
-    let k : e .kind ≡ setKind = eqb-true (e .kind) setKind h in
-    ne-eqb (e .kind) createKind (λ q. omega arith)
+use Rattle.record.proofs.WellFormed.{set-not-create}
 
 -- ---- the row of its object
 

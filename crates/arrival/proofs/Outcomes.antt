@@ -32,8 +32,7 @@ use Rattle.arrival.specs.Arrival.{
 use Rattle.arrival.specs.Code.{sixth}
 use Rattle.arrival.proofs.Six.{answer-is}
 use Rattle.arrival.proofs.Admitted.{Admitted}
-use Rattle.arrival.proofs.KeptCreate.{create-not-set}
-use Rattle.arrival.proofs.KeptSet.{set-not-create}
+use Rattle.record.proofs.WellFormed.{create-not-set, set-not-create}
 
 module _ (t : Tables) (b : List ℕ) where
   abbrev e : Edit

@@ -22,7 +22,7 @@ use Rattle.ground.specs.Sorted.{elem, Ascending}
 use Rattle.ground.proofs.Places.{elem-place, place-elem, ascending-on, ascending-at}
 use Rattle.ground.proofs.Parts.{put-long, put-before, put-inside, put-after, put-from}
 use Rattle.group.specs.Row.{mostGroups, row, putRow}
-use Rattle.soundness.proofs.Facts.{Row}
+use Rattle.soundness.proofs.EachObject.{Row}
 
 -- ---- the groups in use
 

@@ -42,7 +42,7 @@ use Rattle.arrival.proofs.Entries.{counts-place, other-place, other-groups, ent
 use Rattle.arrival.proofs.Rows.{row-other}
 use Rattle.arrival.proofs.TrueGroups.{sets-same}
 use Rattle.arrival.proofs.Kept.{room, held-after}
-use Rattle.arrival.proofs.KeptCreate.{create-not-set}
+use Rattle.record.proofs.WellFormed.{create-not-set}
 use Rattle.arrival.proofs.Aimed.{object-less, row-fits}
 use Rattle.arrival.proofs.KeptSet.{not-on}
 use Rattle.arrival.proofs.Keeps.{Kept}

@@ -51,6 +51,14 @@ pub neither : (a b : Bool) → (a || b) ≡ false → (a ≡ false) × (b ≡ fa
 neither true b h = clash refl h
 neither false b h = (refl, h)
 
+pub then-off : (a b : Bool) → a ≡ true → (a && b) ≡ false → b ≡ false
+then-off true b e h = h
+then-off false b e h = clash e refl
+
+pub off-where : (a b : Bool) → (a ≡ true → b ≡ false) → (a && b) ≡ false
+off-where true b h = h refl
+off-where false b h = refl
+
 pub or-off : (a b : Bool) → a ≡ false → b ≡ false → (a || b) ≡ false
 or-off a b p q = rw (p, q)
 

@@ -8,9 +8,12 @@ use native.Mathlib.Omega.{arith}
 use native.Mathlib.Decide.{decLt}
 use lib.Dec.{eqb}
 use lib.ListN.{length, getD, replicate}
+use lib.Seq.{ext-getD}
 use borrow.Author.Tests.{eqb-true}
-use Rattle.ground.proofs.Bools.{clash, either, or-left, or-right, eqb-self}
+use Rattle.ground.proofs.Bools.{clash, either, or-left, or-right, eqb-self, both}
 use Rattle.ground.specs.Sorted.{any, elem, filter, Ascending}
+use Rattle.ground.specs.Below.{all, sameList}
+use Rattle.ground.proofs.Below.{all-at}
 
 -- ---- zeros
 
@@ -121,3 +124,11 @@ largest x (w ∷ v ∷ l) h =
             [ inl r ↦ omega (arith, eqb-true z w r) | inr r ↦ omega (arith, top z r) ],
       )
     ]
+
+-- ---- the same list
+
+pub list-equal : (l m : List ℕ) → sameList l m ≡ true → l ≡ m
+list-equal l m h =
+    let (p, q) = both (eqb (length l) (length m)) (all (length l) (λ i. eqb (getD l i 0) (getD m i 0))) h in
+    ext-getD 0 l m (eqb-true (length l) (length m) p)
+    (λ i k. eqb-true (getD l i 0) (getD m i 0) (all-at (length l) (λ j. eqb (getD l j 0) (getD m j 0)) q i k))

@@ -16,8 +16,6 @@ use Rattle.ground.proofs.Bools.{clash, off, both, and-on}
 use Rattle.ground.proofs.Numbers.{last}
 use Rattle.ground.proofs.Below.{all-at, all-on}
 use Rattle.ground.proofs.Places.{zero-anywhere}
-use Rattle.record.specs.declared.Edit.{Edit}
-use Rattle.record.specs.Layout.{createKind, setKind}
 use Rattle.record.specs.Form.{isCreate, isSet}
 use Rattle.causal.specs.Causal.{sameEdit}
 use Rattle.history.specs.History.{mostRecords, recordAt, editsOf, creates, isSetOn, setsOn}
@@ -30,6 +28,7 @@ use Rattle.group.specs.Row.{mostObjects, mostSets}
 use Rattle.tables.specs.declared.Counters.{Counters}
 use Rattle.index.specs.Index.{numberAt, isOn, placesOn, membersLength, IndexOf, Holds}
 use Rattle.index.proofs.Places.{places-added, places-stay, places-none, places-length, one-number}
+use Rattle.record.proofs.WellFormed.{create-not-set}
 
 -- ---- the start
 
@@ -56,9 +55,6 @@ none-numbered rs = refl
 -- ---- one record more
 
 -- a Create is no Set
-not-both : (e : Edit) → isCreate e ≡ true → isSet e ≡ false
-not-both e h = off (isSet e) (λ k. omega (arith, eqb-true (e .kind) createKind h, eqb-true (e .kind) setKind k))
-
 module _ (c : Counters) (rs : List ℕ) (h : Holds c rs) (n : ℕ) (l : n < c .records) where
   -- a Set on the Create in place p has the identity of that Create for its target
   on-target :
@@ -125,7 +121,7 @@ module _ (c : Counters) (rs : List ℕ) (h : Holds c rs) (n : ℕ) (l : n < c .r
 
     module _ (create : isCreate (recordAt rs n) ≡ true) where
       not-on : (p : ℕ) → isOn rs p n ≡ false
-      not-on p = off (isOn rs p n) (λ on. clash (on-target p n on .0) (not-both (recordAt rs n) create))
+      not-on p = off (isOn rs p n) (λ on. clash (on-target p n on .0) (create-not-set (recordAt rs n) create))
 
       -- no Set can have named it
       none-on : placesOn rs (suc n) n ≡ []
@@ -233,7 +229,7 @@ module _ (c : Counters) (rs : List ℕ) (h : Holds c rs) (n : ℕ) (l : n < c .r
       is-set = on-target q n on .0
 
       newer : {A : Type 0} {p : ℕ} → p ≡ n → isCreate (recordAt rs p) ≡ true → A
-      newer e cp = clash is-set (not-both (recordAt rs n) (rw e at cp))
+      newer e cp = clash is-set (create-not-set (recordAt rs n) (rw e at cp))
 
       pub set-added : IndexOf rs (suc n) (set ps at n) ns (set cs o (k + 1)) (set ms (o * mostSets + k) n)
       set-added =

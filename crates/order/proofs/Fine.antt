@@ -1,5 +1,5 @@
 -- What an answer of 0 over a list of edits says, in facts, and that these facts give it. Assumes nothing.
-use mathlib.Core.Path.{_≡_, refl}
+use mathlib.Core.Path.{_≡_}
 use mathlib.Core.Bool.{Bool, true, false, not, _&&_, _||_}
 use mathlib.Core.List.{List, [], _∷_, _++_}
 use Prim.Native.Nat.{ℕ, _+_, _≤_, _<_}
@@ -9,7 +9,7 @@ use lib.Dec.{eqb, leb, ltb}
 use borrow.Author.Tests.{eqb-false, leb-false, lt-leb, ltb-false, le-ltb, not-true, not-false}
 use Rattle.ground.specs.Below.{some}
 use Rattle.ground.specs.Sorted.{any}
-use Rattle.ground.proofs.Bools.{clash, off, neither, or-off}
+use Rattle.ground.proofs.Bools.{clash, off, neither, or-off, then-off, off-where}
 use Rattle.ground.proofs.Below.{some-off}
 use Rattle.record.specs.declared.Edit.{Edit}
 use Rattle.record.specs.Layout.{mostSites}
@@ -21,7 +21,6 @@ use Rattle.group.specs.Row.{mostObjects, mostSets, mostGroups}
 use Rattle.arrival.specs.Arrival.{firstOf}
 use Rattle.arrival.specs.Truth.{trueGroups}
 use Rattle.arrival.proofs.Reasons.{none-present}
-use Rattle.arrival.proofs.Admitted.{then-off}
 use Rattle.order.specs.Rearranged.{Mem}
 use Rattle.order.specs.Settled.{named, fullOver, crowdedOver, listReasons, listAnswer}
 use Rattle.order.proofs.Members.{any-on, any-at}
@@ -37,10 +36,6 @@ pub record Fine (n : ℕ) (es : List Edit) (e : Edit) : Type 0 where
   pub few : isSet e ≡ true → length (trueGroups (es ++ (e ∷ [])) (named e)) ≤ mostGroups
 
 -- b does not hold where a does
-off-where : (a b : Bool) → (a ≡ true → b ≡ false) → (a && b) ≡ false
-off-where true b h = h refl
-off-where false b h = refl
-
 module _ (n : ℕ) (es : List Edit) (e : Edit) where
   abbrev records? : Bool
   records? = leb mostRecords (length es)

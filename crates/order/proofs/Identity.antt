@@ -7,13 +7,12 @@ use mathlib.Core.List.{List, [], _∷_}
 use Prim.Native.Nat.{ℕ, zero, suc, _≤_}
 use native.Mathlib.Omega.{arith}
 use lib.ListN.{length, getD, drop}
-use lib.Seq.{ext-getD}
 use lib.Dec.{eqb}
 use borrow.Author.Tests.{eqb-true, eq-eqb, le-leb}
-use Rattle.ground.specs.Below.{all, sameList}
+use Rattle.ground.specs.Below.{all}
 use Rattle.ground.specs.Sorted.{filter}
 use Rattle.ground.proofs.Bools.{clash, both, and-on, eqb-self}
-use Rattle.ground.proofs.Below.{all-on, all-at}
+use Rattle.ground.proofs.Below.{all-on}
 use Rattle.record.specs.declared.Site.{Site}
 use Rattle.record.specs.declared.Seq.{Seq}
 use Rattle.record.specs.declared.Edit.{Edit}
@@ -29,6 +28,7 @@ use Rattle.order.specs.Settled.{Differ, Apart}
 use Rattle.order.specs.Equal.{fieldsOf, isEqual}
 use Rattle.order.proofs.Members.{any-on, any-at, chosen-at, chosen-on, mem-place}
 use Rattle.order.proofs.Pairs.{pairs-two, pairs-chosen}
+use Rattle.ground.proofs.Places.{list-equal}
 
 -- ---- identity, seen, before
 
@@ -68,12 +68,6 @@ made l =
       tseq = record { 0 = getD l 5 0 };
       value = getD l 6 0;
     }
-
-list-equal : (l m : List ℕ) → sameList l m ≡ true → l ≡ m
-list-equal l m h =
-    let (p, q) = both (eqb (length l) (length m)) (all (length l) (λ i. eqb (getD l i 0) (getD m i 0))) h in
-    ext-getD 0 l m (eqb-true (length l) (length m) p)
-    (λ i k. eqb-true (getD l i 0) (getD m i 0) (all-at (length l) (λ j. eqb (getD l j 0) (getD m j 0)) q i k))
 
 pub equal-at : (a b : Edit) → isEqual a b ≡ true → a ≡ b
 unfolding isEqual made

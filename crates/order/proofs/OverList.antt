@@ -9,7 +9,7 @@ use lib.ListN.{length}
 use lib.Dec.{ltb}
 use borrow.Author.Tests.{eq-eqb, not-false}
 use Rattle.ground.specs.Sorted.{any}
-use Rattle.ground.proofs.Bools.{decide}
+use Rattle.ground.proofs.Bools.{decide, then-off}
 use Rattle.record.specs.declared.Edit.{Edit}
 use Rattle.record.specs.Layout.{recordLength}
 use Rattle.record.specs.Record.{decodeOf}
@@ -20,7 +20,7 @@ use Rattle.history.proofs.History.{edits-length}
 use Rattle.group.specs.Row.{mostGroups}
 use Rattle.tables.specs.Tables.{Tables, heldBy, placeAt}
 use Rattle.arrival.specs.Arrival.{isFull, isCrowded, firstOf, answerTo, taken}
-use Rattle.arrival.proofs.Admitted.{accepted, taken-records, then-off}
+use Rattle.arrival.proofs.Admitted.{accepted, taken-records}
 use Rattle.arrival.proofs.Kept.{held-after}
 use Rattle.arrival.proofs.Aimed.{target-site, target-seq}
 use Rattle.arrival.proofs.Faithful.{Faithful}

@@ -9,12 +9,21 @@ use lib.ListN.{getD}
 use lib.Dec.{eqb, leb}
 use borrow.Author.Tests.{eqb-true, eqb-false, eq-eqb, leb-false, le-leb, not-false}
 use Rattle.ground.specs.Below.{all}
-use Rattle.ground.proofs.Bools.{decide, same-test, both, neither}
+use Rattle.ground.proofs.Bools.{decide, same-test, both, neither, off}
 use Rattle.ground.proofs.Below.{none-at}
-use Rattle.record.specs.Layout.{mostSites, keys, targetAt, targetSeqAt, valueAt}
+use Rattle.record.specs.Layout.{mostSites, keys, targetAt, targetSeqAt, valueAt, createKind, setKind}
 use Rattle.record.specs.Record.{two, four, decodeOf}
 use Rattle.record.specs.Form.{isCreate, isSet, entryOf, nonzeroPast, lastEightZero, unfit}
 use Rattle.record.specs.declared.Edit.{Edit}
+
+-- ---- the two kinds
+
+pub create-not-set : (e : Edit) → isCreate e ≡ true → isSet e ≡ false
+create-not-set e h = off (isSet e) (λ k. omega (arith, eqb-true (e .kind) createKind h, eqb-true (e .kind) setKind k))
+
+pub set-not-create : (e : Edit) → isSet e ≡ true → isCreate e ≡ false
+set-not-create e h =
+    off (isCreate e) (λ k. omega (arith, eqb-true (e .kind) setKind h, eqb-true (e .kind) createKind k))
 
 -- ---- a well-formed edit
 

@@ -1,5 +1,5 @@
--- `index::add_set` meets its contract. The kit finds this proof by itself; the file is here so that an edit that does not
--- count the Set is refused at `returns`. Assumes nothing.
+-- `index::add_set` meets its contract. The kit finds this proof by itself; the file is here so that an edit that does
+-- not count the Set is refused at `returns`. Assumes nothing.
 use borrow.Author.Needs.{needs}
 use Rattle.index.proofs.add_set.Statement.{statement}
 use Rattle.index.proofs.add_set.Tie as tie
