@@ -36,7 +36,7 @@ use Rattle.version.proofs.Members.{filter-keep}
 
 -- ---- by places
 
-pub identifier-places :
+identifier-places :
     (ms : List Edit) (g : ℕ) →
     identifierOf ms g ≡ ascending (map (λ i. nameOf (getD ms i noEdit)) (disputedOf ms g))
 unfolding identifierOf membersOf disputedOf
