@@ -163,5 +163,5 @@ pub versions-never-share :
     g ≡ h
 unfolding trueGroups
 versions-never-share t s c g h =
-    never-shared (setsOn (c .site) (c .seq) (heldBy t)) (names-apart (heldBy t) (held-apart t s) (held-numbered t s) c) g
-    h
+    let differ = names-apart (heldBy t) (held-apart t s) (held-numbered t s) c in
+    never-shared (setsOn (c .site) (c .seq) (heldBy t)) differ g h
