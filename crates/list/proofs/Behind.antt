@@ -40,7 +40,7 @@ module _ (out : List ℕ) (n : ℕ) where
       (append-assoc (take n out) a (b ++ drop (n + length (a ++ b)) out)
       ∙ ap (λ (x : List ℕ). take n out ++ x) (sym (append-assoc a b (drop (n + length (a ++ b)) out))))
 
-  pub none-behind : Behind out n [] 0 out n
+  none-behind : Behind out n [] 0 out n
   none-behind = record {
     put = sym (rw (add-zero n) (take-append-drop n out));
     end = omega arith;

@@ -68,7 +68,7 @@ module _ (t : Tables) (ok : sound t ≡ true) (out : List ℕ) (start : ℕ)
       (line-put n l (placed out start (front n)) (start + length (front n)) fits)
       ∙ rw (placed-more out start (front n) line (front-fits n), ← longer, ← one-more n l)
 
-  pub one-by-one :
+  one-by-one :
       (n : ℕ) → n ≤ length lines →
       printedOneByOne t n out start ≡ writing 0 (length (front n)) (placed out start (front n))
   unfolding printedOneByOne joined

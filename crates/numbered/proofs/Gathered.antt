@@ -85,11 +85,11 @@ module _ (t : Tables) where
   abbrev n : ℕ
   n = t .counters .objects
 
-  pub objects-length : length (objectsOf t) ≡ n
+  objects-length : length (objectsOf t) ≡ n
   unfolding objectsOf
   objects-length = gathered-length (createdBefore t) [] (keep n (λ o. true)) ∙ omega (arith, count-all n)
 
-  pub object-low : (i : ℕ) → i < n → getD (objectsOf t) i 0 < n
+  object-low : (i : ℕ) → i < n → getD (objectsOf t) i 0 < n
   unfolding objectsOf any
   object-low i l = go (decLt (getD (objectsOf t) i 0) n)
     where

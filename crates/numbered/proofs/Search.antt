@@ -48,7 +48,7 @@ module _ (lines : ℕ → List (List ℕ)) (os : List ℕ) (n k : ℕ) (fits : n
     abbrev o : ℕ
     o = getD os i 0
 
-    pub one-passed :
+    one-passed :
         (count : ℕ) → count ≡ length (lines o) → count ≤ left →
         LeftOf lines (take n os) k (slice (i + 1) n os) (left - count)
     unfolding flatMap
@@ -60,7 +60,7 @@ module _ (lines : ℕ → List (List ℕ)) (os : List ℕ) (n k : ℕ) (fits : n
           line = f .line ∙ rw (more, e) (passed-place (lines o) rest left [] (omega arith));
         }
 
-    pub found-here :
+    found-here :
         left < length (lines o) →
         (true ≡ ltb k (length (flatMap lines (take n os))))
         × (getD (flatMap lines (take n os)) k [] ≡ getD (lines o) left [])
@@ -73,7 +73,7 @@ module _ (lines : ℕ → List (List ℕ)) (os : List ℕ) (n k : ℕ) (fits : n
           f .line ∙ rw more (List·getD-append (lines o) rest [] left h),
         )
 
-  pub none-found :
+  none-found :
       (i left : ℕ) → i ≤ n → n ≤ i → LeftOf lines (take n os) k (slice i n os) left →
       false ≡ ltb k (length (flatMap lines (take n os)))
   unfolding flatMap
@@ -95,7 +95,7 @@ module _ (t : Tables) (s : Sound t) where
       length-take-le (groupsAt (t .objects) o) (row o (t .groups)) (omega (arith, long, s .object o l .row .few))
 
   -- an object has a line for each of its groups
-  pub lines-count : (o : ℕ) → o < n → length (linesFor t o) ≡ groupsAt (t .objects) o
+  lines-count : (o : ℕ) → o < n → length (linesFor t o) ≡ groupsAt (t .objects) o
   unfolding linesFor objectLines
   lines-count o l =
       length-map (versionsOf (setsFor t o) (rowOf t o)) (versionLine (createOf t o) (setsFor t o))

@@ -15,7 +15,7 @@ use Rattle.objects.specs.Code.{PlacedFor, MembersOf}
 
 module _ (t : Tables) (s : Sound t) where
   -- places that are those of the Sets of object o hold them
-  pub placed :
+  placed :
       (o : ℕ) → o < t .counters .objects → (ps : List ℕ) →
       length (placesOn (t .records) (t .counters .records) (placeAt (t .objects) o)) ≤ length ps →
       take (length (placesOn (t .records) (t .counters .records) (placeAt (t .objects) o))) ps

@@ -7,7 +7,7 @@ use mathlib.Core.List.{List, map, map-map, Memᴰ·map, Memᴰ·of-map}
 use Prim.Native.Nat.{ℕ, _<_}
 use native.Mathlib.Omega.{arith}
 use lib.Dec.{eqb, ltb}
-use lib.ListN.{length, getD}
+use lib.ListN.{length}
 use borrow.Author.Tests.{ltb-true}
 use Rattle.ground.specs.Sorted.{elem, filter, Asc}
 use Rattle.ground.proofs.Bools.{clash}
@@ -24,17 +24,16 @@ use Rattle.arrival.specs.Truth.{noEdit, trueGroups}
 use Rattle.order.specs.Rearranged.{Mem, Rearranged}
 use Rattle.order.specs.Settled.{Differ, Apart}
 use Rattle.order.specs.Equal.{isEqual}
-use Rattle.order.proofs.Members.{chosen-at, mem-place}
 use Rattle.order.proofs.Rearranged.{turned, unchanged, same-members, chosen-rearranged}
 use Rattle.order.proofs.Pairs.{pairs-made, pairs-weaken, pairs-rearranged}
-use Rattle.order.proofs.Identity.{differ-turned, same-on, one-edit, sets-distinct}
+use Rattle.order.proofs.Identity.{differ-turned, sets-distinct}
 use Rattle.order.proofs.SameGroups.{same-keys}
 use Rattle.version.specs.Version.{seqNumbers, identifierOf}
 use Rattle.version.specs.Order.{isAhead, versionsOf}
 use Rattle.version.specs.Line.{versionLine, objectLines}
-use Rattle.version.proofs.Lex.{Before, lex-through, lex-told, lex-irreflexive}
+use Rattle.version.proofs.Lex.{Before, lex-told, before-through, lex-irreflexive}
 use Rattle.version.proofs.Sorted.{same-versions, versions-sorted}
-use Rattle.version.proofs.Unshared.{NamesDiffer, never-shared}
+use Rattle.version.proofs.Unshared.{NamesDiffer, never-shared, names-apart}
 use Rattle.version.proofs.FromMembers.{
   namesFrom,
   lineFrom,
@@ -57,7 +56,7 @@ ahead-irreflexive : (a : Printed) → Ahead a a → ⊥
 ahead-irreflexive a h = clash h (lex-irreflexive (a .0))
 
 ahead-through : (a b d : Printed) → Ahead a b → Ahead b d → Ahead a d
-ahead-through a b d = lex-through false false false (λ h k. h) (a .0) (b .0) (d .0)
+ahead-through a b d = before-through (a .0) (b .0) (d .0)
 
 module _ (c : Edit) (ms : List Edit) where
   abbrev printed : ℕ → Printed
@@ -99,24 +98,9 @@ module _ (c : Edit) (ms : List Edit) where
         (Memᴰ·map printed (elem→mem g (versionsOf ms gs) (same-versions ms (eqb g) gs ∙ m)))),
   )
 
--- ---- names
-
 -- every sequence number fits two bytes
 abbrev pub Numbered : List Edit → Type 0
 Numbered es = (e : Edit) → Mem e es → e .seq .0 < seqNumbers
-
-names-apart : (es : List Edit) → Apart es → Numbered es → (c : Edit) → NamesDiffer (setsOn (c .site) (c .seq) es)
-unfolding setsOn
-names-apart es u small c i j li lj e =
-    let f = isSetOn (c .site) (c .seq) in
-    let ms = filter f es in
-    let a = getD ms i noEdit in
-    let b = getD ms j noEdit in
-    let ma : Mem a es = chosen-at f a es (mem-place noEdit ms i li) .0 in
-    let mb : Mem b es = chosen-at f b es (mem-place noEdit ms j lj) .0 in
-    let low : a .seq .0 < seqNumbers = small a ma in
-    let low′ : b .seq .0 < seqNumbers = small b mb in
-    sets-distinct es u c i j li lj (one-edit es u a b ma mb (same-on a b (omega arith) (omega arith)))
 
 -- ---- the lines
 

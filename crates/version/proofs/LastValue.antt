@@ -1,8 +1,7 @@
 -- The value of the last of some edits is the same in any order of them. Two edits that tie in the total order are told
 -- apart by value, so this asks nothing of the edits. Assumes nothing.
 use mathlib.Core.Path.{_≡_, refl, sym, ap, _∙_}
-use mathlib.Core.Logic.{inl, inr}
-use mathlib.Core.Bool.{Bool, true, false, _&&_, _||_, cond}
+use mathlib.Core.Bool.{Bool, true, false, cond}
 use mathlib.Core.List.{List, [], _∷_, map}
 use Prim.Native.Nat.{ℕ, _<_}
 use native.Mathlib.Omega.{arith}
@@ -10,14 +9,14 @@ use native.Mathlib.Decide.{decLt}
 use borrow.Author.Tests.{lt-ltb, le-ltb, eq-eqb, ne-eqb}
 use lib.Dec.{eqb, ltb}
 use lib.ListN.{length, getD}
-use Rattle.ground.proofs.Bools.{clash, decide, off}
+use Rattle.ground.proofs.Bools.{clash}
 use Rattle.record.specs.declared.Edit.{Edit}
 use Rattle.causal.specs.Causal.{vectorSum}
 use Rattle.order.specs.Rearranged.{Rearranged, none, skip, swap, then}
 use Rattle.version.specs.Version.{standsBefore, later, lastAfter}
 use Rattle.version.specs.Order.{lex}
 use Rattle.version.specs.Line.{settingText}
-use Rattle.version.proofs.Lex.{lex-through, lex-irreflexive, lex-neither}
+use Rattle.version.proofs.Lex.{lex-last, before-through, lex-irreflexive, lex-neither, not-before-through}
 
 -- where an edit stands: its rank in the total order, then its value
 abbrev standing : Edit → List ℕ
@@ -64,12 +63,7 @@ stands-as a b = go (decLt m n) (decLt n m) (decLt s t) (decLt t s)
           le-ltb t s (omega arith),
           eq-eqb s t (omega arith),
         )
-        (plain (ltb (a .value) (b .value)) (eqb (a .value) (b .value)))
-      where
-        plain : (x y : Bool) → x ≡ (x || y && false)
-        plain true y = refl
-        plain false true = refl
-        plain false false = refl
+        (lex-last (a .value) (b .value))
 
 -- ---- the later of two, as the lists say
 
@@ -81,7 +75,7 @@ unfolding later-of
 both-ways x y = go (lex false x y) refl (lex false y x) refl
   where
     go : (a : Bool) → lex false x y ≡ a → (b : Bool) → lex false y x ≡ b → cond a y x ≡ cond b x y
-    go true p true q = clash (lex-through false false false (λ h k. h) x y x p q) (lex-irreflexive x)
+    go true p true q = clash (before-through x y x p q) (lex-irreflexive x)
     go true p false q = refl
     go false p true q = refl
     go false p false q = lex-neither x y p q
@@ -90,23 +84,12 @@ in-turn : (x y z : List ℕ) → later-of (later-of x y) z ≡ later-of x (later
 unfolding later-of
 in-turn x y z = go (lex false x y) refl (lex false y z) refl
   where
-    through : (u v w : List ℕ) → lex false u v ≡ true → lex false v w ≡ true → lex false u w ≡ true
-    through = lex-through false false false (λ h k. h)
-
-    -- z does not stand after y, nor y after x
-    not-after : lex false x y ≡ false → lex false y z ≡ false → lex false x z ≡ false
-    not-after p q =
-        off (lex false x z) (λ h. elim (decide (lex false z y)) [
-          | inl k ↦ clash (through x z y h k) p
-          | inr k ↦ clash (rw (lex-neither z y k q) at h) p
-        ])
-
     go : (a : Bool) → lex false x y ≡ a → (b : Bool) → lex false y z ≡ b →
         cond (lex false (cond a y x) z) z (cond a y x) ≡ cond (lex false x (cond b z y)) (cond b z y) x
-    go true p true q = rw (q, through x y z p q)
+    go true p true q = rw (q, before-through x y z p q)
     go true p false q = rw (q, p)
     go false p true q = refl
-    go false p false q = rw (not-after p q, p)
+    go false p false q = rw (not-before-through x y z p q, p)
 
 turned : (x y z : List ℕ) → later-of (later-of x y) z ≡ later-of (later-of x z) y
 turned x y z = in-turn x y z ∙ ap (later-of x) (both-ways y z) ∙ sym (in-turn x z y)

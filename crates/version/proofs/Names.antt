@@ -6,6 +6,7 @@ use native.Mathlib.Omega.{arith}
 use native.Mathlib.Decide.{decLt}
 use borrow.Author.Tests.{lt-ltb, le-ltb, eq-eqb, ne-eqb}
 use lib.Dec.{eqb, ltb}
+use lib.Arith.{digits-lt}
 use Rattle.record.specs.declared.Edit.{Edit}
 use Rattle.version.specs.Version.{siteNumbers, seqNumbers, nameOf, siteIn, seqIn}
 
@@ -14,29 +15,30 @@ pub name-holds :
     (siteIn (nameOf e) ≡ e .site .0) × (seqIn (nameOf e) ≡ e .seq .0)
 name-holds e hs hq = (omega arith, omega arith)
 
--- sites s and t, sequence numbers p and q
-by-number :
-    (s t p q : ℕ) → p < seqNumbers → q < seqNumbers →
-    ltb (s * seqNumbers + p) (t * seqNumbers + q) ≡ (ltb s t || eqb s t && ltb p q)
-by-number s t p q hp hq = go (decLt s t) (decLt t s) (decLt p q)
+-- two numbers in one, the first times c, go by the first and then by the second
+pub two-in-one :
+    (c m n i j : ℕ) → i < c → j < c → ltb (m * c + i) (n * c + j) ≡ (ltb m n || eqb m n && ltb i j)
+two-in-one c m n i j hi hj = go (decLt m n) (decLt n m) (decLt i j)
   where
     a : ℕ
-    a = s * seqNumbers + p
+    a = m * c + i
 
     b : ℕ
-    b = t * seqNumbers + q
+    b = n * c + j
 
-    go : Dec (s < t) → Dec (t < s) → Dec (p < q) → ltb a b ≡ (ltb s t || eqb s t && ltb p q)
-    go (yes l) m n = rw (lt-ltb s t l, lt-ltb a b (omega arith))
-    go (no l) (yes m) n =
-        rw (le-ltb s t (omega arith), ne-eqb s t (λ e. omega arith), le-ltb a b (omega arith))
-    go (no l) (no m) (yes n) =
-        rw (le-ltb s t (omega arith), eq-eqb s t (omega arith), lt-ltb p q n, lt-ltb a b (omega arith))
-    go (no l) (no m) (no n) =
-        rw (le-ltb s t (omega arith), eq-eqb s t (omega arith), le-ltb p q (omega arith), le-ltb a b (omega arith))
+    go : Dec (m < n) → Dec (n < m) → Dec (i < j) → ltb a b ≡ (ltb m n || eqb m n && ltb i j)
+    go (yes l) d e = rw (lt-ltb m n l, lt-ltb a b (omega (arith, digits-lt l hi)))
+    go (no l) (yes d) e =
+        rw (le-ltb m n (omega arith), ne-eqb m n (λ q. omega arith), le-ltb a b (omega (arith, digits-lt d hj)))
+    go (no l) (no d) (yes e) =
+        let same : m ≡ n = omega arith in
+        rw (le-ltb m n (omega arith), eq-eqb m n same, lt-ltb i j e, lt-ltb a b (rw same (omega arith)))
+    go (no l) (no d) (no e) =
+        let same : m ≡ n = omega arith in
+        rw (le-ltb m n (omega arith), eq-eqb m n same, le-ltb i j (omega arith), le-ltb a b (rw same (omega arith)))
 
 pub names-order :
     (a b : Edit) → a .seq .0 < seqNumbers → b .seq .0 < seqNumbers →
     ltb (nameOf a) (nameOf b)
     ≡ (ltb (a .site .0) (b .site .0) || eqb (a .site .0) (b .site .0) && ltb (a .seq .0) (b .seq .0))
-names-order a b ha hb = by-number (a .site .0) (b .site .0) (a .seq .0) (b .seq .0) ha hb
+names-order a b ha hb = two-in-one seqNumbers (a .site .0) (b .site .0) (a .seq .0) (b .seq .0) ha hb

@@ -32,18 +32,18 @@ module _ (ms : List Edit) (g k : ℕ) where
   at i = getD ms i noEdit
 
   -- the i-th Set is a member and has the key
-  abbrev pub Holds : ℕ → Type 0
+  abbrev Holds : ℕ → Type 0
   Holds i = (bit g i ≡ true) × (at i .key ≡ k)
 
   -- what is known of the last of the first i Sets
-  pub record Top (i : ℕ) (e : Edit) : Type 0 where
-    pub place : ℕ
-    pub low : place < i
-    pub holds : Holds place
-    pub same : at place ≡ e
-    pub top : (j : ℕ) → j < i → Holds j → ranksBefore e (at j) ≡ false
+  record Top (i : ℕ) (e : Edit) : Type 0 where
+    place : ℕ
+    low : place < i
+    holds : Holds place
+    same : at place ≡ e
+    top : (j : ℕ) → j < i → Holds j → ranksBefore e (at j) ≡ false
 
-  abbrev pub Found : ℕ → List Edit → Type 0
+  abbrev Found : ℕ → List Edit → Type 0
   Found i [] = (j : ℕ) → j < i → Holds j → ⊥
   Found i (e ∷ es) = Top i e
 
@@ -108,7 +108,7 @@ module _ (ms : List Edit) (g k : ℕ) where
           rw (← add-one i, last-other ms g k i b, add-one)
           (passed-by i (lastBelow ms g k i) (λ h. clash (h .0) b) f)
 
-  pub found : Found (length ms) (lastWith ms g k)
+  found : Found (length ms) (lastWith ms g k)
   found = rw (← last-all ms g k (length ms) refl) (found-below (length ms))
 
 -- ---- in true tables

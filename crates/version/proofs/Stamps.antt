@@ -7,7 +7,7 @@ use Prim.Native.Nat.{ℕ, zero, suc, _+_, _*_, _-_, _/_, _%_, _≤_, _<_, max}
 use native.Mathlib.Numerals.{add-one}
 use native.Mathlib.Omega.{arith}
 use native.Mathlib.Decide.{decLt}
-use borrow.Author.Tests.{lt-ltb, le-ltb, eq-eqb, ne-eqb, eqb-true, eqb-false, ltb-true, ltb-false}
+use borrow.Author.Tests.{lt-ltb, le-ltb, ne-eqb, eqb-true, eqb-false, ltb-true, ltb-false}
 use lib.Dec.{eqb, ltb}
 use lib.ListN.{length, getD, take, set}
 use lib.Seq.{getD-take, getD-set-same, getD-set-other}
@@ -25,6 +25,7 @@ use Rattle.version.specs.Code.{tagsOf, largestBelow, largestBy, settings
 use Rattle.version.proofs.Members.{sets-length, set-place}
 use Rattle.version.proofs.Last.{lastBelow, last-none, last-member, last-other, last-all}
 use Rattle.version.proofs.Tags.{identifier-by}
+use Rattle.version.proofs.Names.{two-in-one}
 
 -- ---- the order of stamps
 
@@ -33,55 +34,34 @@ pub sum-low : (v : List ℕ) → ((i : ℕ) → getD v i 0 ≤ seqNumbers) → v
 unfolding vectorSum
 sum-low v h = sum-below mostSites seqNumbers (λ i. getD v i 0) (λ i l. h i)
 
--- sums m and n, sites i and j, values v and w
-by-number :
-    (m n i j v w : ℕ) → i < siteNumbers → j < siteNumbers → v < values → w < values →
-    ((ltb m n || eqb m n && ltb i j) || not (ltb n m || eqb n m && ltb j i) && ltb v w)
-    ≡ ltb ((m * siteNumbers + i) * values + v + 1) ((n * siteNumbers + j) * values + w + 1)
-by-number m n i j v w hi hj hv hw = go (decLt m n) (decLt n m) (decLt i j) (decLt j i) (decLt v w)
+-- places x and y in the total order, values v and w
+by-value :
+    (x y v w : ℕ) → v < values → w < values →
+    (ltb x y || not (ltb y x) && ltb v w) ≡ ltb (x * values + v + 1) (y * values + w + 1)
+by-value x y v w hv hw = go (decLt x y) (decLt y x) (decLt v w)
   where
     a : ℕ
-    a = (m * siteNumbers + i) * values + v + 1
+    a = x * values + v + 1
 
     b : ℕ
-    b = (n * siteNumbers + j) * values + w + 1
+    b = y * values + w + 1
 
-    go : Dec (m < n) → Dec (n < m) → Dec (i < j) → Dec (j < i) → Dec (v < w) →
-        ((ltb m n || eqb m n && ltb i j) || not (ltb n m || eqb n m && ltb j i) && ltb v w) ≡ ltb a b
-    go (yes l) d e f h = rw (lt-ltb m n l, lt-ltb a b (omega arith))
-    go (no l) (yes d) e f h =
-        rw (le-ltb m n (omega arith), ne-eqb m n (λ q. omega arith), lt-ltb n m d, le-ltb a b (omega arith))
-    go (no l) (no d) (yes e) f h =
-        rw (le-ltb m n (omega arith), eq-eqb m n (omega arith), lt-ltb i j e, lt-ltb a b (omega arith))
-    go (no l) (no d) (no e) (yes f) h =
-        rw (
-          le-ltb m n (omega arith),
-          eq-eqb m n (omega arith),
-          le-ltb i j (omega arith),
-          le-ltb n m (omega arith),
-          eq-eqb n m (omega arith),
-          lt-ltb j i f,
-          le-ltb a b (omega arith),
-        )
-    go (no l) (no d) (no e) (no f) h =
-        rw (
-          le-ltb m n (omega arith),
-          eq-eqb m n (omega arith),
-          le-ltb i j (omega arith),
-          le-ltb n m (omega arith),
-          eq-eqb n m (omega arith),
-          le-ltb j i (omega arith),
-        )
-        (value h)
-      where
-        value : Dec (v < w) → ltb v w ≡ ltb a b
-        value (yes h) = rw (lt-ltb v w h, lt-ltb a b (omega arith))
-        value (no h) = rw (le-ltb v w (omega arith), le-ltb a b (omega arith))
+    go : Dec (x < y) → Dec (y < x) → Dec (v < w) → (ltb x y || not (ltb y x) && ltb v w) ≡ ltb a b
+    go (yes l) d h = rw (lt-ltb x y l, lt-ltb a b (omega arith))
+    go (no l) (yes d) h = rw (le-ltb x y (omega arith), lt-ltb y x d, le-ltb a b (omega arith))
+    go (no l) (no d) (yes h) =
+        rw (le-ltb x y (omega arith), le-ltb y x (omega arith), lt-ltb v w h, lt-ltb a b (omega arith))
+    go (no l) (no d) (no h) =
+        rw (le-ltb x y (omega arith), le-ltb y x (omega arith), le-ltb v w (omega arith), le-ltb a b (omega arith))
 
 placed-order : (a b : Edit) → Small a → Small b → standsBefore a b ≡ ltb (placedOf a) (placedOf b)
 placed-order a b (ma, sa, va) (mb, sb, vb) =
-    by-number (vectorSum (a .vector)) (vectorSum (b .vector)) (a .site .0) (b .site .0) (a .value) (b .value) sa sb va
-    vb
+    let m = vectorSum (a .vector) in
+    let n = vectorSum (b .vector) in
+    ap₂ (λ (p q : Bool). p || not q && ltb (a .value) (b .value))
+    (sym (two-in-one siteNumbers m n (a .site .0) (b .site .0) sa sb))
+    (sym (two-in-one siteNumbers n m (b .site .0) (a .site .0) sb sa))
+    ∙ by-value (m * siteNumbers + a .site .0) (n * siteNumbers + b .site .0) (a .value) (b .value) va vb
 
 -- ---- one edit more
 

@@ -3,34 +3,20 @@
 use mathlib.Core.Path.{_≡_, refl, sym, ap, _∙_}
 use mathlib.Core.Logic.{inl, inr}
 use mathlib.Core.Bool.{true, _&&_}
-use mathlib.Core.List.{
-  List,
-  [],
-  _∷_,
-  map,
-  map-map,
-  List·Memᴰ,
-  List·Memᴰ·not-nil,
-  List·Memᴰ·append-cases,
-  List·Memᴰ·eq-of-singleton,
-}
-use Prim.Native.Nat.{ℕ, zero, suc, _≤_, _<_}
-use native.Mathlib.Nat.{le-refl}
+use mathlib.Core.List.{List, map, map-map, List·Memᴰ·not-nil, List·Memᴰ·append-cases, List·Memᴰ·eq-of-singleton}
+use Prim.Native.Nat.{ℕ, zero, suc, _<_}
 use native.Mathlib.Omega.{arith}
-use native.Mathlib.Decide.{decLt}
 use borrow.Author.Tests.{eqb-true, eq-eqb}
 use lib.Dec.{eqb}
 use lib.ListN.{length, getD}
 use Rattle.ground.specs.Sorted.{elem, filter, Asc, Ascending, ascending}
+use Rattle.ground.proofs.Bools.{off}
 use Rattle.ground.proofs.Below.{keep-at}
 use Rattle.ground.proofs.Lists.{any-map, any-on, any-at}
 use Rattle.ground.proofs.Sorted.{ascending-unique, keep-ascending, any-ascending}
-use Rattle.record.specs.declared.Site.{Site}
-use Rattle.record.specs.declared.Seq.{Seq}
 use Rattle.record.specs.declared.Edit.{Edit}
-use Rattle.causal.specs.Causal.{doConflict}
-use Rattle.history.specs.History.{recordAt, editsOf, isSetOn, setsOn, mostRecords}
-use Rattle.history.specs.Answers.{recordsPass}
+use Rattle.causal.specs.Causal.{sameEdit, doConflict}
+use Rattle.history.specs.History.{recordAt, editsOf, isSetOn, setsOn}
 use Rattle.history.proofs.History.{count-few}
 use Rattle.history.proofs.Passed.{next-at, one-place}
 use Rattle.maximal.specs.Groups.{bit}
@@ -40,14 +26,17 @@ use Rattle.soundness.proofs.Facts.{Sound}
 use Rattle.arrival.specs.Truth.{noEdit, trueGroups}
 use Rattle.arrival.specs.Versions.{isDisputed, disputedOf}
 use Rattle.arrival.proofs.Identifiers.{identifiers-differ}
-use Rattle.order.proofs.Members.{mem-place}
-use Rattle.order.proofs.Pairs.{pairs-snoc, pairs-chosen}
+use Rattle.order.specs.Rearranged.{Mem}
+use Rattle.order.specs.Settled.{Differ, Apart}
+use Rattle.order.proofs.Members.{chosen-at, mem-place}
+use Rattle.order.proofs.Pairs.{pairs-snoc}
+use Rattle.order.proofs.Identity.{same-on, same-at, one-edit, sets-distinct}
 use Rattle.version.specs.Version.{seqNumbers, nameOf, membersOf, identifierOf}
 use Rattle.version.proofs.Members.{filter-keep}
 
 -- ---- by places
 
-pub identifier-places :
+identifier-places :
     (ms : List Edit) (g : ℕ) →
     identifierOf ms g ≡ ascending (map (λ i. nameOf (getD ms i noEdit)) (disputedOf ms g))
 unfolding identifierOf membersOf disputedOf
@@ -95,31 +84,26 @@ module _ (ms : List Edit) (differ : NamesDiffer ms) where
       identifiers-differ ms g h eg eh
       (ascending-unique (disputedOf ms g) (disputedOf ms h) (rising g) (rising h) (over g h same) (over h g (sym same)))
 
--- ---- in sound tables
+-- where no identity stands twice and every sequence number fits two bytes, the Sets of an object have different names
+pub names-apart :
+    (es : List Edit) → Apart es → ((e : Edit) → Mem e es → e .seq .0 < seqNumbers) → (c : Edit) →
+    NamesDiffer (setsOn (c .site) (c .seq) es)
+unfolding setsOn
+names-apart es u small c i j li lj e =
+    let f = isSetOn (c .site) (c .seq) in
+    let ms = filter f es in
+    let a = getD ms i noEdit in
+    let b = getD ms j noEdit in
+    let ma : Mem a es = chosen-at f a es (mem-place noEdit ms i li) .0 in
+    let mb : Mem b es = chosen-at f b es (mem-place noEdit ms j lj) .0 in
+    let low : a .seq .0 < seqNumbers = small a ma in
+    let low′ : b .seq .0 < seqNumbers = small b mb in
+    sets-distinct es u c i j li lj (one-edit es u a b ma mb (same-on a b (omega arith) (omega arith)))
 
-abbrev Differ : Edit → Edit → Type 0
-Differ a b = nameOf a ≡ nameOf b → ⊥
+-- ---- the edits of a table of records
 
-differ-at :
-    (xs : List Edit) → Asc Differ xs → (i j : ℕ) → i < j → j < length xs →
-    Differ (getD xs i noEdit) (getD xs j noEdit)
-differ-at [] a i j l m = absurd (omega arith)
-differ-at (x ∷ xs) (h, a) zero zero l m = absurd (omega arith)
-differ-at (x ∷ xs) (h, a) zero (suc j) l m = h (getD xs j noEdit) (mem-place noEdit xs j (omega arith))
-differ-at (x ∷ xs) (h, a) (suc i) zero l m = absurd (omega arith)
-differ-at (x ∷ xs) (h, a) (suc i) (suc j) l m = differ-at xs a i j (omega arith) (omega arith)
-
-module _ (sites : ℕ) (rs : List ℕ) (n : ℕ) (pass : recordsPass sites rs n ≡ true) (few : n ≤ mostRecords) where
-  seq-low : (p : ℕ) → p < n → recordAt rs p .seq .0 < seqNumbers
-  seq-low p l = omega (arith, next-at sites rs n pass p l, count-few (recordAt rs p .site .0) rs p)
-
-  records-differ : (p q : ℕ) → p < n → q < n → (p ≡ q → ⊥) → Differ (recordAt rs p) (recordAt rs q)
-  records-differ p q lp lq apart e =
-      let hp = seq-low p lp in
-      let hq = seq-low q lq in
-      apart (one-place sites rs n pass p q lp lq (omega arith) (omega arith))
-
-  pub edit-in : (k : ℕ) → (y : Edit) → List·Memᴰ y (editsOf rs k) → (p : ℕ) × (p < k) × (y ≡ recordAt rs p)
+module _ (rs : List ℕ) where
+  edit-in : (k : ℕ) (y : Edit) → Mem y (editsOf rs k) → (p : ℕ) × (p < k) × (y ≡ recordAt rs p)
   unfolding editsOf
   edit-in zero y w = absurd (List·Memᴰ·not-nil w)
   edit-in (suc k) y w =
@@ -128,33 +112,49 @@ module _ (sites : ℕ) (rs : List ℕ) (n : ℕ) (pass : recordsPass sites rs n 
         | inr v ↦ (k, omega arith, List·Memᴰ·eq-of-singleton v)
       ]
 
-  edits-differ : (k : ℕ) → k ≤ n → Asc Differ (editsOf rs k)
+  -- what holds between each record and each later one holds between the edits
+  pub edits-pairs :
+      (R : Edit → Edit → Type 0) (k : ℕ) →
+      ((p q : ℕ) → p < q → q < k → R (recordAt rs p) (recordAt rs q)) → Asc R (editsOf rs k)
   unfolding editsOf
-  edits-differ zero l = tt
-  edits-differ (suc k) l =
-      pairs-snoc Differ (editsOf rs k) (recordAt rs k) (edits-differ k (omega arith)) (λ y w.
-      let (p, m, e) = edit-in k y w in
-      rw e (records-differ p k (omega arith) (omega arith) (λ q. omega arith)))
+  edits-pairs R zero h = tt
+  edits-pairs R (suc k) h =
+      pairs-snoc R (editsOf rs k) (recordAt rs k) (edits-pairs R k (λ p q l m. h p q l (omega arith)))
+      (λ y w. let (p, m, e) = edit-in k y w in rw e (h p k m (omega arith)))
 
--- a sequence number fits two bytes
-pub held-numbered : (t : Tables) → Sound t → (e : Edit) → List·Memᴰ e (heldBy t) → e .seq .0 < seqNumbers
-held-numbered t s e m =
-    let n = t .counters .records in
-    let (p, l, q) = edit-in (t .counters .sites) (t .records) n (s .pass) (s .few-records) n e m in
-    rw q (seq-low (t .counters .sites) (t .records) n (s .pass) (s .few-records) p l)
+-- ---- in sound tables
 
-pub names-differ : (t : Tables) → Sound t → (s : Site) (q : Seq) → NamesDiffer (setsOn s q (heldBy t))
-unfolding setsOn
-names-differ t h s q i j li lj e =
-    let ms = filter (isSetOn s q) (heldBy t) in
-    let n = t .counters .records in
-    let apart : Asc Differ ms
-    = pairs-chosen Differ (isSetOn s q) (heldBy t)
-    (edits-differ (t .counters .sites) (t .records) n (h .pass) (h .few-records) n (le-refl n)) in
-    elim (decLt i j) [
-      | yes l ↦ absurd (differ-at ms apart i j l lj e)
-      | no l ↦ elim (decLt j i) [ yes m ↦ absurd (differ-at ms apart j i m li (sym e)) | no m ↦ omega arith ]
-    ]
+module _ (t : Tables) (s : Sound t) where
+  abbrev sites : ℕ
+  sites = t .counters .sites
+
+  abbrev rs : List ℕ
+  rs = t .records
+
+  abbrev n : ℕ
+  n = t .counters .records
+
+  -- a sequence number fits two bytes
+  pub held-numbered : (e : Edit) → Mem e (heldBy t) → e .seq .0 < seqNumbers
+  held-numbered e m =
+      let (p, l, q) = edit-in rs n e m in
+      let low : recordAt rs p .seq .0 < seqNumbers
+      = omega (
+        arith,
+        s .few-records,
+        next-at sites rs n (s .pass) p l,
+        count-few (recordAt rs p .site .0) rs p,
+      ) in
+      rw q low
+
+  held-apart : Apart (heldBy t)
+  held-apart =
+      edits-pairs rs Differ n (λ p q l m.
+      let a = recordAt rs p in
+      let b = recordAt rs q in
+      off (sameEdit (a .site) (a .seq) (b .site) (b .seq)) (λ h.
+      let (e, f) = same-at a b h in
+      omega (arith, one-place sites rs n (s .pass) p q (omega arith) m e f)))
 
 pub versions-never-share :
     (t : Tables) → Sound t → (c : Edit) (g h : ℕ) → elem g (trueGroups (heldBy t) c) ≡ true →
@@ -163,4 +163,5 @@ pub versions-never-share :
     g ≡ h
 unfolding trueGroups
 versions-never-share t s c g h =
-    never-shared (setsOn (c .site) (c .seq) (heldBy t)) (names-differ t s (c .site) (c .seq)) g h
+    let differ = names-apart (heldBy t) (held-apart t s) (held-numbered t s) c in
+    never-shared (setsOn (c .site) (c .seq) (heldBy t)) differ g h
