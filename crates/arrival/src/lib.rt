@@ -15,7 +15,7 @@ ghost use mathlib.Core.Bool.{true};
 ghost use mathlib.Core.List.{[], _∷_};
 ghost use Prim.Native.Nat.{_+_, _≤_, _<_};
 ghost use lib.ListN.{length, getD};
-ghost use Rattle.record.specs.Layout.{recordLength};
+ghost use Rattle.record.specs.Layout.{recordLength, twoBytes};
 ghost use Rattle.record.specs.Record.{decodeOf};
 ghost use Rattle.history.specs.History.{mostRecords, editsOf};
 ghost use Rattle.history.specs.Code.{surveyOf};
@@ -85,7 +85,7 @@ fn put_object(objects: &mut [u16], o: usize, p: u16)
 
 // The counters with one record more, of site s, and d objects more.
 fn counted_with(c: Counters, s: Site, d: u16) -> Counters
-    requires { ⌜ (c .records < mostRecords) × (c .objects + d < 65536) × (getD (c .held) (s .0) 0 < mostRecords) ⌝ }
+    requires { ⌜ (c .records < mostRecords) × (c .objects + d < twoBytes) × (getD (c .held) (s .0) 0 < mostRecords) ⌝ }
     ensures { λ r. ⌜ r ≡ counted c s d ⌝ }
 {
     let v = c.held;

@@ -113,7 +113,7 @@ pub fn build(
 }
 
 // Whether the edit in place p conflicts with e. Most edits are told by their keys.
-fn is_conflict_at(recs: &[u8], p: u16, e: Edit) -> bool
+pub fn is_conflict_at(recs: &[u8], p: u16, e: Edit) -> bool
     ensures { λ r. ⌜ r ≡ doConflict (recordAt (now (recs .entry)) p) e ⌝ }
 {
     if record::byte_at(recs, p as usize * RECORD + AT_KEY) != e.key {

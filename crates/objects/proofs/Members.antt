@@ -10,7 +10,7 @@ use Rattle.tables.specs.Tables.{Tables, placeAt}
 use Rattle.soundness.proofs.Facts.{Sound}
 use Rattle.index.specs.Index.{numberAt, placesOn, IndexOf}
 use Rattle.index.proofs.Places.{places-sets, places-length, row-places}
-use Rattle.version.specs.Version.{setsAt}
+use Rattle.version.specs.Code.{setsAt}
 use Rattle.objects.specs.Code.{PlacedFor, MembersOf}
 
 module _ (t : Tables) (s : Sound t) where

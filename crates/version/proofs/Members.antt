@@ -12,7 +12,7 @@ use Rattle.ground.specs.Sorted.{filter}
 use Rattle.ground.proofs.Snoc.{filter-snoc}
 use Rattle.history.specs.History.{recordAt}
 use Rattle.arrival.specs.Truth.{noEdit}
-use Rattle.version.specs.Version.{setsAt}
+use Rattle.version.specs.Code.{setsAt}
 
 -- ---- the Sets by their places
 

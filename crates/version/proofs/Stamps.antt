@@ -18,10 +18,23 @@ use Rattle.causal.specs.Causal.{vectorSum}
 use Rattle.history.specs.History.{recordAt}
 use Rattle.maximal.specs.Groups.{bit}
 use Rattle.arrival.specs.Truth.{noEdit}
-use Rattle.version.specs.Version.{siteNumbers, seqNumbers, setsAt, hasKey, standsBefore, later, lastWith}
+use Rattle.version.specs.Version.{siteNumbers, seqNumbers, hasKey, standsBefore, later, lastWith}
+use Rattle.version.specs.Code.{
+  setsAt,
+  values,
+  placedOf,
+  placings,
+  stampOf,
+  Small,
+  Stamped,
+  stampText,
+  tagsOf,
+  largestBelow,
+  largestBy,
+  settingsBy,
+  lineBy,
+}
 use Rattle.version.specs.Line.{settingText, settingsText, versionLine}
-use Rattle.version.specs.Code.{values, placedOf, placings, stampOf, Small, Stamped, stampText}
-use Rattle.version.specs.Code.{tagsOf, largestBelow, largestBy, settingsBy, lineBy}
 use Rattle.version.proofs.Members.{sets-length, set-place}
 use Rattle.version.proofs.Last.{lastBelow, last-none, last-member, last-other, last-all}
 use Rattle.version.proofs.Tags.{identifier-by}

@@ -10,6 +10,7 @@ use Rattle.ground.specs.Below.{keep}
 use Rattle.ground.specs.Sorted.{gatherBy, ascending}
 use Rattle.record.specs.declared.Edit.{Edit}
 use Rattle.record.specs.Layout.{mostSites, keys}
+use Rattle.history.specs.History.{recordAt}
 use Rattle.causal.specs.Causal.{vectorSum}
 use Rattle.maximal.specs.Groups.{bit}
 use Rattle.group.specs.Row.{mostSets}
@@ -19,6 +20,10 @@ use Rattle.text.specs.Words.{space, newline, dotted, equated}
 use Rattle.version.specs.Version.{siteNumbers, seqNumbers, nameOf}
 use Rattle.version.specs.Order.{lex}
 use Rattle.version.specs.Line.{identifierText}
+
+-- the edits in some places of a table of records
+abbrev pub setsAt : List ℕ → List ℕ → List Edit
+setsAt rs places = map (recordAt rs) places
 
 -- ---- identifiers from tags
 

@@ -8,15 +8,11 @@ use lib.ListN.{length, getD}
 use Rattle.ground.specs.Below.{keep}
 use Rattle.ground.specs.Sorted.{filter, ascending}
 use Rattle.record.specs.declared.Edit.{Edit}
+use Rattle.record.specs.Layout.{twoBytes}
 use Rattle.causal.specs.Causal.{ranksBefore}
-use Rattle.history.specs.History.{recordAt}
 use Rattle.maximal.specs.Groups.{bit}
 use Rattle.arrival.specs.Truth.{noEdit}
 use Rattle.arrival.specs.Versions.{isDisputed}
-
--- the edits in some places of a table of records
-abbrev pub setsAt : List ℕ → List ℕ → List Edit
-setsAt rs places = map (recordAt rs) places
 
 -- the members of g
 unfoldable pub membersOf : List Edit → ℕ → List Edit
@@ -29,7 +25,7 @@ abbrev pub siteNumbers : ℕ
 siteNumbers = 256
 
 abbrev pub seqNumbers : ℕ
-seqNumbers = 65536
+seqNumbers = twoBytes
 
 -- site and sequence number as one number, so that names go by site, then by sequence number
 abbrev pub nameOf : Edit → ℕ

@@ -1,20 +1,17 @@
 // An object's Sets by their places in the table of records: the edit in a place, and the tag of each Set, which is its
 // name if it conflicts with some Set of the object, and 0 if with none.
 use super::SEQ_NUMBERS;
-use causal::is_conflict;
-use record::AT_KEY;
+use index::is_conflict_at;
 use record::Edit;
-use record::RECORD;
 ghost use mathlib.Core.Path.{_≡_};
 ghost use Prim.Native.Nat.{_≤_, _<_};
 ghost use lib.ListN.{length, getD, take};
 ghost use Rattle.group.specs.Row.{mostSets};
-ghost use Rattle.causal.specs.Causal.{doConflict};
 ghost use Rattle.history.specs.History.{recordAt};
 ghost use Rattle.maximal.specs.Groups.{bit};
 ghost use Rattle.arrival.specs.Versions.{isDisputed};
-ghost use Rattle.version.specs.Version.{setsAt, nameOf};
-ghost use Rattle.version.specs.Code.{tagOf, tagsOf};
+ghost use Rattle.version.specs.Code.{setsAt, tagOf, tagsOf};
+ghost use Rattle.version.specs.Version.{nameOf};
 
 // The edit in the i-th of the places.
 pub fn edit_in(recs: &[u8], places: &[u16], i: usize) -> Edit
@@ -39,18 +36,6 @@ fn name(e: Edit) -> u64
     e.site.0 as u64 * SEQ_NUMBERS + e.seq.0 as u64
 }
 
-// Whether e conflicts with the edit in place p, which is decoded only where the two have the same key.
-fn is_conflict_at(recs: &[u8], p: usize, e: Edit) -> bool
-    requires { ⌜ p < 65536 ⌝ }
-    ensures { λ r. ⌜ r ≡ doConflict e (recordAt (now (recs .entry)) p) ⌝ }
-{
-    if e.key != record::byte_at(recs, p * RECORD + AT_KEY) {
-        return false;
-    }
-    let a = history::decode_at(recs, p);
-    is_conflict(e, a)
-}
-
 // Whether e conflicts with one of the t Sets.
 fn is_disputed(recs: &[u8], places: &[u16], t: usize, e: Edit) -> bool
     requires { ⌜ t ≤ length (now places) ⌝ }
@@ -58,7 +43,7 @@ fn is_disputed(recs: &[u8], places: &[u16], t: usize, e: Edit) -> bool
 {
     let mut i: usize = 0;
     while i < t {
-        if is_conflict_at(recs, places[i] as usize, e) {
+        if is_conflict_at(recs, places[i], e) {
             return true;
         }
         i += 1;

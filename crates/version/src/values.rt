@@ -12,8 +12,7 @@ ghost use mathlib.Core.Path.{_≡_};
 ghost use Prim.Native.Nat.{_≤_};
 ghost use lib.ListN.{length, take};
 ghost use Rattle.group.specs.Row.{mostSets};
-ghost use Rattle.version.specs.Version.{setsAt};
-ghost use Rattle.version.specs.Code.{stampOf, Small, Stamped, LargestOf};
+ghost use Rattle.version.specs.Code.{setsAt, stampOf, Small, Stamped, LargestOf};
 
 // The values that four bytes have.
 pub const VALUES: u64 = 4294967296;

@@ -6,8 +6,7 @@ use native.Mathlib.Omega.{arith}
 use borrow.Author.Needs.{needs}
 use lib.ListN.{length, take, length-set}
 use Rattle.history.specs.History.{recordAt}
-use Rattle.version.specs.Version.{setsAt}
-use Rattle.version.specs.Code.{tagOf, tagsOf}
+use Rattle.version.specs.Code.{setsAt, tagOf, tagsOf}
 use Rattle.version.proofs.Turns.{number-more}
 use Rattle.version.proofs.sets.put_tags.Statement.{statement}
 use Rattle.version.proofs.sets.put_tags.Tie as tie
