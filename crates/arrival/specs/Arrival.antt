@@ -20,7 +20,7 @@ use Rattle.soundness.specs.Sound.{sound}
 
 -- ---- the answer
 
--- the Sets of e's object, and its groups after the step
+-- the Sets of e's object
 abbrev pub matesOf : Tables → Edit → List Edit
 matesOf t e = setsOn (e .tsite) (e .tseq) (heldBy t)
 
@@ -28,6 +28,7 @@ matesOf t e = setsOn (e .tsite) (e .tseq) (heldBy t)
 abbrev pub rowOf : Tables → ℕ → List ℕ
 rowOf t o = take (groupsAt (t .objects) o) (row o (t .groups))
 
+-- the groups of e's object after the step
 unfoldable pub groupsAfter : Tables → Edit → List ℕ
 groupsAfter t e =
     step (conflictsWith e (matesOf t e)) (length (matesOf t e)) (rowOf t (objectOf e (heldBy t)))
