@@ -5,21 +5,12 @@ use Prim.Native.Nat.{ℕ}
 use Rattle.record.specs.declared.Edit.{Edit}
 use Rattle.causal.specs.Causal.{doConflict}
 use Rattle.maximal.specs.Arrivals.{groupsOf}
+use Rattle.record.specs.Record.{decodeOf}
 use Rattle.history.specs.History.{setsOn}
 
--- stands for an edit past the end of a list
+-- stands for an edit past the end of a list: it has zeros alone
 abbrev pub noEdit : Edit
-noEdit =
-    record {
-      kind = 0;
-      site = record { 0 = 0 };
-      seq = record { 0 = 0 };
-      vector = [];
-      tsite = record { 0 = 0 };
-      key = 0;
-      tseq = record { 0 = 0 };
-      value = 0;
-    }
+noEdit = decodeOf []
 
 -- of the object whose Create is c, where the edits es are held
 unfoldable pub trueGroups : List Edit → Edit → List ℕ

@@ -56,20 +56,20 @@ fn put_joined(out: &mut [u8], n: usize, x: u64) -> usize
     put_name(out, w, x)
 }
 
-// Puts the k first names of ids joined by `+`, or `-` if there are none.
-fn put_names(out: &mut [u8], n: usize, ids: &[u64], k: usize) -> usize
-    requires { ⌜ (k ≤ length (now ids)) × (k ≤ mostSets) × (n + namesLength ≤ length (now out)) ⌝ }
+// Puts the k first of the names joined by `+`, or `-` if there are none.
+fn put_names(out: &mut [u8], n: usize, names: &[u64], k: usize) -> usize
+    requires { ⌜ (k ≤ length (now names)) × (k ≤ mostSets) × (n + namesLength ≤ length (now out)) ⌝ }
     ensures { λ r.
-        ⌜ (take r (now (out .exit)) ≡ take n (now (out .entry)) ++ identifierText (take k (now (ids .entry))))
+        ⌜ (take r (now (out .exit)) ≡ take n (now (out .entry)) ++ identifierText (take k (now (names .entry))))
         × (r ≤ n + namesLength) ⌝ }
 {
     if k == 0 {
         return put_byte(out, n, MINUS);
     }
-    let mut w = put_name(out, n, ids[0]);
+    let mut w = put_name(out, n, names[0]);
     let mut i: usize = 1;
     while i < k {
-        w = put_joined(out, w, ids[i]);
+        w = put_joined(out, w, names[i]);
         i += 1;
     }
     w
@@ -83,10 +83,10 @@ fn put_identifier(out: &mut [u8], n: usize, tags: &[u64], t: usize, g: u64) -> u
         ≡ take n (now (out .entry)) ++ (space ∷ identifierText (identifierBy (take t (now (tags .entry))) g)))
         × (r ≤ n + identifierLength) ⌝ }
 {
-    let mut ids = [0u64; SETS];
-    let k = identifier(tags, t, g, &mut ids);
+    let mut names = [0u64; SETS];
+    let k = identifier(tags, t, g, &mut names);
     let w = put_byte(out, n, SPACE);
-    put_names(out, w, &ids, k)
+    put_names(out, w, &names, k)
 }
 
 // Puts ` key=value` by the stamp s, or nothing if it is 0.

@@ -25,13 +25,13 @@ module _ {E : Type 0} (eq : E → E → Bool) where
   abbrev pub has : List E → E → Bool
   has xs x = any (eq x) xs
 
-  unfoldable pub idx : List E → E → ℕ
-  idx [] x = 0
-  idx (y ∷ ys) x = cond (eq x y) 0 (suc (idx ys x))
+  unfoldable pub place : List E → E → ℕ
+  place [] x = 0
+  place (y ∷ ys) x = cond (eq x y) 0 (suc (place ys x))
 
   -- the elements of a group
   unfoldable pub setOf : List E → ℕ → E → Bool
-  setOf xs g x = has xs x && bit g (idx xs x)
+  setOf xs g x = has xs x && bit g (place xs x)
 
 -- no element stands twice
 abbrev pub Distinct : {E : Type 0} → E → List E → Type 0
@@ -70,14 +70,14 @@ module _ {E : Type 0} (d : E) (conf : E → E → Bool)
 
 module _ {E : Type 0} (d : E) (eq : E → E → Bool)
     (eq-on : (x y : E) → eq x y ≡ true → x ≡ y) (eq-self : (x : E) → eq x x ≡ true) where
-  idx-at : (xs : List E) (x : E) → x ∈ has eq xs → (idx eq xs x < length xs) × (getD xs (idx eq xs x) d ≡ x)
-  unfolding any idx
-  idx-at [] x h = clash h refl
-  idx-at (y ∷ ys) x h = go (eq x y) refl h (idx-at ys x)
+  place-at : (xs : List E) (x : E) → x ∈ has eq xs → (place eq xs x < length xs) × (getD xs (place eq xs x) d ≡ x)
+  unfolding any place
+  place-at [] x h = clash h refl
+  place-at (y ∷ ys) x h = go (eq x y) refl h (place-at ys x)
     where
       go : (b : Bool) → eq x y ≡ b → (b || has eq ys x) ≡ true →
-          (has eq ys x ≡ true → (idx eq ys x < length ys) × (getD ys (idx eq ys x) d ≡ x)) →
-          (cond b 0 (suc (idx eq ys x)) < length (y ∷ ys)) × (getD (y ∷ ys) (cond b 0 (suc (idx eq ys x))) d ≡ x)
+          (has eq ys x ≡ true → (place eq ys x < length ys) × (getD ys (place eq ys x) d ≡ x)) →
+          (cond b 0 (suc (place eq ys x)) < length (y ∷ ys)) × (getD (y ∷ ys) (cond b 0 (suc (place eq ys x))) d ≡ x)
       go true e h ih = (omega arith, sym (eq-on x y e))
       go false e h ih = (omega (arith, ih h .0), ih h .1)
 
@@ -87,10 +87,10 @@ module _ {E : Type 0} (d : E) (eq : E → E → Bool)
   has-at (y ∷ ys) zero l = or-left (eq y y) (has eq ys y) (eq-self y)
   has-at (y ∷ ys) (suc i) l = or-right (eq (getD ys i d) y) (has eq ys (getD ys i d)) (has-at ys i (omega arith))
 
-  pub idx-of : (xs : List E) → Distinct d xs → (i : ℕ) → i < length xs → idx eq xs (getD xs i d) ≡ i
-  idx-of xs u i l =
-      let (m, e) = idx-at xs (getD xs i d) (has-at xs i l) in
-      u (idx eq xs (getD xs i d)) i m l e
+  pub place-of : (xs : List E) → Distinct d xs → (i : ℕ) → i < length xs → place eq xs (getD xs i d) ≡ i
+  place-of xs u i l =
+      let (m, e) = place-at xs (getD xs i d) (has-at xs i l) in
+      u (place eq xs (getD xs i d)) i m l e
 
   -- ---- the elements of ys are among those of xs
 
@@ -101,10 +101,10 @@ module _ {E : Type 0} (d : E) (eq : E → E → Bool)
     among j = has eq ys (getD xs j d)
 
     abbrev to : ℕ → ℕ
-    to i = idx eq xs (getD ys i d)
+    to i = place eq xs (getD ys i d)
 
     abbrev fro : ℕ → ℕ
-    fro j = idx eq ys (getD xs j d)
+    fro j = place eq ys (getD xs j d)
 
     renumbered : Renumbered (rel d conf xs) (length xs) among (rel d conf ys) (length ys) every to fro
     unfolding rel
@@ -112,8 +112,8 @@ module _ {E : Type 0} (d : E) (eq : E → E → Bool)
       into = λ i p. let (l, e) = at i p in
           below-on (length xs) among (to i) l (rw e (has-at ys i (low ys i p)));
       back = λ j p. below-on (length ys) every (fro j) (here j p .0) refl;
-      there = λ j p. rw (here j p .1) (idx-of xs ux j (below-at (length xs) among j p .0));
-      again = λ i p. rw (at i p .1) (idx-of ys uy i (low ys i p));
+      there = λ j p. rw (here j p .1) (place-of xs ux j (below-at (length xs) among j p .0));
+      again = λ i p. rw (at i p .1) (place-of ys uy i (low ys i p));
       agree = λ i j p q. rw (at i p .1, at j q .1);
     }
       where
@@ -121,10 +121,10 @@ module _ {E : Type 0} (d : E) (eq : E → E → Bool)
         low zs i p = below-at (length zs) every i p .0
 
         at : (i : ℕ) → i ∈ below (length ys) every → (to i < length xs) × (getD xs (to i) d ≡ getD ys i d)
-        at i p = idx-at xs (getD ys i d) (sub (getD ys i d) (has-at ys i (low ys i p)))
+        at i p = place-at xs (getD ys i d) (sub (getD ys i d) (has-at ys i (low ys i p)))
 
         here : (j : ℕ) → j ∈ below (length xs) among → (fro j < length ys) × (getD ys (fro j) d ≡ getD xs j d)
-        here j p = idx-at ys (getD xs j d) (below-at (length xs) among j p .1)
+        here j p = place-at ys (getD xs j d) (below-at (length xs) among j p .1)
 
     -- they have no more groups
     pub no-more-of :
@@ -165,15 +165,15 @@ module _ {E : Type 0} (d : E) (eq : E → E → Bool)
       same-elements g =
           same-set
           (λ x h.
-          let (y, b) = both (has eq ys x) (bit h' (idx eq ys x)) h in
-          let (l, t) = both (below n every (idx eq ys x)) (bit g (to (idx eq ys x))) (rw e at b) in
-          and-on (has eq xs x) (bit g (idx eq xs x)) (sub x y) (rw (idx-at ys x y .1) at t))
+          let (y, b) = both (has eq ys x) (bit h' (place eq ys x)) h in
+          let (l, t) = both (below n every (place eq ys x)) (bit g (to (place eq ys x))) (rw e at b) in
+          and-on (has eq xs x) (bit g (place eq xs x)) (sub x y) (rw (place-at ys x y .1) at t))
           (λ x h.
-          let (y, b) = both (has eq xs x) (bit g (idx eq xs x)) h in
-          let (l, t) = idx-at ys x (sup x y) in
-          and-on (has eq ys x) (bit h' (idx eq ys x)) (sup x y)
+          let (y, b) = both (has eq xs x) (bit g (place eq xs x)) h in
+          let (l, t) = place-at ys x (sup x y) in
+          and-on (has eq ys x) (bit h' (place eq ys x)) (sup x y)
           (rw e
-          (and-on (below n every (idx eq ys x)) (bit g (to (idx eq ys x))) (below-on n every (idx eq ys x) l refl)
+          (and-on (below n every (place eq ys x)) (bit g (to (place eq ys x))) (below-on n every (place eq ys x) l refl)
           (rw t b))))
         where
           n : ℕ

@@ -13,7 +13,7 @@ use Rattle.record.specs.declared.Edit.{Edit}
 use Rattle.record.specs.Layout.{keys}
 use Rattle.causal.specs.Causal.{doConflict}
 use Rattle.maximal.specs.Groups.{bit}
-use Rattle.maximal.proofs.Arrivals.{setOf, Distinct, has-at, idx-of}
+use Rattle.maximal.proofs.Arrivals.{setOf, Distinct, has-at, place-of}
 use Rattle.arrival.specs.Truth.{noEdit}
 use Rattle.arrival.specs.Versions.{isDisputed}
 use Rattle.text.specs.Words.{space, newline, dotted}
@@ -91,7 +91,7 @@ members-chosen ms u g =
     let at : ℕ → Edit = λ i. getD ms i noEdit in
     let test : Edit → Bool = setOf isEqual ms g in
     let holds : (i : ℕ) → i < length ms → bit g i ≡ test (at i) = λ i l.
-    rw (has-at noEdit isEqual equal-at equal-self ms i l, idx-of noEdit isEqual equal-at equal-self ms u i l) in
+    rw (has-at noEdit isEqual equal-at equal-self ms i l, place-of noEdit isEqual equal-at equal-self ms u i l) in
     ap (map at) (keep-same (length ms) (bit g) (λ i. true && test (at i)) holds)
     ∙ sym (filter-keep test at (λ i. true) (length ms))
     ∙ ap (filter test) (all-places noEdit ms)

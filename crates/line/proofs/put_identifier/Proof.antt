@@ -31,14 +31,14 @@ same-length c = search needs
 
 returns : tie.Need-returns
 returns c =
-    let names = c .before .before .put-names in
+    let joined = c .before .before .put-names in
     let mark = c .before .before .before .before .before .before .before in
     let tagged = mark .before .before .before in
     let a = tagged .before .before .before .before .args in
-    let ids = identifierBy (take (a .t) (a .tags .now)) (a .g) in (
-      two (take (a .n) (a .out .now)) (space ∷ []) (identifierText ids) (mark .put-byte .ensures .0)
-          (names .ensures .0 ∙ rw (tagged .identifier .ensures .0)),
-      omega (arith, names .ensures .1),
+    let names = identifierBy (take (a .t) (a .tags .now)) (a .g) in (
+      two (take (a .n) (a .out .now)) (space ∷ []) (identifierText names) (mark .put-byte .ensures .0)
+          (joined .ensures .0 ∙ rw (tagged .identifier .ensures .0)),
+      omega (arith, joined .ensures .1),
     )
 
 pub put-identifier-spec : {M : Type 1} → statement M

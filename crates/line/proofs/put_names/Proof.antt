@@ -13,16 +13,16 @@ use Rattle.line.proofs.put_names.Statement.{statement}
 use Rattle.line.proofs.put_names.Tie as tie
 
 abbrev Inv-loop : tie.InvT-loop
-Inv-loop out₀ n ids k w₀ i₀ out w i =
+Inv-loop out₀ n names k w₀ i₀ out w i =
     (1 ≤ i)
     × (i ≤ k)
     × (w ≤ w₀ + (i - 1) * (1 + dottedLength))
     × (length out ≡ length out₀)
-    × (take w₀ out₀ ++ flatMap (λ y. plus ∷ nameText y) (slice 1 k ids)
-    ≡ take w out ++ flatMap (λ y. plus ∷ nameText y) (slice i k ids))
+    × (take w₀ out₀ ++ flatMap (λ y. plus ∷ nameText y) (slice 1 k names)
+    ≡ take w out ++ flatMap (λ y. plus ∷ nameText y) (slice i k names))
 
 abbrev μ-loop : tie.MeasureT-loop
-μ-loop out₀ n ids k w₀ i₀ out w i = k - i
+μ-loop out₀ n names k w₀ i₀ out w i = k - i
 
 put-byte-requires : tie.Need-put-byte-requires Inv-loop μ-loop
 put-byte-requires c κs = search needs
@@ -33,7 +33,7 @@ same-length c = search needs
 returns : tie.Need-returns Inv-loop μ-loop
 returns c =
     let a = c .before .before .before .before .before .before .before .args in
-    (rw (no-names (a .ids .now) (a .k) (omega arith)) (c .before .before .put-byte .ensures .0), omega arith)
+    (rw (no-names (a .names .now) (a .k) (omega arith)) (c .before .before .put-byte .ensures .0), omega arith)
 
 shared-slice-read-put-name : tie.Need-shared-slice-read-put-name Inv-loop μ-loop
 shared-slice-read-put-name c = search needs
@@ -70,7 +70,7 @@ loop-again c =
       omega arith,
       omega (arith, p .ensures .1),
       p .kept .0 ∙ l .inv .3,
-      piece-more joined _ (take (l .w) (l .out)) (a .ids .now) (l .i) (a .k) (l .inv .4) _ (omega arith)
+      piece-more joined _ (take (l .w) (l .out)) (a .names .now) (l .i) (a .k) (l .inv .4) _ (omega arith)
           (omega arith) (p .ensures .0),
     )
 
@@ -82,11 +82,12 @@ returns-2 c =
     let l = c .before .loop in
     let first = c .before .before .before .before .put-name in
     let a = c .before .before .before .before .before .before .before .before .before .before .args in
-    let ids = a .ids .now in
-    let joined : ℕ → List ℕ = λ y. plus ∷ nameText y in (
-      all-pieces joined _ (take (l .w) (l .out)) ids (l .i) (a .k) (l .inv .4) (omega arith) (omega arith)
-          ∙ rw (first .ensures .0, names-joined ids (a .k) (omega arith) (omega arith))
-          (append-assoc (take (a .n) (a .out .now)) (nameText (getD ids 0 0)) (flatMap joined (slice 1 (a .k) ids))),
+    let names = a .names .now in
+    let joined : ℕ → List ℕ = λ y. plus ∷ nameText y in
+    let rest = flatMap joined (slice 1 (a .k) names) in (
+      all-pieces joined _ (take (l .w) (l .out)) names (l .i) (a .k) (l .inv .4) (omega arith) (omega arith)
+          ∙ rw (first .ensures .0, names-joined names (a .k) (omega arith) (omega arith))
+          (append-assoc (take (a .n) (a .out .now)) (nameText (getD names 0 0)) rest),
       omega (arith, first .ensures .1),
     )
 
