@@ -1,4 +1,5 @@
--- The elements of a list by their places, and what it is for a list to be ascending, place by place. Assumes nothing.
+-- The elements of a list by their places: zeros, elements that pass a test, what it is for a list to be ascending, and
+-- that two lists which test the same are the same. Assumes nothing.
 use mathlib.Core.Path.{_≡_, refl, sym}
 use mathlib.Core.Logic.{_⊎_, inl, inr}
 use mathlib.Core.Bool.{Bool, true, false, cond}

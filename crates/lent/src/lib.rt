@@ -4,8 +4,8 @@
 use interface::spireslate_arrive;
 use interface::spireslate_open;
 use interface::spireslate_read;
+use plain::Answered;
 use plain::FileTaken;
-use plain::Numbered;
 use tables::Counters;
 ghost use mathlib.Core.Path.{_≡_};
 ghost use Rattle.tables.specs.Tables.{tablesOf, outcomeOf};
@@ -21,14 +21,14 @@ pub fn open_on(
     objects: &mut [u16],
     groups: &mut [u64],
     n: u8,
-) -> Numbered
+) -> Answered
     ensures { λ r. ⌜ outcomeOf (r .number)
         (tablesOf (r .counters) (now (records .exit)) (now (objects .exit)) (now (groups .exit)))
         ≡ openingOf (tablesOf c (now (records .entry)) (now (objects .entry)) (now (groups .entry))) n ⌝ }
 {
     let mut d = c;
     let number = spireslate_open(&mut d, records, objects, groups, n);
-    Numbered {
+    Answered {
         number,
         counters: d,
     }
@@ -41,7 +41,7 @@ pub fn arrive_on(
     objects: &mut [u16],
     groups: &mut [u64],
     rec: &[u8],
-) -> Numbered
+) -> Answered
     ensures { λ r. ⌜ outcomeOf (r .number)
         (tablesOf (r .counters) (now (records .exit)) (now (objects .exit)) (now (groups .exit)))
         ≡ arrivalOf (tablesOf c (now (records .entry)) (now (objects .entry)) (now (groups .entry)))
@@ -49,7 +49,7 @@ pub fn arrive_on(
 {
     let mut d = c;
     let number = spireslate_arrive(&mut d, records, objects, groups, rec);
-    Numbered {
+    Answered {
         number,
         counters: d,
     }

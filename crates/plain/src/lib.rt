@@ -10,7 +10,7 @@ ghost use Rattle.block.specs.Reading.{readingOf};
 
 // The number of an answer, and the counters after the call.
 #[repr(C)]
-pub struct Numbered {
+pub struct Answered {
     pub number: u8,
     pub counters: Counters,
 }
@@ -22,7 +22,7 @@ pub fn open_by_value(
     objects: &mut [u16],
     groups: &mut [u64],
     n: u8,
-) -> Numbered
+) -> Answered
     ensures { λ r. ⌜ outcomeOf (r .number)
         (tablesOf (r .counters) (now (records .exit)) (now (objects .exit)) (now (groups .exit)))
         ≡ openingOf (tablesOf c (now (records .entry)) (now (objects .entry)) (now (groups .entry))) n ⌝ }
@@ -31,7 +31,7 @@ pub fn open_by_value(
     let answer = o.answer;
     let opened = o.counters;
     let number = tables::number(answer);
-    Numbered {
+    Answered {
         number,
         counters: opened,
     }
@@ -44,7 +44,7 @@ pub fn arrive_by_value(
     objects: &mut [u16],
     groups: &mut [u64],
     rec: &[u8],
-) -> Numbered
+) -> Answered
     ensures { λ r. ⌜ outcomeOf (r .number)
         (tablesOf (r .counters) (now (records .exit)) (now (objects .exit)) (now (groups .exit)))
         ≡ arrivalOf (tablesOf c (now (records .entry)) (now (objects .entry)) (now (groups .entry)))
@@ -54,7 +54,7 @@ pub fn arrive_by_value(
     let answer = a.answer;
     let arrived = a.counters;
     let number = tables::number(answer);
-    Numbered {
+    Answered {
         number,
         counters: arrived,
     }

@@ -1,4 +1,5 @@
--- What an edit is that answer 1 is not given to, as facts, and the last eight bytes byte by byte. Assumes nothing.
+-- An edit has one kind; what an edit is that answer 1 is not given to, as facts; and the last eight bytes byte by byte.
+-- Assumes nothing.
 use mathlib.Core.Path.{_≡_}
 use mathlib.Core.Bool.{true, false, not, _&&_, _||_, and-assoc}
 use mathlib.Core.Logic.{_⊎_, inl, inr}

@@ -132,11 +132,11 @@ use denote.Exit.{yes}
 use Rattle.tables.specs.Tables.{outcomeOf, tablesOf as tables-of}
 use Rattle.arrival.specs.Arrival.{arrivalOf}
 use Rattle.tables.specs.declared.Counters.{Counters}
-use Rattle.plain.specs.declared.Numbered.{Numbered}
+use Rattle.plain.specs.declared.Answered.{Answered}
 use Rattle.tables.proofs.Counters as T
 use Rattle.tables.proofs.Counters.Laws as T′
-use Rattle.plain.proofs.Numbered as R
-use Rattle.plain.proofs.Numbered.Laws as R′
+use Rattle.plain.proofs.Answered as R
+use Rattle.plain.proofs.Answered.Laws as R′
 use Rattle.plain.proofs.arrive_by_value as core
 use Rattle.plain.proofs.arrive_by_value.Symbol as core-def
 use Rattle.plain.proofs.arrive_by_value.Symbol.{name as #plain·arrive-by-value}
@@ -214,7 +214,7 @@ module _ {M : Type 1} (𝓤 : URA M) (H : Heap 𝓤) (A : Atoms 𝓤) (W : Given
   goes = qed W (toks ∷ ‵ owned-all ∷ []) ∵ join ! $ frame ! $ done !
 
   -- what the callee ensures, of its result r and the last lists
-  abbrev Said : Numbered → Lasts core.ended (κs .1) passed → Type 0
+  abbrev Said : Answered → Lasts core.ended (κs .1) passed → Type 0
   Said r zs = outcomeOf (r .number) (tables-of (r .counters) (zs .1 .0) (zs .1 .1 .0) (zs .1 .1 .1 .0)) ≡ arrivalOf
       (tables-of h (now (a .1 .0)) (now (a .1 .1 .0)) (now (a .1 .1 .1 .0))) (now (a .1 .1 .1 .1 .0))
 
@@ -224,12 +224,12 @@ module _ {M : Type 1} (𝓤 : URA M) (H : Heap 𝓤) (A : Atoms 𝓤) (W : Given
       (fsep (finally u64 (a .1 .1 .1 .0 .name) (zs .1 .1 .1 .0)) (fsep ftrue ftrue)))
 
   -- what is had once the borrow is closed at what the callee returned
-  abbrev left-over : Numbered → Lasts core.ended (κs .1) passed → List (Item 𝓤)
+  abbrev left-over : Answered → Lasts core.ended (κs .1) passed → List (Item 𝓤)
   left-over r zs = ‵ (fobs (a .0 .name) (T.the-row .coded .code (r .counters)))
       ∷ ‵ (fbor (κs .0) (Body (mem T.the-row) b o (a .0 .name))) ∷ ‵ (flft (κs .0) (qs .0)) ∷ toks ∷ ‵ (fins zs)
       ∷ []
 
-  exits : (r : Numbered) (zs : Lasts core.ended (κs .1) passed) → Said r zs
+  exits : (r : Answered) (zs : Lasts core.ended (κs .1) passed) → Said r zs
       → length (zs .1 .0) ≡ length (now (a .1 .0)) → length (zs .1 .1 .0) ≡ length (now (a .1 .1 .0))
       → length (zs .1 .1 .1 .0) ≡ length (now (a .1 .1 .1 .0)) → Is u8 (r .number) (vint w8 (r .number) ∷ []) → ent
       𝓤 (⋆ 𝓤 H A (left-over r zs)) (Post (vint w8 (r .number)))
@@ -300,7 +300,7 @@ module _ {M : Type 1} (𝓤 : URA M) (H : Heap 𝓤) (A : Atoms 𝓤) (W : Given
         (and-then ! (load ! (from ! (stop !)) (look ! 9 refl))
         (and-then ! (load ! (from ! (stop !)) (look ! 5 refl))
         (and-then ! (load ! (from ! (stop !)) (look ! 21 refl)) (no-more !)))))) (λ u.
-        use1 W (later (some (λ (r : Numbered). (toks ⊛ ‵ (R.the-row .own r (u ∷ []))) ⊛ raw
+        use1 W (later (some (λ (r : Answered). (toks ⊛ ‵ (R.the-row .own r (u ∷ []))) ⊛ raw
         (ensured 𝓤 H A core.ended (core.clauses 𝓤 H A at-mem run) (κs .1) passed tt r)))) (id⊢ 𝓤 _) $ await ! tt $
         pick ! (λ r. split ! $
         -- what it ensures, at some last lists, each as long as the list passed

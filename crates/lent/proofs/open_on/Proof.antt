@@ -114,12 +114,12 @@ use denote.Lend.{lends-ref, ref-back}
 use Rattle.tables.specs.Tables.{outcomeOf, tablesOf as tables-of}
 use Rattle.tables.specs.Opening.{openingOf}
 use Rattle.tables.specs.declared.Counters.{Counters}
-use Rattle.plain.specs.declared.Numbered.{Numbered}
+use Rattle.plain.specs.declared.Answered.{Answered}
 use Rattle.ground.proofs.Within.{lies-in, lies-out}
 use Rattle.tables.proofs.Counters as T
 use Rattle.tables.proofs.Counters.Laws as T′
-use Rattle.plain.proofs.Numbered as R
-use Rattle.plain.proofs.Numbered.Laws as R′
+use Rattle.plain.proofs.Answered as R
+use Rattle.plain.proofs.Answered.Laws as R′
 use Rattle.interface.proofs.spireslate_open as thin
 use Rattle.interface.proofs.spireslate_open.Symbol as thin-def
 use Rattle.interface.proofs.spireslate_open.Symbol.{name as #interface·spireslate-open}
@@ -149,7 +149,7 @@ abbrev Thin : {M : Type 1} (𝓤 : URA M) (H : Heap 𝓤) (A : Atoms 𝓤) (mem 
 Thin 𝓤 H A mem run = tripleOf 𝓤 H A thin.signature (thin.spec 𝓤 H A mem run)
 
 -- the result
-abbrev made : ℕ → Counters → Numbered
+abbrev made : ℕ → Counters → Answered
 made n c = record { number = n; counters = c }
 
 -- the machine values. With an array among the fields, `LL.vals` and the `lowered` of the type's module do not
