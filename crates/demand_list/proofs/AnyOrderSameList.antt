@@ -32,7 +32,7 @@ use Rattle.list_version.proofs.NeverShared.{held-numbered}
 use Rattle.list_version.proofs.RanksStrict.{not-itself, ranks-through, held-ranked}
 use Rattle.list_line.proofs.AnyOrderLines.{Numbered, any-order-lines}
 use Rattle.list_lines.specs.List.{linesOf}
-use Rattle.list_lines.specs.List.{joined, listOf}
+use Rattle.list_print.specs.Printing.{joined, listOf}
 use Rattle.demand_list.specs.ListOverEdits.{linesIn, versionLines, linesOver}
 use Rattle.demand_list.proofs.FlatMaps.{flat-same}
 use Rattle.demand_list.proofs.ListOverEdits.{lines-over-list}

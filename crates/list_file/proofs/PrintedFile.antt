@@ -13,7 +13,7 @@ use Rattle.table_replay.specs.Replay.{Replayed, replayed}
 use Rattle.block_store.specs.Reading.{readingOf}
 use Rattle.block_store.proofs.RoundTrips.{accepted-sound}
 use Rattle.list_text.specs.HeadAndRefusal.{refusalLine}
-use Rattle.list_lines.specs.List.{listOf}
+use Rattle.list_print.specs.Printing.{listOf}
 use Rattle.list_print.specs.PrintForms.{Behind}
 use Rattle.list_file.specs.PrintedFile.{printedOf}
 

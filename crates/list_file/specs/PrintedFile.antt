@@ -8,7 +8,7 @@ use Rattle.table_drawing.specs.Tables.{emptyDrawing}
 use Rattle.table_replay.specs.Replay.{Replayed}
 use Rattle.block_store.specs.Reading.{readingOf}
 use Rattle.list_text.specs.HeadAndRefusal.{refusalLine}
-use Rattle.list_lines.specs.List.{listOf}
+use Rattle.list_print.specs.Printing.{listOf}
 
 -- what is printed of a file that was read
 abbrev pub printedFrom : Replayed → List ℕ

@@ -1,6 +1,6 @@
 -- The printed list of the tables t: line 0, then a line for each version. Objects go by the total order of their
 -- Creates, and the versions of an object as `versionsOf` has them. Assumes nothing.
-use mathlib.Core.List.{List, _∷_, flatMap, [], _++_}
+use mathlib.Core.List.{List, _∷_, flatMap}
 use Prim.Native.Nat.{ℕ}
 use Rattle.math_lists.specs.NumbersBelow.{sum}
 use Rattle.table_drawing.specs.Tables.{Tables, groupsAt}
@@ -21,11 +21,3 @@ versionTotal t = sum (t .counters .objects) (groupsAt (t .objects))
 unfoldable pub linesOf : Tables → List (List ℕ)
 linesOf t =
     headLine (t .counters .sites) (t .counters .objects) (versionTotal t) ∷ flatMap (linesFor t) (objectsOf t)
-
--- one after another
-unfoldable pub joined : List (List ℕ) → List ℕ
-joined [] = []
-joined (line ∷ lines) = line ++ joined lines
-
-unfoldable pub listOf : Tables → List ℕ
-listOf t = joined (linesOf t)

@@ -10,7 +10,7 @@ use lib.Seq.{length-take-le, take-at, drop-at, drop-drop, take-suc}
 use borrow.Rule.Slice.PartMut.{midOf, putMid}
 use Rattle.table_output.specs.Output.{placed}
 use Rattle.table_output.proofs.OutputOutcomes.{lent-back}
-use Rattle.list_lines.specs.List.{joined}
+use Rattle.list_print.specs.Printing.{joined}
 use Rattle.list_print.specs.PrintForms.{Behind}
 
 -- ---- an output

@@ -11,8 +11,7 @@ use Rattle.table_soundness.specs.Sound.{sound}
 use Rattle.table_output.specs.Output.{writing}
 use Rattle.list_objects.specs.Objects.{objectsOf}
 use Rattle.list_lines.specs.List.{linesFor, versionTotal, linesOf}
-use Rattle.list_lines.specs.List.{joined, listOf}
-use Rattle.list_print.specs.Printing.{listLength, listingOf}
+use Rattle.list_print.specs.Printing.{joined, listOf, listLength, listingOf}
 use Rattle.list_lines.specs.LinesForms.{headOf}
 use Rattle.list_print.specs.PrintForms.{allLines, Behind}
 use Rattle.list_print.proofs.BytesBehind.{joined-append}

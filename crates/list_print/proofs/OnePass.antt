@@ -12,7 +12,7 @@ use Rattle.table_drawing.specs.Tables.{Tables}
 use Rattle.table_soundness.specs.Sound.{sound}
 use Rattle.table_output.specs.Output.{Writing, writing, placed, writtenAt}
 use Rattle.list_lines.specs.List.{linesOf}
-use Rattle.list_lines.specs.List.{joined, listOf}
+use Rattle.list_print.specs.Printing.{joined, listOf}
 use Rattle.list_lines.specs.LineByNumber.{lineOf}
 use Rattle.list_print.proofs.BytesBehind.{placed-more, placed-length, joined-append, joined-snoc}
 

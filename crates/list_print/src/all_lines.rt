@@ -22,8 +22,7 @@ ghost use Rattle.table_soundness.specs.Sound.{sound};
 ghost use Rattle.list_line.specs.Line.{lineLength};
 ghost use Rattle.list_objects.specs.ObjectForms.{MembersOf};
 ghost use Rattle.list_lines.specs.List.{linesFor};
-ghost use Rattle.list_lines.specs.List.{joined, listOf};
-ghost use Rattle.list_print.specs.Printing.{listLength};
+ghost use Rattle.list_print.specs.Printing.{joined, listOf, listLength};
 ghost use Rattle.list_lines.specs.LinesForms.{headOf};
 ghost use Rattle.list_print.specs.PrintForms.{allLines, Behind};
 

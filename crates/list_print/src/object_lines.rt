@@ -9,7 +9,7 @@ ghost use lib.ListN.{length, take};
 ghost use Rattle.group_step.specs.GroupRows.{mostSets, mostGroups};
 ghost use Rattle.list_line.specs.Line.{lineLength};
 ghost use Rattle.list_line.specs.LineForms.{lineBy};
-ghost use Rattle.list_lines.specs.List.{joined};
+ghost use Rattle.list_print.specs.Printing.{joined};
 ghost use Rattle.list_lines.specs.LinesForms.{Ready, lineIn};
 ghost use Rattle.list_print.specs.PrintForms.{Behind};
 

@@ -14,7 +14,7 @@ use Rattle.table_soundness.proofs.SoundFacts.{sound-at}
 use Rattle.list_line.specs.Line.{lineLength}
 use Rattle.list_lines.specs.List.{linesFor}
 use Rattle.list_objects.specs.Objects.{objectsOf}
-use Rattle.list_lines.specs.List.{joined}
+use Rattle.list_print.specs.Printing.{joined}
 use Rattle.list_print.specs.PrintForms.{Behind}
 use Rattle.list_print.proofs.BytesBehind.{fewer-behind, no-piece, piece-behind}
 use borrow.Author.Needs.{needs}

@@ -8,7 +8,7 @@ use mathlib.Core.List.{map}
 use Prim.Native.Nat.{_-_, _*_, _≤_}
 use lib.ListN.{length, take}
 use Rattle.list_line.specs.Line.{lineLength}
-use Rattle.list_lines.specs.List.{joined}
+use Rattle.list_print.specs.Printing.{joined}
 use Rattle.list_lines.specs.LinesForms.{lineIn}
 use Rattle.list_print.specs.PrintForms.{Behind}
 use borrow.Author.Needs.{needs}
