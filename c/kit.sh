@@ -3,7 +3,7 @@
 # folder. What fails says why on standard error.
 
 kit=$(dirname "$(dirname "$(rt doc)")")/on/$(uname -m)/toolchain
-library=target/staticlib/libinterface.a
+library=target/staticlib/libcall_c.a
 made=target/c
 
 # Whether a file that rt made is there and nothing that it is made of is newer.
@@ -47,7 +47,7 @@ find_compiler() {
 # Builds the library anew: an archive of an earlier run is not to be linked by mistake.
 build_library() {
     mkdir -p target/log && rm -f "$library" || return 1
-    if rt staticlib interface >target/log/c.staticlib 2>&1 && [ -s "$library" ]; then return 0; fi
+    if rt staticlib call_c >target/log/c.staticlib 2>&1 && [ -s "$library" ]; then return 0; fi
     tail -n 20 target/log/c.staticlib >&2
     echo "rt wrote no $library (target/log/c.staticlib has what it said)" >&2
     return 1

@@ -1,4 +1,4 @@
-/* The calls of Spireslate for a C program on x86-64 Linux: the static library of the crate `interface` has them, and
+/* The calls of Spireslate for a C program on x86-64 Linux: the static library of the crate `call_c` has them, and
    each is proved to answer as document 01 says. All lengths and all contents are allowed: every input has an answer,
    and a table, record, file or output that is too short, too long or damaged is refused with its number, never read or
    written outside. What no proof can see is left to the caller: a pointer is not null, also where its length is 0; it

@@ -1,16 +1,16 @@
 // Reads a file on standard input and prints the list of the drawing that it stores, or the line of its refusal, on
 // standard output; with arguments, the same for each file that they name, one after another. What is printed is the
-// proved function `printing::print_file`.
+// proved function `list_file::print_file`.
 use libc::STDIN_FILENO;
 use libc::STDOUT_FILENO;
 ghost use mathlib.Core.Path.{_≡_};
 ghost use Prim.Native.Nat.{_+_, _≤_};
 ghost use lib.ListN.{length};
-ghost use Rattle.trailer.specs.Trailer.{fileLimit};
-ghost use Rattle.list.specs.Printing.{listLength};
+ghost use Rattle.block_trailer.specs.Trailer.{fileLimit};
+ghost use Rattle.list_print.specs.Printing.{listLength};
 
 // One byte more than a file that is read may have.
-const MOST: usize = trailer::FILE_LIMIT + 1;
+const MOST: usize = block_trailer::FILE_LIMIT + 1;
 
 fn buffer() -> [u8; MOST]
     ensures { λ r. ⌜ fileLimit + 1 ≡ length r ⌝ }
@@ -18,17 +18,17 @@ fn buffer() -> [u8; MOST]
     [0; MOST]
 }
 
-fn room() -> [u8; list::LIST]
+fn room() -> [u8; list_print::LIST]
     ensures { λ r. ⌜ listLength ≡ length r ⌝ }
 {
-    [0; list::LIST]
+    [0; list_print::LIST]
 }
 
 // Prints a file, with room for the longest list.
 fn print(out: &mut [u8], file: &[u8])
     requires { ⌜ listLength ≤ length (now out) ⌝ }
 {
-    let k = printing::print_file(out, file);
+    let k = list_file::print_file(out, file);
     io::write_all(STDOUT_FILENO, &out[..k]);
 }
 

@@ -2,7 +2,7 @@
 use mathlib.Core.Path.{sym}
 use Prim.Native.Nat.{ℕ}
 use lib.ListN.{length-replicate}
-use Rattle.list.specs.Printing.{listLength}
+use Rattle.list_print.specs.Printing.{listLength}
 use Rattle.drawlist.proofs.room.Statement.{statement}
 use Rattle.drawlist.proofs.room.Tie as tie
 

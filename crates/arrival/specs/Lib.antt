@@ -1,4 +1,0 @@
-pub mod Arrival
-pub mod Truth
-pub mod Versions
-pub mod Code

@@ -1,0 +1,81 @@
+// A reader that holds the stretch of a block and its place in it, and gives the records one by one: document 01, 'The
+// stored block'. The borrow checker covers no function over such a struct, so the proofs of `reader_of`,
+// `next_record` and `second` are walked by hand. `take`, which decodes, has plain parameters and is covered; `second`
+// has plain parameters too, and lends a reader of its own. Assumes nothing of the stretch and the place.
+use edit_record::Edit;
+use edit_record::RECORD;
+ghost use mathlib.Core.Path.{_≡_};
+ghost use Prim.Native.Nat.{_+_};
+ghost use lib.Dec.{leb};
+ghost use Rattle.edit_record.specs.Layout.{recordLength};
+ghost use Rattle.block_reader.specs.Reader.{takenAt, givenBy, movedOn, secondOf};
+
+// A record, or the end mark, where nothing is found and the edit has zeros alone.
+pub struct Given {
+    pub found: bool,
+    pub edit: Edit,
+}
+
+// What was given, and the place after it.
+pub struct Taken {
+    pub given: Given,
+    pub place: usize,
+}
+
+// A stretch of records, and the place of the one to be given next.
+pub struct Reader<'a> {
+    pub stretch: &'a [u8],
+    pub place: usize,
+}
+
+// Whether n bytes have a record at a place.
+fn is_left(n: usize, place: usize) -> bool
+    ensures { λ r. ⌜ r ≡ leb (place + recordLength) n ⌝ }
+{
+    if n < RECORD {
+        return false;
+    }
+    place <= n - RECORD
+}
+
+// The record at a place, or the end mark where fewer bytes than a record's are left, and the place after it.
+pub fn take(stretch: &[u8], place: usize) -> Taken
+    ensures { λ r. ⌜ r ≡ takenAt (now (stretch .entry)) place ⌝ }
+{
+    if !is_left(stretch.len(), place) {
+        let edit = edit_record::decode(&stretch[..0]);
+        let given = Given { found: false, edit };
+        return Taken { given, place };
+    }
+    let edit = edit_record::decode(&stretch[place..]);
+    let given = Given { found: true, edit };
+    Taken {
+        given,
+        place: place + RECORD,
+    }
+}
+
+// A reader at the start of a stretch.
+pub fn reader_of<'a>(stretch: &'a [u8]) -> Reader<'a>
+    ensures { λ r. ⌜ (r .stretch ≡ stretch .entry) × (r .place ≡ 0) ⌝ }
+{
+    Reader { stretch, place: 0 }
+}
+
+// The next record, or the end mark: the place moves past the record, and stays put at the end.
+pub fn next_record<'s, 'a>(r: &'s mut Reader<'a>) -> Given
+    ensures { λ g. ⌜ (g ≡ givenBy (now (r .entry))) × (now (r .exit) ≡ movedOn (now (r .entry))) ⌝ }
+{
+    let t = take(r.stretch, r.place);
+    r.place = t.place;
+    t.given
+}
+
+// The second record of a stretch, or the end mark. Plain parameters: whoever calls this needs no walk.
+pub fn second(stretch: &[u8]) -> Given
+    ensures { λ g. ⌜ g ≡ secondOf (now (stretch .entry)) ⌝ }
+{
+    let mut r = reader_of(stretch);
+    next_record(&mut r);
+    next_record(&mut r)
+}

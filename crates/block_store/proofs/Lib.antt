@@ -1,0 +1,5 @@
+pub mod WritingOutcomes
+pub mod WrittenLocated
+pub mod ExampleBlocks
+pub mod ReadingOutcomes
+pub mod RoundTrips

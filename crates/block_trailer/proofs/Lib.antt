@@ -1,0 +1,2 @@
+pub mod LocatingOutcomes
+pub mod TrailerBytes

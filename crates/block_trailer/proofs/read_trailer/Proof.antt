@@ -1,0 +1,93 @@
+-- `block_trailer::read_trailer` meets its contract: each of its four ends is that outcome. Assumes nothing.
+use mathlib.Core.Path.{_≡_, sym, _∙_}
+use mathlib.Core.Bool.{true}
+use denote.Ref.{now}
+use borrow.Author.Tests.{not-true, not-false}
+use borrow.Author.Needs.{needs}
+use Rattle.table_drawing.specs.Tables.{sitesRight}
+use Rattle.block_trailer.specs.Trailer.{sitesIn}
+use Rattle.block_trailer.proofs.LocatingOutcomes.{over-limit, unfit-refused, sites-refused, accepted}
+use Rattle.block_trailer.proofs.read_trailer.Statement.{statement}
+use Rattle.block_trailer.proofs.read_trailer.Tie as tie
+
+refused-requires : tie.Need-refused-requires
+refused-requires c κs = search needs
+
+returns : tie.Need-returns
+returns c = c .refused .ensures ∙ over-limit (now (c .before .before .before .args .file)) (c .before .if1 .taken)
+
+is-unfit-requires : tie.Need-is-unfit-requires
+is-unfit-requires c κs = search needs
+
+refused-requires-2 : tie.Need-refused-requires-2
+refused-requires-2 c κs = search needs
+
+returns-2 : tie.Need-returns-2
+returns-2 c =
+    let u = c .before .before in
+    c .refused2 .ensures
+    ∙ unfit-refused (now (u .before .before .before .args .file)) (u .before .if1 .left)
+    (sym (u .is-unfit .ensures) ∙ c .before .if2 .taken)
+
+trailer-at-requires : tie.Need-trailer-at-requires
+trailer-at-requires c κs = search needs
+
+add-byte-at : tie.Need-add-byte-at
+add-byte-at c = search needs
+
+byte-at-requires : tie.Need-byte-at-requires
+byte-at-requires c κs = search needs
+
+sites-right-requires : tie.Need-sites-right-requires
+sites-right-requires c κs = search needs
+
+refused-requires-3 : tie.Need-refused-requires-3
+refused-requires-3 c κs = search needs
+
+returns-3 : tie.Need-returns-3
+returns-3 c =
+    let b = c .before .before .before in
+    let i = b .before .before in
+    let u = i .before in
+    c .refused3 .ensures
+    ∙ sites-refused (now (u .before .before .before .args .file)) (u .before .if1 .left)
+    (sym (u .is-unfit .ensures) ∙ i .if2 .left)
+    (rw (← (b .before .trailer-at .ensures), ← (b .byte-at .ensures), ← (c .before .before .sites-right .ensures))
+    (not-true _ (c .before .if3 .taken)))
+
+two-at-requires : tie.Need-two-at-requires
+two-at-requires c κs = search needs
+
+returns-4 : tie.Need-returns-4
+returns-4 c =
+    let b = c .before .before .before in
+    let i = b .before .before in
+    let u = i .before in
+    let file = now (u .before .before .before .args .file) in
+    let sites : sitesRight (sitesIn file) ≡ true =
+    rw (← (b .before .trailer-at .ensures), ← (b .byte-at .ensures), ← (c .before .before .sites-right .ensures))
+    (not-false _ (c .before .if3 .left)) in
+    rw (
+      c .two-at .ensures,
+      b .byte-at .ensures,
+      b .before .trailer-at .ensures,
+      accepted file (u .before .if1 .left) (sym (u .is-unfit .ensures) ∙ i .if2 .left) sites,
+    )
+
+pub read-trailer-spec : {M : Type 1} → statement M
+read-trailer-spec =
+    tie.close
+    (tie.spec
+    refused-requires
+    returns
+    is-unfit-requires
+    refused-requires-2
+    returns-2
+    trailer-at-requires
+    add-byte-at
+    byte-at-requires
+    sites-right-requires
+    refused-requires-3
+    returns-3
+    two-at-requires
+    returns-4)

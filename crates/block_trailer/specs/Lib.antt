@@ -1,0 +1,2 @@
+pub mod Trailer
+pub mod Locating

@@ -1,0 +1,65 @@
+-- The trailer of a stored block, which are the last 8 bytes of a file. Assumes nothing.
+use Prim.Native.Nat.{ℕ, _+_, _-_, _*_, _/_, _%_}
+use mathlib.Core.List.{List, [], _∷_, _++_}
+use mathlib.Core.Bool.{Bool, not, _||_}
+use lib.ListN.{getD, length}
+use lib.Dec.{eqb, ltb}
+use Rattle.edit_record.specs.Layout.{recordLength}
+use Rattle.edit_record.specs.RecordBytes.{two, four, countBytes}
+use Rattle.edit_history.specs.EditsHeld.{mostRecords}
+
+-- the bytes of a trailer
+abbrev pub trailerLength : ℕ
+trailerLength = 8
+
+-- a file that is read has at most so many bytes
+abbrev pub fileLimit : ℕ
+fileLimit = 65536
+
+-- ---- as it is written
+
+-- the trailer behind n records of a drawing of so many sites: the number of records, N, zero, and the distance from
+-- the trailer's start back to the first record
+unfoldable pub trailerOf : ℕ → ℕ → List ℕ
+trailerOf n sites =
+    let distance = n * recordLength in
+    countBytes (n ∷ []) ++ (sites ∷ 0 ∷ countBytes (distance % 65536 ∷ distance / 65536 ∷ []))
+
+-- ---- as it stands in a file
+
+-- where it starts
+abbrev pub trailerAt : List ℕ → ℕ
+trailerAt file = length file - trailerLength
+
+-- where its fields start, the first of which is the number of records
+abbrev pub sitesAt : ℕ
+sitesAt = 2
+
+abbrev pub zeroAt : ℕ
+zeroAt = 3
+
+abbrev pub distanceAt : ℕ
+distanceAt = 4
+
+-- the fields; a byte past the end counts as 0
+abbrev pub recordsIn : List ℕ → ℕ
+recordsIn file = two file (trailerAt file)
+
+abbrev pub sitesIn : List ℕ → ℕ
+sitesIn file = getD file (trailerAt file + sitesAt) 0
+
+abbrev pub zeroIn : List ℕ → ℕ
+zeroIn file = getD file (trailerAt file + zeroAt) 0
+
+abbrev pub distanceIn : List ℕ → ℕ
+distanceIn file = four file (trailerAt file + distanceAt)
+
+-- file shorter than 8, more than 256 records, nonzero fourth byte, distance not 28 times the number, or reaching
+-- before the file's start
+unfoldable pub unfitTrailer : List ℕ → Bool
+unfitTrailer file =
+    ltb (length file) trailerLength
+    || ltb mostRecords (recordsIn file)
+    || not (eqb (zeroIn file) 0)
+    || not (eqb (distanceIn file) (recordsIn file * recordLength))
+    || ltb (trailerAt file) (distanceIn file)

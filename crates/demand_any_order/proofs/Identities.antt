@@ -1,0 +1,142 @@
+-- Edits by their identities, and 'seen' and 'before' as facts; where no identity stands twice, an identity is one
+-- edit, and fewer Sets have no more groups. Assumes nothing.
+use mathlib.Core.Path.{_≡_, refl, ap, ap₂, _∙_}
+use mathlib.Core.Logic.{inl, inr}
+use mathlib.Core.Bool.{true}
+use mathlib.Core.List.{List, [], _∷_}
+use Prim.Native.Nat.{ℕ, zero, suc, _≤_}
+use native.Mathlib.Omega.{arith}
+use lib.ListN.{length, getD, drop}
+use lib.Dec.{eqb}
+use borrow.Author.Tests.{eqb-true, eq-eqb, le-leb}
+use Rattle.math_lists.specs.NumbersBelow.{all}
+use Rattle.math_lists.specs.SortedLists.{filter}
+use Rattle.math_lists.proofs.Booleans.{clash, both, and-on, eqb-self}
+use Rattle.math_lists.proofs.NumbersBelow.{all-on}
+use Rattle.edit_record.specs.declared.Site.{Site}
+use Rattle.edit_record.specs.declared.Seq.{Seq}
+use Rattle.edit_record.specs.declared.Edit.{Edit}
+use Rattle.edit_causal.specs.Causal.{sameEdit, hasSeen, comesBefore}
+use Rattle.edit_causal.specs.Conflict.{doConflict}
+use Rattle.edit_causal.proofs.CausalLaws.{same-reflexive, same-symmetric, conflict-symmetric, conflict-irreflexive}
+use Rattle.math_maximal.specs.MaximalSets.{_⊆_}
+use Rattle.math_maximal.specs.GroupsByArrival.{groupsOf}
+use Rattle.math_maximal.proofs.GroupsByArrival.{Distinct, has, no-more-of}
+use Rattle.edit_history.specs.EditsHeld.{isSetOn, setsOn}
+use Rattle.edit_record.specs.RecordBytes.{noEdit}
+use Rattle.group_true.specs.TrueGroups.{trueGroups}
+use Rattle.demand_any_order.specs.Rearranged.{Mem}
+use Rattle.demand_any_order.specs.Settled.{Differ, Apart}
+use Rattle.demand_any_order.specs.EqualEdits.{fieldsOf, isEqual}
+use Rattle.demand_any_order.proofs.ListMembers.{any-on, any-at, chosen-at, chosen-on, mem-place}
+use Rattle.demand_any_order.proofs.PairsInList.{pairs-two, pairs-chosen}
+use Rattle.math_lists.proofs.ByPlaces.{list-equal}
+
+-- ---- identity, seen, before
+
+pub same-on :
+    (a b : Edit) → a .site .0 ≡ b .site .0 → a .seq .0 ≡ b .seq .0 →
+    sameEdit (a .site) (a .seq) (b .site) (b .seq) ≡ true
+same-on a b p q = rw (eq-eqb (a .site .0) (b .site .0) p, eq-eqb (a .seq .0) (b .seq .0) q)
+
+pub same-at :
+    (a b : Edit) → sameEdit (a .site) (a .seq) (b .site) (b .seq) ≡ true →
+    (a .site .0 ≡ b .site .0) × (a .seq .0 ≡ b .seq .0)
+same-at a b h =
+    let (p, q) = both (eqb (a .site .0) (b .site .0)) (eqb (a .seq .0) (b .seq .0)) h in
+    (eqb-true (a .site .0) (b .site .0) p, eqb-true (a .seq .0) (b .seq .0) q)
+
+pub seen-on :
+    (e a : Edit) → a .seq .0 ≤ getD (e .vector) (a .site .0) 0 → hasSeen (e .vector) (a .site) (a .seq) ≡ true
+seen-on e a h = le-leb (a .seq .0) (getD (e .vector) (a .site .0) 0) h
+
+pub before-on : (a e : Edit) → Differ a e → hasSeen (e .vector) (a .site) (a .seq) ≡ true → comesBefore a e ≡ true
+before-on a e d s = rw (d, s)
+
+pub differ-turned : (a b : Edit) → Differ a b → Differ b a
+differ-turned a b h = same-symmetric (b .site) (b .seq) (a .site) (a .seq) ∙ h
+
+-- ---- equality in every field
+
+made : List ℕ → Edit
+made l =
+    record {
+      kind = getD l 0 0;
+      site = record { 0 = getD l 1 0 };
+      seq = record { 0 = getD l 2 0 };
+      vector = drop 7 l;
+      tsite = record { 0 = getD l 3 0 };
+      key = getD l 4 0;
+      tseq = record { 0 = getD l 5 0 };
+      value = getD l 6 0;
+    }
+
+pub equal-at : (a b : Edit) → isEqual a b ≡ true → a ≡ b
+unfolding isEqual made
+equal-at a b h = ap made (list-equal (fieldsOf a) (fieldsOf b) h)
+
+pub equal-self : (a : Edit) → isEqual a a ≡ true
+unfolding isEqual
+equal-self a =
+    let l = fieldsOf a in
+    and-on (eqb (length l) (length l)) (all (length l) (λ i. eqb (getD l i 0) (getD l i 0))) (eqb-self (length l))
+    (all-on (length l) (λ i. eqb (getD l i 0) (getD l i 0)) (λ i k. eqb-self (getD l i 0)))
+
+pub has-on : {x : Edit} {xs : List Edit} → Mem x xs → has isEqual xs x ≡ true
+has-on {x} m = any-on (isEqual x) m (equal-self x)
+
+pub has-at : (x : Edit) (xs : List Edit) → has isEqual xs x ≡ true → Mem x xs
+has-at x xs h =
+    let (y, m, e) = any-at (isEqual x) xs h in
+    rw (equal-at x y e) m
+
+-- ---- no identity stands twice
+
+pub one-edit :
+    (es : List Edit) → Apart es → (a b : Edit) → Mem a es → Mem b es →
+    sameEdit (a .site) (a .seq) (b .site) (b .seq) ≡ true → a ≡ b
+one-edit es u a b m k h = elim (pairs-two Differ differ-turned es u a b m k) [ inl e ↦ e | inr d ↦ clash h d ]
+
+distinct : (xs : List Edit) → Apart xs → Distinct noEdit xs
+distinct [] u i j a b e = absurd (omega arith)
+distinct (x ∷ xs) (u, v) zero zero a b e = refl
+distinct (x ∷ xs) (u, v) zero (suc j) a b e =
+    clash (same-reflexive (x .site) (x .seq))
+    (rw (← e) at (u (getD xs j noEdit) (mem-place noEdit xs j (omega arith))))
+distinct (x ∷ xs) (u, v) (suc i) zero a b e =
+    clash (same-reflexive (x .site) (x .seq))
+    (rw e at (u (getD xs i noEdit) (mem-place noEdit xs i (omega arith))))
+distinct (x ∷ xs) (u, v) (suc i) (suc j) a b e = ap suc (distinct xs v i j (omega arith) (omega arith) e)
+
+-- ---- the groups of an object
+
+-- only the identity of its Create counts
+pub one-object :
+    (es : List Edit) (a c : Edit) → a .site ≡ c .site → a .seq ≡ c .seq → trueGroups es a ≡ trueGroups es c
+unfolding trueGroups
+one-object es a c p q = ap₂ (λ (x : Site) (y : Seq). groupsOf noEdit doConflict (setsOn x y es)) p q
+
+pub sets-distinct : (es : List Edit) → Apart es → (c : Edit) → Distinct noEdit (setsOn (c .site) (c .seq) es)
+unfolding setsOn
+sets-distinct es u c =
+    let f = isSetOn (c .site) (c .seq) in
+    distinct (filter f es) (pairs-chosen Differ f es u)
+
+pub sets-among :
+    (es fs : List Edit) → ((x : Edit) → Mem x fs → Mem x es) → (c : Edit) →
+    has isEqual (setsOn (c .site) (c .seq) fs) ⊆ has isEqual (setsOn (c .site) (c .seq) es)
+unfolding setsOn
+sets-among es fs among c x h =
+    let f = isSetOn (c .site) (c .seq) in
+    let (m, on) = chosen-at f x fs (has-at x (filter f fs) h) in
+    has-on (chosen-on f (among x m) on)
+
+-- of fewer edits it has no more groups
+pub fewer-groups :
+    (es fs : List Edit) → Apart es → Apart fs → ((x : Edit) → Mem x fs → Mem x es) → (c : Edit) →
+    length (trueGroups fs c) ≤ length (trueGroups es c)
+unfolding trueGroups
+fewer-groups es fs u v among c =
+    no-more-of noEdit isEqual equal-at equal-self doConflict (setsOn (c .site) (c .seq) es)
+    (setsOn (c .site) (c .seq) fs) (sets-distinct es u c) (sets-distinct fs v c) (sets-among es fs among c)
+    conflict-symmetric conflict-irreflexive

@@ -1,0 +1,14 @@
+pub mod ListMembers
+pub mod Rearranged
+pub mod PairsInList
+pub mod Identities
+pub mod AnswerNought
+pub mod CountsInTurn
+pub mod AcceptedSettled
+pub mod SettledAccepted
+pub mod SettledAnyOrder
+pub mod AnswerOverList
+pub mod ReplayAccepted
+pub mod AnyOrderAccepted
+pub mod SameGroups
+pub mod SameDrawings

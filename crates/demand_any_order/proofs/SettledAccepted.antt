@@ -1,0 +1,185 @@
+-- A settled list in a causal order is accepted throughout. Assumes at most eight sites.
+use mathlib.Core.Path.{_≡_, sym, ap, ap₂, subst, _∙_}
+use mathlib.Core.Logic.{inl, inr}
+use mathlib.Core.Bool.{true}
+use mathlib.Core.List.{
+  List,
+  [],
+  _∷_,
+  _++_,
+  List·Memᴰ·cases-cons,
+  List·Memᴰ·append-cases,
+  Memᴰ·append-left,
+}
+use Prim.Native.Nat.{ℕ, _+_, _≤_, _<_}
+use native.Mathlib.Omega.{arith}
+use native.Mathlib.Decide.{decLt}
+use lib.ListN.{length, getD, length-append}
+use lib.Seq.{append-snoc}
+use borrow.Author.Tests.{eqb-true}
+use Rattle.math_lists.specs.SortedLists.{filter}
+use Rattle.math_lists.proofs.Booleans.{clash, off}
+use Rattle.edit_record.specs.declared.Site.{Site}
+use Rattle.edit_record.specs.declared.Seq.{Seq}
+use Rattle.edit_record.specs.declared.Edit.{Edit}
+use Rattle.edit_record.specs.Layout.{mostSites, createKind, setKind}
+use Rattle.edit_record.specs.Answer1.{isCreate, isSet}
+use Rattle.edit_record.proofs.WellFormed.{WellFormed, well-formed}
+use Rattle.edit_causal.specs.Causal.{sameEdit, hasSeen}
+use Rattle.edit_causal.proofs.CausalLaws.{same-reflexive}
+use Rattle.edit_history.specs.EditsHeld.{countFrom, creates, isSetOn, setsOn}
+use Rattle.edit_history.proofs.EditsHeld.{Target, target-parts}
+use Rattle.edit_history.proofs.RecordsPassed.{InTurn}
+use Rattle.group_step.specs.GroupRows.{mostSets, mostGroups}
+use Rattle.group_true.specs.TrueGroups.{trueGroups}
+use Rattle.edit_causal.proofs.Identities.{same-site, same-seq}
+use Rattle.demand_any_order.specs.Rearranged.{Mem}
+use Rattle.demand_any_order.specs.Settled.{named, AllAccepted, MayPrecede, Causal, Differ, Apart, Settled}
+use Rattle.demand_any_order.proofs.ListMembers.{here, chosen-more, mem-along, mem-middle, fronts}
+use Rattle.demand_any_order.proofs.PairsInList.{pairs-cross, pairs-front}
+use Rattle.demand_any_order.proofs.Identities.{same-on, same-at, seen-on, before-on, one-edit, one-object}
+use Rattle.demand_any_order.proofs.Identities.{fewer-groups}
+use Rattle.demand_any_order.proofs.AnswerNought.{Fine, fine-on}
+use Rattle.demand_any_order.proofs.CountsInTurn.{Counted, counted-none, counted-more}
+
+module _ (n : ℕ) (few : n ≤ mostSites) (es : List Edit) (s : Settled n es) (causal : Causal es) where
+  formed : (e : Edit) → Mem e es → WellFormed n e
+  formed e m = well-formed n e (s .fit e m)
+
+  -- ---- e stands after xs
+
+  module _ (xs ys : List Edit) (e : Edit) (q : es ≡ xs ++ (e ∷ ys)) where
+    abbrev front : List Edit
+    front = xs ++ (e ∷ [])
+
+    abbrev split : es ≡ front ++ ys
+    split = q ∙ sym (append-snoc xs e ys)
+
+    abbrev left : (a : Edit) → Mem a xs → Mem a es
+    left a m = mem-along (sym q) (Memᴰ·append-left (e ∷ ys) m)
+
+    abbrev self : Mem e es
+    self = mem-along (sym q) (mem-middle xs ys e)
+
+    -- what e has seen stands before it
+    prior : (a : Edit) → Mem a es → Differ a e → hasSeen (e .vector) (a .site) (a .seq) ≡ true → Mem a xs
+    prior a m d seen = elim (List·Memᴰ·append-cases xs (mem-along q m)) [
+      | inl k ↦ k
+      | inr k ↦ elim (List·Memᴰ·cases-cons k) [
+        | inl z ↦ clash (rw z (same-reflexive (e .site) (e .seq))) d
+        | inr l ↦
+            clash (before-on a e d seen)
+            (pairs-cross MayPrecede front ys (subst Causal split causal) e a (mem-middle xs [] e) l)
+      ]
+    ]
+
+    module _ (c : Counted xs) where
+      -- the edit that e has seen is counted
+      reached : (x r : ℕ) → x < mostSites → 0 < r → r ≤ getD (e .vector) x 0 →
+          (x ≡ e .site .0 → r ≡ e .seq .0 → ⊥) → r ≤ countFrom x xs
+      reached x r l p b d =
+          let (a, m, y, z) = s .closed e self x r l p b in
+          let differ : Differ a e = off (sameEdit (a .site) (a .seq) (e .site) (e .seq))
+          (λ h. let (u, v) = same-at a e h in d (sym y ∙ u) (sym z ∙ v)) in
+          let seen = seen-on e a (rw (y, z) b) in
+          let k = prior a m differ seen in
+          let own = rw (y, z) at (formed a m .own) in
+          omega (arith, c .entries a k x l, own)
+
+      in-turn-here : InTurn n xs e
+      in-turn-here =
+          let w = formed e self in
+          let k = countFrom (e .site .0) xs in
+          record {
+            formed = w;
+            next = elim (decLt k (e .seq .0)) [
+              | no l ↦
+                  (let (a, m, y, z) = c .present (e .site .0) (e .seq .0) (w .seq) (omega arith) in
+                  let apart : Apart (xs ++ (e ∷ ys)) = subst Apart q (s .apart) in
+                  clash (same-on a e y z) (pairs-cross Differ xs (e ∷ ys) apart a e m here))
+              | yes l ↦ elim (decLt (k + 1) (e .seq .0)) [
+                | no g ↦ omega arith
+                | yes g ↦
+                    absurd (omega (
+                      arith,
+                      reached (e .site .0) (k + 1) (omega (arith, w .site)) (omega arith) (omega (arith, w .own))
+                          (λ y z. omega arith),
+                    ))
+              ]
+            ];
+            others = λ x l d. elim (decLt 0 (getD (e .vector) x 0)) [
+              | yes g ↦ reached x (getD (e .vector) x 0) l g (omega arith) (λ y z. d y)
+              | no g ↦ omega arith
+            ];
+          }
+
+      -- ---- its object
+
+      module _ (k : isSet e ≡ true) where
+        abbrev target : Edit
+        target = s .aimed e self k .0
+
+        abbrev parts : Target e target
+        parts = target-parts e target (s .aimed e self k .2)
+
+        abbrev its-site : target .site ≡ e .tsite
+        its-site = same-site (target .site) (e .tsite) (parts .site)
+
+        abbrev its-seq : target .seq ≡ e .tseq
+        its-seq = same-seq (target .seq) (e .tseq) (parts .seq)
+
+        differs : Differ target e
+        differs = off (sameEdit (target .site) (target .seq) (e .site) (e .seq)) (λ h.
+            let one = one-edit es (s .apart) target e (s .aimed e self k .1) self h in
+            let kinds : target .kind ≡ e .kind = ap (λ (x : Edit). x .kind) one in
+            omega (arith, eqb-true (target .kind) createKind (parts .create), eqb-true (e .kind) setKind k))
+
+        target-prior : Mem target xs
+        target-prior = prior target (s .aimed e self k .1) differs (parts .seen)
+
+        sets-room : length (setsOn (e .tsite) (e .tseq) xs) < mostSets
+        sets-room =
+            let bound : length (setsOn (e .tsite) (e .tseq) es) ≤ mostSets
+            = subst (λ (m : ℕ). m ≤ mostSets) (ap₂ (λ (x : Site) (y : Seq). length (setsOn x y es)) its-site its-seq)
+            (s .few-sets target (s .aimed e self k .1) (parts .create)) in
+            let more : length (setsOn (e .tsite) (e .tseq) xs) < length (setsOn (e .tsite) (e .tseq) es)
+            = unfold setsOn in rw q
+            (chosen-more (isSetOn (e .tsite) (e .tseq)) xs ys e (rw (k, same-reflexive (e .tsite) (e .tseq)))) in
+            omega arith
+
+        groups-room : length (trueGroups front (named e)) ≤ mostGroups
+        groups-room =
+            let bound : length (trueGroups es (named e)) ≤ mostGroups
+            = subst (λ (gs : List ℕ). length gs ≤ mostGroups) (one-object es target (named e) its-site its-seq)
+            (s .few-groups target (s .aimed e self k .1) (parts .create)) in
+            omega (
+              arith,
+              fewer-groups es front (s .apart) (pairs-front Differ front ys (subst Apart split (s .apart)))
+                  (λ x m. mem-along (sym split) (Memᴰ·append-left ys m)) (named e),
+            )
+
+      fine-here : Fine n xs e
+      fine-here = record {
+        fit = s .fit e self;
+        inTurn = in-turn-here;
+        whole = λ a m. s .whole a e (left a m) self;
+        aimed = λ k. (target k, target-prior k, s .aimed e self k .2);
+        room = omega (arith, s .few-records, ap length q, length-append xs (e ∷ ys));
+        create-room = λ k.
+            unfold creates in omega (
+              arith,
+              s .few-objects,
+              ap (λ (l : List Edit). length (filter isCreate l)) q,
+              chosen-more isCreate xs ys e k,
+            );
+        set-room = sets-room;
+        few = groups-room;
+      }
+
+  -- ---- the whole list
+
+  counted : (xs ys : List Edit) → es ≡ xs ++ ys → Counted xs
+  counted = fronts Counted es counted-none (λ us vs x q c. counted-more n us x (in-turn-here us vs x q c) c)
+
+  pub settled-accepted : AllAccepted n es
+  settled-accepted xs ys e q = fine-on n xs e (fine-here xs ys e q (counted xs (e ∷ ys) q))

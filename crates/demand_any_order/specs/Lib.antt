@@ -1,0 +1,3 @@
+pub mod Rearranged
+pub mod Settled
+pub mod EqualEdits

@@ -1,0 +1,100 @@
+-- The answer to an edit over the list of the edits held, and what is true of a list of edits that is accepted:
+-- `Settled` has no order in it, and `Causal` is all that the order has to keep. n is the number of sites. Assumes
+-- nothing.
+use mathlib.Core.Path.{_≡_}
+use mathlib.Core.Bool.{Bool, true, false, _&&_, _||_}
+use mathlib.Core.List.{List, [], _∷_, _++_}
+use Prim.Native.Nat.{ℕ, _≤_, _<_}
+use lib.ListN.{length, getD}
+use lib.Dec.{leb, ltb}
+use Rattle.math_lists.specs.SortedLists.{Asc}
+use Rattle.edit_record.specs.declared.Edit.{Edit}
+use Rattle.edit_record.specs.Layout.{mostSites, createKind}
+use Rattle.edit_record.specs.Answer1.{isCreate, isSet, unfit}
+use Rattle.edit_causal.specs.Causal.{sameEdit, comesBefore}
+use Rattle.edit_history.specs.EditsHeld.{creates, setsOn, isTarget, mostRecords}
+use Rattle.edit_history.specs.Answers2to5.{isRepeated, isEarly, tears, isTorn, isAstray}
+use Rattle.group_step.specs.GroupRows.{mostObjects, mostSets, mostGroups}
+use Rattle.table_arrival.specs.Answers6and7.{firstOf}
+use Rattle.group_true.specs.TrueGroups.{trueGroups}
+use Rattle.demand_any_order.specs.Rearranged.{Mem}
+
+-- ---- the answer over a list
+
+-- the Create that e names: of it only the identity counts
+abbrev pub named : Edit → Edit
+named e =
+    record {
+      kind = createKind;
+      site = e .tsite;
+      seq = e .tseq;
+      vector = [];
+      tsite = record { 0 = 0 };
+      key = 0;
+      tseq = record { 0 = 0 };
+      value = 0;
+    }
+
+-- 6 and 7, with the edits themselves for the counters and the definition of the groups for the row
+unfoldable pub fullOver : List Edit → Edit → Bool
+fullOver es e =
+    leb mostRecords (length es)
+    || isCreate e && leb mostObjects (length (creates es))
+    || isSet e && leb mostSets (length (setsOn (e .tsite) (e .tseq) es))
+
+unfoldable pub crowdedOver : List Edit → Edit → Bool
+crowdedOver es e = isSet e && ltb mostGroups (length (trueGroups (es ++ (e ∷ [])) (named e)))
+
+-- 1 to 7 in turn, for an edit that came in a record of the right length
+abbrev pub listReasons : ℕ → List Edit → Edit → List Bool
+listReasons n es e =
+    unfit n e
+    ∷ isRepeated es e
+    ∷ isEarly es e
+    ∷ isTorn es e
+    ∷ isAstray es e
+    ∷ fullOver es e
+    ∷ crowdedOver es e
+    ∷ []
+
+unfoldable pub listAnswer : ℕ → List Edit → Edit → ℕ
+listAnswer n es e = firstOf 1 (listReasons n es e)
+
+-- each edit is answered 0 over those before it
+abbrev pub AllAccepted : ℕ → List Edit → Type 0
+AllAccepted n es = (xs ys : List Edit) (e : Edit) → es ≡ xs ++ (e ∷ ys) → listAnswer n xs e ≡ 0
+
+-- ---- what the order has to keep
+
+-- a may stand before b: b is none that a's author had applied
+abbrev pub MayPrecede : Edit → Edit → Type 0
+MayPrecede a b = comesBefore b a ≡ false
+
+-- no edit stands after one that had seen it
+abbrev pub Causal : List Edit → Type 0
+Causal es = Asc MayPrecede es
+
+-- ---- what has no order in it
+
+abbrev pub Differ : Edit → Edit → Type 0
+Differ a b = sameEdit (a .site) (a .seq) (b .site) (b .seq) ≡ false
+
+-- no identity stands twice
+abbrev pub Apart : List Edit → Type 0
+Apart es = Asc Differ es
+
+pub record Settled (n : ℕ) (es : List Edit) : Type 0 where
+  pub fit : (e : Edit) → Mem e es → unfit n e ≡ false
+  pub apart : Apart es
+  -- every edit that one has seen is there, so that a site's sequence numbers are 1, 2, .. up to its count
+  pub closed :
+      (e : Edit) → Mem e es → (s q : ℕ) → s < mostSites → 0 < q → q ≤ getD (e .vector) s 0 →
+      (a : Edit) × Mem a es × (a .site .0 ≡ s) × (a .seq .0 ≡ q)
+  -- no vector is torn
+  pub whole : (a e : Edit) → Mem a es → Mem e es → tears e a ≡ false
+  -- a Set has seen its Create
+  pub aimed : (e : Edit) → Mem e es → isSet e ≡ true → (c : Edit) × Mem c es × (isTarget e c ≡ true)
+  pub few-records : length es ≤ mostRecords
+  pub few-objects : length (creates es) ≤ mostObjects
+  pub few-sets : (c : Edit) → Mem c es → isCreate c ≡ true → length (setsOn (c .site) (c .seq) es) ≤ mostSets
+  pub few-groups : (c : Edit) → Mem c es → isCreate c ≡ true → length (trueGroups es c) ≤ mostGroups

@@ -1,0 +1,3 @@
+pub mod ListOverEdits
+pub mod OtherBoxes
+pub mod WorkedCases

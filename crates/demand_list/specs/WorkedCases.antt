@@ -1,0 +1,158 @@
+-- P1 to P12 of document 01's 'Cases to both sides' as one list, each with what the paper says of it: the answer to the
+-- last record, or the whole printed list. N = 3; one object, 0.1; the records are those of the edits. Assumes nothing.
+use mathlib.Core.Path.{_≡_}
+use mathlib.Core.List.{List, [], _∷_, map, flatMap}
+use Prim.Native.Nat.{ℕ, _+_}
+use Prim.Native.Char.{code}
+use Prim.Native.String.{String, [] as end, _∷_ as _then_}
+use lib.ListN.{length}
+use Rattle.edit_record.specs.declared.Edit.{Edit}
+use Rattle.edit_record.specs.Layout.{createKind, setKind}
+use Rattle.edit_record.specs.RecordBytes.{encodeOf}
+use Rattle.table_replay.specs.Replay.{Replayed, replayOf}
+use Rattle.list_lines.specs.List.{linesOf}
+
+-- ---- what a case is
+
+-- the answer to the last record, all before it being accepted; or all are, and these lines are printed
+pub data Expected : Type 0 where
+  refused : ℕ → Expected
+  prints : List String → Expected
+
+pub record Case : Type 0 where
+  pub arrivals : List Edit
+  pub expected : Expected
+
+-- a text as its bytes
+unfoldable pub bytesOf : String → List ℕ
+bytesOf end = []
+bytesOf (c then s) = code c ∷ bytesOf s
+
+abbrev pub sites : ℕ
+sites = 3
+
+-- the records, one after another
+abbrev pub recordBytes : List Edit → List ℕ
+recordBytes es = flatMap encodeOf es
+
+abbrev pub Meets : Replayed → ℕ → Expected → Type 0
+Meets r n (refused a) = (r .answer ≡ a) × (r .index + 1 ≡ n)
+Meets r n (prints ls) = (r .answer ≡ 0) × (linesOf (r .after) ≡ map bytesOf ls)
+
+-- the records taken from an empty drawing are answered and printed as expected
+abbrev pub Holds : Case → Type 0
+Holds c =
+    let n = length (c .arrivals) in
+    Meets (replayOf sites (recordBytes (c .arrivals)) n) n (c .expected)
+
+abbrev pub AllHold : List Case → Type 0
+AllHold [] = Unit {0}
+AllHold (c ∷ cs) = Holds c × AllHold cs
+
+-- ---- the edits
+
+abbrev pub vector : ℕ → ℕ → ℕ → List ℕ
+vector a b c = a ∷ b ∷ c ∷ 0 ∷ 0 ∷ 0 ∷ 0 ∷ 0 ∷ []
+
+-- the Create 0.1
+abbrev pub box : Edit
+box =
+    record {
+      kind = createKind;
+      site = record { 0 = 0 };
+      seq = record { 0 = 1 };
+      vector = vector 1 0 0;
+      tsite = record { 0 = 0 };
+      key = 0;
+      tseq = record { 0 = 0 };
+      value = 0;
+    }
+
+-- the Set s.q with the vector v, which gives 0.1 the value w for the key k
+abbrev pub puts : ℕ → ℕ → List ℕ → ℕ → ℕ → Edit
+puts s q v k w =
+    record {
+      kind = setKind;
+      site = record { 0 = s };
+      seq = record { 0 = q };
+      vector = v;
+      tsite = record { 0 = 0 };
+      key = k;
+      tseq = record { 0 = 1 };
+      value = w;
+    }
+
+-- the box, then Sets
+abbrev pub case : List Edit → Expected → Case
+case es x = record { arrivals = box ∷ es; expected = x }
+
+-- 1.1 and 2.1, both having seen only 0.1
+abbrev pub one40 : Edit
+one40 = puts 1 1 (vector 1 1 0) 2 40
+
+abbrev pub two40 : Edit
+two40 = puts 2 1 (vector 1 0 1) 2 40
+
+abbrev pub two44 : Edit
+two44 = puts 2 1 (vector 1 0 1) 2 44
+
+-- 2.1 having seen 1.1; 0.2 having seen neither, and both
+abbrev pub later44 : Edit
+later44 = puts 2 1 (vector 1 1 1) 2 44
+
+abbrev pub alone9 : Edit
+alone9 = puts 0 2 (vector 2 0 0) 2 9
+
+abbrev pub last9 : Edit
+last9 = puts 0 2 (vector 2 1 1) 2 9
+
+-- ---- the cases
+
+abbrev pub single : String
+single = "sites 3 objects 1 versions 1\n"
+
+abbrev pub double : String
+double = "sites 3 objects 1 versions 2\n"
+
+abbrev pub seventh : Expected
+seventh = prints (double ∷ "0.1 0.2 2=9\n" ∷ "0.1 1.1+2.1 2=40\n" ∷ [])
+
+unfoldable pub cases : List Case
+cases =
+    -- P1 to P6
+    case [] (prints (single ∷ "0.1 -\n" ∷ []))
+    ∷ case (one40 ∷ []) (prints (single ∷ "0.1 - 2=40\n" ∷ []))
+    ∷ case (one40 ∷ two44 ∷ []) (prints (double ∷ "0.1 1.1 2=40\n" ∷ "0.1 2.1 2=44\n" ∷ []))
+    ∷ case (one40 ∷ two40 ∷ []) (prints (single ∷ "0.1 - 2=40\n" ∷ []))
+    ∷ case (one40 ∷ puts 2 1 (vector 1 0 1) 3 44 ∷ []) (prints (single ∷ "0.1 - 2=40 3=44\n" ∷ []))
+    ∷ case (one40 ∷ later44 ∷ []) (prints (single ∷ "0.1 - 2=44\n" ∷ []))
+    -- P7 in all six orders
+    ∷ case (alone9 ∷ one40 ∷ two40 ∷ []) seventh
+    ∷ case (alone9 ∷ two40 ∷ one40 ∷ []) seventh
+    ∷ case (one40 ∷ alone9 ∷ two40 ∷ []) seventh
+    ∷ case (one40 ∷ two40 ∷ alone9 ∷ []) seventh
+    ∷ case (two40 ∷ alone9 ∷ one40 ∷ []) seventh
+    ∷ case (two40 ∷ one40 ∷ alone9 ∷ []) seventh
+    -- P8 and P9
+    ∷ case (one40 ∷ two44 ∷ last9 ∷ []) (prints (double ∷ "0.1 1.1 2=9\n" ∷ "0.1 2.1 2=9\n" ∷ []))
+    ∷ case
+    (puts 1 1 (vector 1 1 0) 1 10
+    ∷ puts 2 1 (vector 1 0 1) 1 20
+    ∷ puts 1 2 (vector 1 2 0) 2 30
+    ∷ puts 2 2 (vector 1 0 2) 2 40
+    ∷ [])
+    (prints
+    ("sites 3 objects 1 versions 4\n"
+    ∷ "0.1 1.1+1.2 1=10 2=30\n"
+    ∷ "0.1 1.1+2.2 1=10 2=40\n"
+    ∷ "0.1 1.2+2.1 1=20 2=30\n"
+    ∷ "0.1 2.1+2.2 1=20 2=40\n"
+    ∷ []))
+    -- P10 to P12
+    ∷ case (later44 ∷ []) (refused 3)
+    ∷ case (one40 ∷ puts 2 1 (vector 0 1 1) 2 44 ∷ []) (refused 4)
+    ∷ case (puts 1 1 (vector 0 1 0) 2 40 ∷ []) (refused 5)
+    -- the example of 'The printed list'
+    ∷ case (one40 ∷ two44 ∷ puts 0 2 (vector 2 0 0) 5 7 ∷ [])
+    (prints (double ∷ "0.1 1.1 2=40 5=7\n" ∷ "0.1 2.1 2=44 5=7\n" ∷ []))
+    ∷ []

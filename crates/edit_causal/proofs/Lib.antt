@@ -1,0 +1,3 @@
+pub mod CausalLaws
+pub mod VectorSums
+pub mod Identities

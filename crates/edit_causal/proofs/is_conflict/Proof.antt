@@ -1,0 +1,16 @@
+-- `edit_causal::is_conflict` meets its contract. Assumes nothing.
+use borrow.Author.Needs.{needs}
+use Rattle.edit_causal.proofs.is_conflict.Statement.{statement}
+use Rattle.edit_causal.proofs.is_conflict.Tie as tie
+
+is-concurrent-requires : tie.Need-is-concurrent-requires
+is-concurrent-requires c κs = search needs
+
+is-same-requires : tie.Need-is-same-requires
+is-same-requires c κs = search needs
+
+returns : tie.Need-returns
+returns c = cc
+
+pub is-conflict-spec : {M : Type 1} → statement M
+is-conflict-spec = tie.close (tie.spec is-concurrent-requires is-same-requires returns)

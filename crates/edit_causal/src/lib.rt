@@ -1,0 +1,65 @@
+// The causal tests of document 01: before, concurrent, conflict; and the sum by which the total order goes first. Each
+// answers what the definition says for every edit, well formed or not.
+use edit_record::Edit;
+use edit_record::SET;
+use edit_record::SITES;
+use edit_record::Seq;
+use edit_record::Site;
+ghost use mathlib.Core.Path.{_≡_};
+ghost use Rattle.edit_causal.specs.Causal.{sameEdit, hasSeen, comesBefore, areConcurrent};
+ghost use Rattle.edit_causal.specs.Conflict.{doConflict};
+ghost use Rattle.edit_causal.specs.TotalOrder.{vectorSum};
+
+// Whether s.q and t.p are one edit.
+pub fn is_same(s: Site, q: Seq, t: Site, p: Seq) -> bool
+    ensures { λ r. ⌜ r ≡ sameEdit s q t p ⌝ }
+{
+    (s.0 == t.0) & (q.0 == p.0)
+}
+
+// Whether the author of the vector v had applied the edit s.q.
+pub fn has_seen(v: [u16; SITES], s: Site, q: Seq) -> bool
+    ensures { λ r. ⌜ r ≡ hasSeen v s q ⌝ }
+{
+    q.0 <= edit_record::entry(v, s).0
+}
+
+// Whether a comes before b.
+pub fn is_before(a: Edit, b: Edit) -> bool
+    ensures { λ r. ⌜ r ≡ comesBefore a b ⌝ }
+{
+    let v = b.vector;
+    !is_same(a.site, a.seq, b.site, b.seq) & has_seen(v, a.site, a.seq)
+}
+
+// Whether a and b differ and neither comes before the other.
+pub fn is_concurrent(a: Edit, b: Edit) -> bool
+    ensures { λ r. ⌜ r ≡ areConcurrent a b ⌝ }
+{
+    !is_same(a.site, a.seq, b.site, b.seq) & !is_before(a, b) & !is_before(b, a)
+}
+
+// Whether a and b are two Sets that conflict.
+pub fn is_conflict(a: Edit, b: Edit) -> bool
+    ensures { λ r. ⌜ r ≡ doConflict a b ⌝ }
+{
+    (a.kind == SET)
+        & (b.kind == SET)
+        & is_concurrent(a, b)
+        & is_same(a.tsite, a.tseq, b.tsite, b.tseq)
+        & (a.key == b.key)
+        & (a.value != b.value)
+}
+
+// The sum of a vector's entries. A sum of entries of two bytes does not wrap.
+pub fn vector_sum(v: [u16; SITES]) -> u32
+    ensures { λ r. ⌜ r ≡ vectorSum v ⌝ }
+{
+    let mut total: u32 = 0;
+    let mut i: usize = 0;
+    while i < SITES {
+        total += v[i] as u32;
+        i += 1;
+    }
+    total
+}

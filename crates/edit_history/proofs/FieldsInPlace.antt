@@ -1,0 +1,47 @@
+-- The fields of a record, as the bytes where they stand in the table. Assumes nothing.
+use mathlib.Core.Path.{_≡_, refl, ap, _∙_}
+use mathlib.Core.List.{List}
+use Prim.Native.Nat.{ℕ, zero, suc, _+_, _*_, _<_}
+use native.Mathlib.Omega.{arith}
+use lib.ListN.{getD, drop}
+use lib.Seq.{getD-drop}
+use Rattle.edit_record.specs.Layout.{mostSites, kindAt, siteAt, seqAt, vectorAt, targetAt, keyAt, targetSeqAt}
+use Rattle.edit_record.specs.Layout.{recordLength}
+use Rattle.edit_record.specs.RecordBytes.{two, counts}
+use Rattle.edit_record.proofs.NumbersInBytes.{two-drop}
+use Rattle.edit_history.specs.EditsHeld.{recordAt}
+
+counts-at : (n : ℕ) (s : List ℕ) (i : ℕ) → i < n → getD (counts n s) i 0 ≡ two s (2 * i)
+unfolding counts
+counts-at zero s i l = absurd (omega arith)
+counts-at (suc n) s zero l = refl
+counts-at (suc n) s (suc i) l =
+    counts-at n (drop 2 s) i (omega arith) ∙ two-drop 2 s (2 * i) ∙ ap (two s) (omega arith)
+
+pub kind-in-place : (rs : List ℕ) (p : ℕ) → recordAt rs p .kind ≡ getD rs (p * recordLength + kindAt) 0
+kind-in-place rs p = getD-drop (p * recordLength) rs kindAt 0
+
+pub site-in-place : (rs : List ℕ) (p : ℕ) → recordAt rs p .site .0 ≡ getD rs (p * recordLength + siteAt) 0
+site-in-place rs p = getD-drop (p * recordLength) rs siteAt 0
+
+pub seq-in-place : (rs : List ℕ) (p : ℕ) → recordAt rs p .seq .0 ≡ two rs (p * recordLength + seqAt)
+seq-in-place rs p = two-drop (p * recordLength) rs seqAt
+
+pub key-in-place : (rs : List ℕ) (p : ℕ) → recordAt rs p .key ≡ getD rs (p * recordLength + keyAt) 0
+key-in-place rs p = getD-drop (p * recordLength) rs keyAt 0
+
+pub target-in-place : (rs : List ℕ) (p : ℕ) → recordAt rs p .tsite .0 ≡ getD rs (p * recordLength + targetAt) 0
+target-in-place rs p = getD-drop (p * recordLength) rs targetAt 0
+
+pub target-seq-in-place :
+    (rs : List ℕ) (p : ℕ) → recordAt rs p .tseq .0 ≡ two rs (p * recordLength + targetSeqAt)
+target-seq-in-place rs p = two-drop (p * recordLength) rs targetSeqAt
+
+pub entry-in-place :
+    (rs : List ℕ) (p s : ℕ) → s < mostSites →
+    getD (recordAt rs p .vector) s 0 ≡ two rs (p * recordLength + vectorAt + 2 * s)
+entry-in-place rs p s l =
+    counts-at mostSites (drop vectorAt (drop (p * recordLength) rs)) s l
+    ∙ two-drop vectorAt (drop (p * recordLength) rs) (2 * s)
+    ∙ two-drop (p * recordLength) rs (vectorAt + 2 * s)
+    ∙ ap (two rs) (omega arith)

@@ -1,0 +1,66 @@
+-- The survey of the edits held, kept while they are read one after another: one edit more changes it as `surveyWith`
+-- says, and its counts have room. Assumes nothing.
+use mathlib.Core.Path.{_≡_, refl}
+use mathlib.Core.Bool.{Bool, true, false, _||_, cond}
+use mathlib.Core.List.{List, [], _∷_, _++_}
+use Prim.Native.Nat.{ℕ, suc, _+_, _≤_, _<_}
+use native.Mathlib.Omega.{arith}
+use lib.ListN.{length}
+use Rattle.math_lists.proofs.Booleans.{clash}
+use Rattle.math_lists.proofs.GrownAtEnd.{any-snoc, filter-length-snoc}
+use Rattle.edit_record.specs.declared.Edit.{Edit}
+use Rattle.edit_history.specs.EditsHeld.{mostRecords, recordAt, editsOf, isSetOn, setsOn, isTarget}
+use Rattle.edit_history.specs.Answers2to5.{tears, isTorn}
+use Rattle.edit_history.specs.SurveyForms.{markBits, surveyOf, surveyWith, Room}
+use Rattle.edit_history.proofs.EditsHeld.{chosen-grow, object-snoc, object-few}
+use Rattle.edit_history.proofs.ConflictMarks.{set-marks, conflicts-below}
+
+-- ---- one edit more
+
+torn-snoc : (es : List Edit) (e a : Edit) → isTorn (es ++ (a ∷ [])) e ≡ (isTorn es e || tears e a)
+unfolding isTorn
+torn-snoc es e a = any-snoc (tears e) es a
+
+sets-snoc :
+    (es : List Edit) (e a : Edit) →
+    length (setsOn (e .tsite) (e .tseq) (es ++ (a ∷ [])))
+    ≡ length (setsOn (e .tsite) (e .tseq) es) + cond (isSetOn (e .tsite) (e .tseq) a) 1 0
+unfolding setsOn
+sets-snoc es e a = filter-length-snoc (isSetOn (e .tsite) (e .tseq)) es a
+
+pub survey-snoc : (es : List Edit) (e a : Edit) → surveyOf (es ++ (a ∷ [])) e ≡ surveyWith (surveyOf es e) a e
+unfolding surveyOf
+survey-snoc es e a =
+    rw (
+      torn-snoc es e a,
+      any-snoc (isTarget e) es a,
+      object-snoc e es a,
+      sets-snoc es e a,
+      set-marks e (e .tsite) (e .tseq) es a,
+    )
+
+pub survey-more :
+    (rs : List ℕ) (i : ℕ) (e : Edit) →
+    surveyOf (editsOf rs (suc i)) e ≡ surveyWith (surveyOf (editsOf rs i) e) (recordAt rs i) e
+unfolding editsOf
+survey-more rs i e = survey-snoc (editsOf rs i) e (recordAt rs i)
+
+-- ---- the counts have room
+
+pub room-for-one : (k m : ℕ) (b : Bool) → k + cond b 1 0 ≤ m → b ≡ true → k < m
+room-for-one k m true l h = omega arith
+room-for-one k m false l h = clash h refl
+
+pub survey-room :
+    (rs : List ℕ) (i n : ℕ) (e : Edit) → i < n → n ≤ mostRecords →
+    length (setsOn (e .tsite) (e .tseq) (editsOf rs n)) ≤ markBits →
+    Room (surveyOf (editsOf rs i) e) (recordAt rs i) e
+unfolding surveyOf setsOn editsOf
+survey-room rs i n e l m h =
+    record {
+      object = omega (arith, object-few e rs i);
+      sets =
+          rw (← (sets-snoc (editsOf rs i) e (recordAt rs i)))
+          (omega (arith, chosen-grow (isSetOn (e .tsite) (e .tseq)) rs (suc i) n l));
+      conflicts = conflicts-below e (setsOn (e .tsite) (e .tseq) (editsOf rs i));
+    }

@@ -1,0 +1,13 @@
+-- `edit_history::is_set_on` meets its contract. Assumes nothing.
+use borrow.Author.Needs.{needs}
+use Rattle.edit_history.proofs.is_set_on.Statement.{statement}
+use Rattle.edit_history.proofs.is_set_on.Tie as tie
+
+is-same-requires : tie.Need-is-same-requires
+is-same-requires c κs = search needs
+
+returns : tie.Need-returns
+returns c = cc
+
+pub is-set-on-spec : {M : Type 1} → statement M
+is-set-on-spec = tie.close (tie.spec is-same-requires returns)

@@ -1,0 +1,3 @@
+pub mod EditsHeld
+pub mod Answers2to5
+pub mod SurveyForms

@@ -1,0 +1,193 @@
+// The edits held, in the order of arrival: answers 2 to 5 of document 01 against them, and what an arriving edit asks
+// of them.
+use edit_causal::has_seen;
+use edit_causal::is_conflict;
+use edit_causal::is_same;
+use edit_record::AT_KIND;
+use edit_record::CREATE;
+use edit_record::Edit;
+use edit_record::RECORD;
+use edit_record::SET;
+use edit_record::SITES;
+use edit_record::Seq;
+use edit_record::Site;
+ghost use mathlib.Core.Path.{_≡_};
+ghost use mathlib.Core.Bool.{true, cond};
+ghost use Prim.Native.Nat.{_+_, _^_, _≤_, _<_};
+ghost use lib.ListN.{length, getD};
+ghost use Rattle.edit_record.specs.Layout.{twoBytes};
+ghost use Rattle.edit_history.specs.EditsHeld.{mostRecords, recordAt, editsOf, isSetOn, setsOn, isTarget};
+ghost use Rattle.edit_history.specs.Answers2to5.{largerSomewhere, tears};
+ghost use Rattle.edit_history.specs.SurveyForms.{bump, aheadElsewhere, repeatedAgainst, earlyAgainst};
+ghost use Rattle.edit_history.specs.SurveyForms.{markBits, surveyOf, surveyWith, Room};
+
+// The records held, Creates included, are at most so many.
+pub const RECORDS: usize = 256;
+
+// What an arriving edit asks of the edits held: whether 4 applies, whether its target is held, the number of its
+// object, how many Sets that has, and which of them conflict with it, bit i for the i-th.
+pub struct Surveyed {
+    pub torn: bool,
+    pub found: bool,
+    pub object: usize,
+    pub sets: usize,
+    pub conflicts: u64,
+}
+
+// The edit in place p of a table of records; a place past the end holds zeros.
+pub fn decode_at(recs: &[u8], p: usize) -> Edit
+    requires { ⌜ p < twoBytes ⌝ }
+    ensures { λ r. ⌜ r ≡ recordAt (now (recs .entry)) p ⌝ }
+{
+    let at = p * RECORD;
+    if at <= recs.len() {
+        edit_record::decode(&recs[at..])
+    } else {
+        edit_record::decode(&recs[..0])
+    }
+}
+
+// The kind of the edit in place p, read where it stands.
+pub fn kind_at(recs: &[u8], p: usize) -> u8
+    requires { ⌜ p < twoBytes ⌝ }
+    ensures { λ r. ⌜ r ≡ recordAt (now (recs .entry)) p .kind ⌝ }
+{
+    edit_record::byte_at(recs, p * RECORD + AT_KIND)
+}
+
+// The counts with one edit more of the site s.
+pub fn bumped(v: [u16; SITES], s: Site) -> [u16; SITES]
+    requires { ⌜ getD v (s .0) 0 < mostRecords ⌝ }
+    ensures { λ r. ⌜ r ≡ bump v s ⌝ }
+{
+    let mut w = v;
+    let i = s.0 as usize;
+    if i < SITES {
+        w[i] = w[i] + 1;
+    }
+    w
+}
+
+// Whether answer 2 is given to the edit, where so many edits of each site are held.
+pub fn is_repeated(held: [u16; SITES], e: Edit) -> bool
+    ensures { λ r. ⌜ r ≡ repeatedAgainst held e ⌝ }
+{
+    e.seq.0 <= edit_record::entry(held, e.site).0
+}
+
+// Whether an entry of v other than the site's own is above that of held.
+fn is_ahead_elsewhere(held: [u16; SITES], v: [u16; SITES], s: Site) -> bool
+    ensures { λ r. ⌜ r ≡ aheadElsewhere held v s ⌝ }
+{
+    let own = s.0 as usize;
+    let mut found = false;
+    let mut t: usize = 0;
+    while t < SITES {
+        found = found | ((t != own) & (held[t] < v[t]));
+        t += 1;
+    }
+    found
+}
+
+// Whether answer 3 is given to the edit, where so many edits of each site are held.
+pub fn is_early(held: [u16; SITES], e: Edit) -> bool
+    ensures { λ r. ⌜ r ≡ earlyAgainst held e ⌝ }
+{
+    let v = e.vector;
+    let own = edit_record::entry(held, e.site);
+    (own.0 as u32 + 1 < e.seq.0 as u32) | is_ahead_elsewhere(held, v, e.site)
+}
+
+// Whether an entry of v is larger than w's.
+pub fn is_larger_somewhere(v: [u16; SITES], w: [u16; SITES]) -> bool
+    ensures { λ r. ⌜ r ≡ largerSomewhere v w ⌝ }
+{
+    let mut found = false;
+    let mut s: usize = 0;
+    while s < SITES {
+        found = found | (w[s] < v[s]);
+        s += 1;
+    }
+    found
+}
+
+// Whether e has seen a, whose vector has a larger entry somewhere.
+fn is_torn_by(e: Edit, a: Edit) -> bool
+    ensures { λ r. ⌜ r ≡ tears e a ⌝ }
+{
+    let v = a.vector;
+    let w = e.vector;
+    has_seen(w, a.site, a.seq) & is_larger_somewhere(v, w)
+}
+
+// Whether a is the Create that e targets, and e has seen it.
+fn is_target(e: Edit, a: Edit) -> bool
+    ensures { λ r. ⌜ r ≡ isTarget e a ⌝ }
+{
+    let w = e.vector;
+    (a.kind == CREATE) & is_same(a.site, a.seq, e.tsite, e.tseq) & has_seen(w, a.site, a.seq)
+}
+
+// Whether e is a Set on the Create s.q.
+fn is_set_on(s: Site, q: Seq, e: Edit) -> bool
+    ensures { λ r. ⌜ r ≡ isSetOn s q e ⌝ }
+{
+    (e.kind == SET) & is_same(e.tsite, e.tseq, s, q)
+}
+
+// 1 where b holds, else 0.
+fn one_if(b: bool) -> usize
+    ensures { λ r. ⌜ (r ≡ cond b 1 0) × (r ≤ 1) ⌝ }
+{
+    if b { 1 } else { 0 }
+}
+
+// The marks m with bit k, if b holds.
+pub fn marked_if(b: bool, m: u64, k: usize) -> u64
+    requires { ⌜ (m < 2 ^ k) × (b ≡ true → k < markBits) ⌝ }
+    ensures { λ r. ⌜ r ≡ m + cond b (2 ^ k) 0 ⌝ }
+{
+    if b { m + (1 << k) } else { m }
+}
+
+// The survey with one edit more, a, of those that e asks of.
+fn survey_with(v: Surveyed, a: Edit, e: Edit) -> Surveyed
+    requires { ⌜ Room v a e ⌝ }
+    ensures { λ r. ⌜ r ≡ surveyWith v a e ⌝ }
+{
+    let torn = v.torn | is_torn_by(e, a);
+    let found = v.found | is_target(e, a);
+    let set = is_set_on(e.tsite, e.tseq, a);
+    let object = v.object + one_if((a.kind == CREATE) & !found);
+    let sets = v.sets + one_if(set);
+    let conflicts = marked_if(set & is_conflict(a, e), v.conflicts, v.sets);
+    Surveyed {
+        torn,
+        found,
+        object,
+        sets,
+        conflicts,
+    }
+}
+
+// The survey of the first n records for the edit e, whose object has at most as many Sets as a number has bits.
+pub fn survey(recs: &[u8], n: usize, e: Edit) -> Surveyed
+    requires { ⌜ (n ≤ mostRecords) × (length (setsOn (e .tsite) (e .tseq) (editsOf (now recs) n)) ≤ markBits) ⌝ }
+    ensures { λ r. ⌜ r ≡ surveyOf (editsOf (now (recs .entry)) n) e ⌝ }
+{
+    let mut v = Surveyed {
+        torn: false,
+        found: false,
+        object: 0,
+        sets: 0,
+        conflicts: 0,
+    };
+    let mut i: usize = 0;
+    while i < n {
+        let a = decode_at(recs, i);
+        let next = survey_with(v, a, e);
+        v = next;
+        i += 1;
+    }
+    v
+}

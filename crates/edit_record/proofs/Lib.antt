@@ -1,0 +1,6 @@
+pub mod NumbersInBytes
+pub mod PaddedBytes
+pub mod EntriesPastSites
+pub mod RoundTrip
+pub mod WellFormed
+pub mod AgreeingBytes

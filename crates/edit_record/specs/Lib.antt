@@ -1,0 +1,3 @@
+pub mod Layout
+pub mod RecordBytes
+pub mod Answer1

@@ -1,0 +1,50 @@
+-- The 28 bytes of an edit record, little-endian, as an edit and back. A byte past the end counts as 0. Assumes nothing.
+use Prim.Native.Nat.{ℕ, zero, suc, _+_, _*_, _/_, _%_}
+use mathlib.Core.List.{List, [], _∷_, _++_}
+use lib.ListN.{getD, drop}
+use Rattle.edit_record.specs.declared.Edit.{Edit}
+use Rattle.edit_record.specs.Layout.{mostSites, kindAt, siteAt, seqAt, vectorAt, targetAt, keyAt, targetSeqAt}
+use Rattle.edit_record.specs.Layout.{valueAt}
+
+-- ---- numbers in bytes
+
+-- the number in two bytes from i on, and in four
+abbrev pub two : List ℕ → ℕ → ℕ
+two s i = getD s i 0 + getD s (i + 1) 0 * 256
+
+abbrev pub four : List ℕ → ℕ → ℕ
+four s i = two s i + two s (i + 2) * 65536
+
+-- the first n numbers of two bytes
+unfoldable pub counts : ℕ → List ℕ → List ℕ
+counts zero s = []
+counts (suc n) s = two s 0 ∷ counts n (drop 2 s)
+
+-- the two bytes of each number
+unfoldable pub countBytes : List ℕ → List ℕ
+countBytes [] = []
+countBytes (n ∷ ns) = n % 256 ∷ n / 256 % 256 ∷ countBytes ns
+
+-- ---- the record
+
+abbrev pub decodeOf : List ℕ → Edit
+decodeOf s =
+    record {
+      kind = getD s kindAt 0;
+      site = record { 0 = getD s siteAt 0 };
+      seq = record { 0 = two s seqAt };
+      vector = counts mostSites (drop vectorAt s);
+      tsite = record { 0 = getD s targetAt 0 };
+      key = getD s keyAt 0;
+      tseq = record { 0 = two s targetSeqAt };
+      value = four s valueAt;
+    }
+
+abbrev pub encodeOf : Edit → List ℕ
+encodeOf e =
+    (e .kind ∷ e .site .0 ∷ countBytes (e .seq .0 ∷ e .vector))
+    ++ (e .tsite .0 ∷ e .key ∷ countBytes (e .tseq .0 ∷ e .value % 65536 ∷ e .value / 65536 ∷ []))
+
+-- stands for an edit past the end of a list: it has zeros alone
+abbrev pub noEdit : Edit
+noEdit = decodeOf []

@@ -1,0 +1,236 @@
+// The edit record of document 01: sites and sequence numbers, 28 bytes to an edit and back, and answer 1.
+ghost use mathlib.Core.Path.{_≡_};
+ghost use Prim.Native.Nat.{ℕ, _+_, _*_, _≤_, _<_, _^_};
+ghost use lib.ListN.{length, getD, drop};
+ghost use Rattle.edit_record.specs.Layout.{mostSites, vectorAt, recordLength};
+ghost use Rattle.edit_record.specs.RecordBytes.{two, counts, decodeOf, encodeOf};
+ghost use Rattle.edit_record.specs.Answer1.{entryOf, nonzeroPast, lastEightZero, unfit, malformed};
+
+// The sites that a drawing has at most: the entries of a vector.
+pub const SITES: usize = 8;
+
+// The attribute keys are the numbers below this one.
+pub const KEYS: u8 = 16;
+
+pub const CREATE: u8 = 1;
+
+pub const SET: u8 = 2;
+
+// Where each field of a record starts.
+pub const AT_KIND: usize = 0;
+
+pub const AT_SITE: usize = 1;
+
+pub const AT_SEQ: usize = 2;
+
+pub const AT_VECTOR: usize = 4;
+
+pub const AT_TARGET: usize = AT_VECTOR + 2 * SITES;
+
+pub const AT_KEY: usize = AT_TARGET + 1;
+
+pub const AT_TARGET_SEQ: usize = AT_TARGET + 2;
+
+const AT_VALUE: usize = AT_TARGET + 4;
+
+// The bytes of a record.
+pub const RECORD: usize = AT_VALUE + 4;
+
+// The number of a laptop. It is never taken for a sequence number.
+pub struct Site(pub u8);
+
+// The number of an edit among those of its site, from 1 on; in a vector, how many of them were applied.
+pub struct Seq(pub u16);
+
+// An edit, field by field in the record's order; `tsite` and `tseq` name the target.
+pub struct Edit {
+    pub kind: u8,
+    pub site: Site,
+    pub seq: Seq,
+    pub vector: [u16; SITES],
+    pub tsite: Site,
+    pub key: u8,
+    pub tseq: Seq,
+    pub value: u32,
+}
+
+// The byte at i, and 0 past the end.
+pub fn byte_at(s: &[u8], i: usize) -> u8
+    ensures { λ r. ⌜ r ≡ getD (now (s .entry)) i 0 ⌝ }
+{
+    if i < s.len() { s[i] } else { 0 }
+}
+
+// The number in the two bytes from i on.
+pub fn two_at(s: &[u8], i: usize) -> u16
+    requires { ⌜ i < 2 ^ 48 ⌝ }
+    ensures { λ r. ⌜ r ≡ two (now (s .entry)) i ⌝ }
+{
+    byte_at(s, i) as u16 + byte_at(s, i + 1) as u16 * 256
+}
+
+// The number in two bytes.
+fn both(low: u8, high: u8) -> u16
+    ensures { λ r. ⌜ r ≡ low + high * 256 ⌝ }
+{
+    low as u16 + high as u16 * 256
+}
+
+// The number in the two bytes from i on, which are both there.
+pub fn pair_at(s: &[u8], i: usize) -> u16
+    requires { ⌜ i + 1 < length (now s) ⌝ }
+    ensures { λ r. ⌜ r ≡ two (now (s .entry)) i ⌝ }
+{
+    both(s[i], s[i + 1])
+}
+
+// The vector of a record that is there whole.
+fn vector_of(rec: &[u8]) -> [u16; SITES]
+    requires { ⌜ recordLength ≤ length (now rec) ⌝ }
+    ensures { λ r. ⌜ r ≡ counts mostSites (drop vectorAt (now (rec .entry))) ⌝ }
+{
+    let mut v = [0u16; SITES];
+    let mut i: usize = 0;
+    while i < SITES {
+        v[i] = pair_at(rec, AT_VECTOR + 2 * i);
+        i += 1;
+    }
+    v
+}
+
+// The edit in the first bytes of rec, where a record is there whole.
+fn decode_whole(rec: &[u8]) -> Edit
+    requires { ⌜ recordLength ≤ length (now rec) ⌝ }
+    ensures { λ r. ⌜ r ≡ decodeOf (now (rec .entry)) ⌝ }
+{
+    let low = pair_at(rec, AT_VALUE);
+    let high = pair_at(rec, AT_VALUE + 2);
+    Edit {
+        kind: rec[AT_KIND],
+        site: Site(rec[AT_SITE]),
+        seq: Seq(pair_at(rec, AT_SEQ)),
+        vector: vector_of(rec),
+        tsite: Site(rec[AT_TARGET]),
+        key: rec[AT_KEY],
+        tseq: Seq(pair_at(rec, AT_TARGET_SEQ)),
+        value: low as u32 + high as u32 * 65536,
+    }
+}
+
+// The bytes of a record that is not there whole, with zeros after them.
+fn padded(rec: &[u8]) -> [u8; RECORD]
+    requires { ⌜ length (now rec) ≤ recordLength ⌝ }
+    ensures { λ r. ⌜ ((i : ℕ) → getD r i 0 ≡ getD (now (rec .entry)) i 0) ⌝ }
+{
+    let mut whole = [0u8; RECORD];
+    let mut i: usize = 0;
+    while i < rec.len() {
+        whole[i] = rec[i];
+        i += 1;
+    }
+    whole
+}
+
+// The edit in the first bytes of rec; a byte past the end counts as 0. The bound is tested once, not for each byte.
+pub fn decode(rec: &[u8]) -> Edit
+    ensures { λ r. ⌜ r ≡ decodeOf (now (rec .entry)) ⌝ }
+{
+    if RECORD <= rec.len() {
+        return decode_whole(rec);
+    }
+    let whole = padded(rec);
+    decode_whole(&whole)
+}
+
+// The bytes of an edit.
+pub fn encode(e: Edit) -> [u8; RECORD]
+    ensures { λ r. ⌜ r ≡ encodeOf e ⌝ }
+{
+    let v = e.vector;
+    let low = e.value % 65536;
+    let high = e.value / 65536;
+    [
+        e.kind,
+        e.site.0,
+        (e.seq.0 % 256) as u8,
+        (e.seq.0 / 256 % 256) as u8,
+        (v[0] % 256) as u8,
+        (v[0] / 256 % 256) as u8,
+        (v[1] % 256) as u8,
+        (v[1] / 256 % 256) as u8,
+        (v[2] % 256) as u8,
+        (v[2] / 256 % 256) as u8,
+        (v[3] % 256) as u8,
+        (v[3] / 256 % 256) as u8,
+        (v[4] % 256) as u8,
+        (v[4] / 256 % 256) as u8,
+        (v[5] % 256) as u8,
+        (v[5] / 256 % 256) as u8,
+        (v[6] % 256) as u8,
+        (v[6] / 256 % 256) as u8,
+        (v[7] % 256) as u8,
+        (v[7] / 256 % 256) as u8,
+        e.tsite.0,
+        e.key,
+        (e.tseq.0 % 256) as u8,
+        (e.tseq.0 / 256 % 256) as u8,
+        (low % 256) as u8,
+        (low / 256 % 256) as u8,
+        (high % 256) as u8,
+        (high / 256 % 256) as u8,
+    ]
+}
+
+// The count of a site in a vector, and 0 for a site that has no entry.
+pub fn entry(v: [u16; SITES], s: Site) -> Seq
+    ensures { λ r. ⌜ r ≡ entryOf v s ⌝ }
+{
+    let i = s.0 as usize;
+    if i < SITES { Seq(v[i]) } else { Seq(0) }
+}
+
+// Whether an entry is nonzero at or past n.
+fn is_nonzero_past(n: u8, v: [u16; SITES]) -> bool
+    ensures { λ r. ⌜ r ≡ nonzeroPast n v ⌝ }
+{
+    let mut found = false;
+    let mut i = n as usize;
+    while i < SITES {
+        found = found | (v[i] != 0);
+        i += 1;
+    }
+    found
+}
+
+// Whether the last eight bytes of the edit's record are zero.
+fn is_last_eight_zero(e: Edit) -> bool
+    ensures { λ r. ⌜ r ≡ lastEightZero e ⌝ }
+{
+    (e.tsite.0 == 0) & (e.key == 0) & (e.tseq.0 == 0) & (e.value == 0)
+}
+
+// Whether answer 1 is given to an edit of the right length, in a drawing of n sites.
+pub fn is_unfit(n: u8, e: Edit) -> bool
+    ensures { λ r. ⌜ r ≡ unfit n e ⌝ }
+{
+    let v = e.vector;
+    let own = entry(v, e.site);
+    let past = is_nonzero_past(n, v);
+    let zero = is_last_eight_zero(e);
+    ((e.kind != CREATE) & (e.kind != SET))
+        | (n <= e.site.0)
+        | past
+        | (e.seq.0 == 0)
+        | (e.seq.0 != own.0)
+        | (KEYS <= e.key)
+        | ((e.kind == SET) & (e.tseq.0 == 0))
+        | ((e.kind == CREATE) & !zero)
+}
+
+// Whether answer 1 is given to these bytes, of any length, in a drawing of n sites.
+pub fn is_malformed(n: u8, rec: &[u8]) -> bool
+    ensures { λ r. ⌜ r ≡ malformed n (now (rec .entry)) ⌝ }
+{
+    let e = decode(rec);
+    (rec.len() != RECORD) | is_unfit(n, e)
+}

@@ -1,0 +1,2 @@
+pub mod LatestDecides
+pub mod WalkKeeps

@@ -1,0 +1,78 @@
+-- Forms that the code uses to test the records in one walk, by an index of the places of their edits. No one need
+-- believe them: `latest-decides` of proofs/LatestDecides.antt ties them to `Answers2to5`. Assumes nothing.
+use Prim.Native.Nat.{ℕ, _+_, _-_, _*_, _<_}
+use mathlib.Core.Path.{_≡_}
+use mathlib.Core.List.{List}
+use mathlib.Core.Bool.{Bool, true, not, _&&_, _||_}
+use lib.ListN.{getD, set, length}
+use lib.Dec.{eqb, leb, ltb}
+use Rattle.math_lists.specs.NumbersBelow.{some}
+use Rattle.edit_record.specs.declared.Site.{Site}
+use Rattle.edit_record.specs.declared.Edit.{Edit}
+use Rattle.edit_record.specs.Layout.{mostSites}
+use Rattle.edit_record.specs.Answer1.{isCreate, isSet, entryOf, unfit}
+use Rattle.edit_walk.specs.declared.Walked.{Walked}
+use Rattle.edit_history.specs.EditsHeld.{mostRecords, recordAt, editsOf}
+use Rattle.edit_history.specs.Answers2to5.{largerSomewhere, recordsPass}
+use Rattle.edit_history.specs.SurveyForms.{Counted, repeatedAgainst, earlyAgainst}
+
+-- ---- the index
+
+-- the place of the edit s.q, in an index of so many entries
+abbrev pub placesLength : ℕ
+placesLength = mostSites * mostRecords + 1
+
+abbrev pub placeOf : List ℕ → ℕ → ℕ → ℕ
+placeOf ps s q = getD ps (s * mostRecords + q) 0
+
+-- the edits of the first n records have their places in it
+abbrev pub Indexed : List ℕ → ℕ → List ℕ → Type 0
+Indexed rs n ps = (p : ℕ) → p < n → placeOf ps (recordAt rs p .site .0) (recordAt rs p .seq .0) ≡ p
+
+-- ---- 4 and 5 by the index
+
+-- for each site the sequence number of the latest edit that an edit of site s with the vector v has seen, itself left
+-- out; 0 is none
+abbrev pub seenBefore : List ℕ → Site → List ℕ
+seenBefore v s = set v (s .0) (getD v (s .0) 0 - 1)
+
+unfoldable pub latestSeen : Edit → ℕ → ℕ
+latestSeen e s = getD (seenBefore (e .vector) (e .site)) s 0
+
+-- there is an edit s.q, and its vector has an entry larger than w's
+unfoldable pub tornBy : List ℕ → List ℕ → List ℕ → ℕ → ℕ → Bool
+tornBy rs ps w s q = not (eqb q 0) && largerSomewhere (recordAt rs (placeOf ps s q) .vector) w
+
+-- the latest edit of site s that e has seen is such
+abbrev pub tornAt : List ℕ → List ℕ → Edit → ℕ → Bool
+tornAt rs ps e s = tornBy rs ps (e .vector) s (latestSeen e s)
+
+unfoldable pub tornByLatest : List ℕ → List ℕ → Edit → Bool
+tornByLatest rs ps e = some mostSites (tornAt rs ps e)
+
+-- the target was seen, is held, and is a Create
+unfoldable pub targetHeld : List ℕ → List ℕ → List ℕ → Edit → Bool
+targetHeld counts rs ps e =
+    ltb 0 (e .tseq .0)
+    && leb (e .tseq .0) (entryOf (e .vector) (e .tsite) .0)
+    && leb (e .tseq .0) (entryOf counts (e .tsite) .0)
+    && isCreate (recordAt rs (placeOf ps (e .tsite .0) (e .tseq .0)))
+
+-- none of 1 to 5 applies
+unfoldable pub passesAgainst : ℕ → List ℕ → List ℕ → List ℕ → Edit → Bool
+passesAgainst sites counts rs ps e =
+    not
+    (unfit sites e
+    || repeatedAgainst counts e
+    || earlyAgainst counts e
+    || tornByLatest rs ps e
+    || isSet e && not (targetHeld counts rs ps e))
+
+-- ---- the walk over the first n records: whether they pass, and then the counts and the index that they give
+
+pub record WalkedOver (sites : ℕ) (rs : List ℕ) (n : ℕ) (w : Walked) (ps : List ℕ) : Type 0 where
+  pub ok : w .ok ≡ recordsPass sites rs n
+  pub wide : length (w .held) ≡ mostSites
+  pub entries : length ps ≡ placesLength
+  pub counted : w .ok ≡ true → Counted (w .held) (editsOf rs n)
+  pub indexed : w .ok ≡ true → Indexed rs n ps

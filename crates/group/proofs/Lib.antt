@@ -1,5 +1,0 @@
-pub mod Step
-pub mod Runs
-pub mod Put
-pub mod Through
-pub mod Rows

@@ -1,0 +1,5 @@
+pub mod CodeStep
+pub mod LoopRuns
+pub mod PutAmong
+pub mod LoopTurns
+pub mod RowAfterStep

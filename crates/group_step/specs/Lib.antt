@@ -1,0 +1,2 @@
+pub mod GroupRows
+pub mod StepForms

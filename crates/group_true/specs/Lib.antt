@@ -1,0 +1,2 @@
+pub mod TrueGroups
+pub mod Disputed

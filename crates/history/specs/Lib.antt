@@ -1,3 +1,0 @@
-pub mod History
-pub mod Answers
-pub mod Code

@@ -1,3 +1,0 @@
-pub mod Behind
-pub mod Joined
-pub mod OnePass

@@ -1,0 +1,138 @@
+// The line of a version. The Sets of the object are given by their tags and their stamps, in the order of arrival: bit
+// i of a group stands for the i-th Set.
+use edit_record::Edit;
+use edit_record::KEYS;
+use group_step::SETS;
+use list_text::DOTTED;
+use list_text::EQUATED;
+use list_text::MINUS;
+use list_text::NEWLINE;
+use list_text::PLUS;
+use list_text::SPACE;
+use list_text::put_byte;
+use list_text::put_dotted;
+use list_text::put_equated;
+use list_version::ALL_KEYS;
+use list_version::SEQ_NUMBERS;
+use list_version::SITE_NUMBERS;
+use list_version::identifiers::identifier;
+use list_version::values::VALUES;
+use list_version::values::largest;
+ghost use mathlib.Core.Path.{_≡_};
+ghost use mathlib.Core.List.{_∷_, _++_};
+ghost use Prim.Native.Nat.{_+_, _≤_, _<_};
+ghost use lib.ListN.{length, take};
+ghost use Rattle.edit_record.specs.Layout.{keys};
+ghost use Rattle.group_step.specs.GroupRows.{mostSets};
+ghost use Rattle.list_text.specs.Pieces.{space, plus, dottedLength, equatedLength};
+ghost use Rattle.list_line.specs.Line.{nameText, identifierText};
+ghost use Rattle.list_line.specs.Line.{namesLength, identifierLength, settingsLength, lineLength};
+ghost use Rattle.list_version.specs.VersionForms.{identifierBy};
+ghost use Rattle.list_line.specs.LineForms.{stampText, settingsBy, lineBy};
+
+// The bytes that a line has at most: the Create; for each Set a separator and its name; for each key a space, the key,
+// `=` and the value; and a newline.
+pub const LINE: usize = DOTTED + (1 + DOTTED) * SETS + (1 + EQUATED) * ALL_KEYS + 1;
+
+// Puts the name x as `site.seq`.
+fn put_name(out: &mut [u8], n: usize, x: u64) -> usize
+    requires { ⌜ n + dottedLength ≤ length (now out) ⌝ }
+    ensures { λ r. ⌜ (take r (now (out .exit)) ≡ take n (now (out .entry)) ++ nameText x) × (r ≤ n + dottedLength) ⌝ }
+{
+    put_dotted(
+        out,
+        n,
+        (x / SEQ_NUMBERS % SITE_NUMBERS) as u8,
+        (x % SEQ_NUMBERS) as u16,
+    )
+}
+
+// Puts `+` and the name x.
+fn put_joined(out: &mut [u8], n: usize, x: u64) -> usize
+    requires { ⌜ n + (1 + dottedLength) ≤ length (now out) ⌝ }
+    ensures { λ r. ⌜ (take r (now (out .exit)) ≡ take n (now (out .entry)) ++ (plus ∷ nameText x))
+        × (r ≤ n + (1 + dottedLength)) ⌝ }
+{
+    let w = put_byte(out, n, PLUS);
+    put_name(out, w, x)
+}
+
+// Puts the k first of the names joined by `+`, or `-` if there are none.
+fn put_names(out: &mut [u8], n: usize, names: &[u64], k: usize) -> usize
+    requires { ⌜ (k ≤ length (now names)) × (k ≤ mostSets) × (n + namesLength ≤ length (now out)) ⌝ }
+    ensures { λ r.
+        ⌜ (take r (now (out .exit)) ≡ take n (now (out .entry)) ++ identifierText (take k (now (names .entry))))
+        × (r ≤ n + namesLength) ⌝ }
+{
+    if k == 0 {
+        return put_byte(out, n, MINUS);
+    }
+    let mut w = put_name(out, n, names[0]);
+    let mut i: usize = 1;
+    while i < k {
+        w = put_joined(out, w, names[i]);
+        i += 1;
+    }
+    w
+}
+
+// Puts a space and the identifier of the group g, by the t tags of the object's Sets.
+fn put_identifier(out: &mut [u8], n: usize, tags: &[u64], t: usize, g: u64) -> usize
+    requires { ⌜ (t ≤ length (now tags)) × (t ≤ mostSets) × (n + identifierLength ≤ length (now out)) ⌝ }
+    ensures { λ r.
+        ⌜ (take r (now (out .exit))
+        ≡ take n (now (out .entry)) ++ (space ∷ identifierText (identifierBy (take t (now (tags .entry))) g)))
+        × (r ≤ n + identifierLength) ⌝ }
+{
+    let mut names = [0u64; SETS];
+    let k = identifier(tags, t, g, &mut names);
+    let w = put_byte(out, n, SPACE);
+    put_names(out, w, &names, k)
+}
+
+// Puts ` key=value` by the stamp s, or nothing if it is 0.
+fn put_setting(out: &mut [u8], n: usize, key: u8, s: u64) -> usize
+    requires { ⌜ (key < keys) × (n + (1 + equatedLength) ≤ length (now out)) ⌝ }
+    ensures { λ r. ⌜ (take r (now (out .exit)) ≡ take n (now (out .entry)) ++ stampText key s)
+        × (r ≤ n + (1 + equatedLength)) ⌝ }
+{
+    if s == 0 {
+        return n;
+    }
+    let w = put_byte(out, n, SPACE);
+    put_equated(out, w, key, ((s - 1) % VALUES) as u32)
+}
+
+// Puts ` key=value` for each key set in the group g, ascending, by the t stamps of the object's Sets.
+fn put_settings(out: &mut [u8], n: usize, stamps: &[u64], t: usize, g: u64) -> usize
+    requires { ⌜ (t ≤ length (now stamps)) × (t ≤ mostSets) × (n + settingsLength ≤ length (now out)) ⌝ }
+    ensures { λ r.
+        ⌜ (take r (now (out .exit)) ≡ take n (now (out .entry)) ++ settingsBy (take t (now (stamps .entry))) g keys)
+        × (r ≤ n + settingsLength) ⌝ }
+{
+    let best = largest(stamps, t, g);
+    let mut w = n;
+    let mut k: u8 = 0;
+    while k < KEYS {
+        w = put_setting(out, w, k, best[k as usize]);
+        k += 1;
+    }
+    w
+}
+
+// Puts at the front the line of the version g of the object that c created, by the t tags and stamps of the object's
+// Sets; says how many bytes it has.
+pub fn put_line(out: &mut [u8], c: Edit, tags: &[u64], stamps: &[u64], t: usize, g: u64) -> usize
+    requires { ⌜ (t ≤ length (now tags))
+        × (t ≤ length (now stamps))
+        × (t ≤ mostSets)
+        × (lineLength ≤ length (now out)) ⌝ }
+    ensures { λ r.
+        ⌜ (take r (now (out .exit)) ≡ lineBy c (take t (now (tags .entry))) (take t (now (stamps .entry))) g)
+        × (r ≤ lineLength) ⌝ }
+{
+    let a = put_dotted(out, 0, c.site.0, c.seq.0);
+    let b = put_identifier(out, a, tags, t, g);
+    let d = put_settings(out, b, stamps, t, g);
+    put_byte(out, d, NEWLINE)
+}

@@ -1,0 +1,2 @@
+pub mod LinesGathered
+pub mod LineFound

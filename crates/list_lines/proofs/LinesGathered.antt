@@ -1,0 +1,110 @@
+-- The lines of an object from what the code gathers of it, and the objects in their order. Assumes nothing.
+use mathlib.Core.Path.{_≡_, refl, sym, ap, _∙_, fun-ext}
+use mathlib.Core.Bool.{true, false}
+use mathlib.Core.List.{List, [], _∷_, map}
+use Prim.Native.Nat.{ℕ, zero, suc, _-_, _<_}
+use native.Mathlib.Numerals.{add-one}
+use native.Mathlib.Omega.{arith}
+use native.Mathlib.Decide.{decLt}
+use borrow.Author.Tests.{le-leb, lt-leb}
+use lib.Dec.{leb}
+use lib.ListN.{length, getD, take, length-append, length-map}
+use lib.Seq.{getD-take, length-take-le}
+use Rattle.math_lists.specs.NumbersBelow.{keep}
+use Rattle.math_lists.specs.SortedLists.{any}
+use Rattle.math_lists.proofs.Booleans.{clash}
+use Rattle.math_lists.proofs.NumbersBelow.{keep-at}
+use Rattle.math_lists.proofs.Elements.{any-off}
+use Rattle.math_lists.proofs.ByPlaces.{any-place-on}
+use Rattle.math_lists.proofs.PutInOrder.{any-gathered, gathered-length}
+use Rattle.table_drawing.specs.Tables.{Tables}
+use Rattle.table_arrival.specs.Answers6and7.{rowOf}
+use Rattle.list_version.specs.VersionOrder.{versionsOf}
+use Rattle.list_line.specs.Line.{versionLine, objectLines}
+use Rattle.list_version.proofs.MembersByTest.{map-place}
+use Rattle.list_line.proofs.LineByStamps.{line-by}
+use Rattle.list_objects.specs.declared.Gathered.{Gathered}
+use Rattle.list_objects.specs.Objects.{createOf, setsFor, createdBefore, objectsOf}
+use Rattle.list_lines.specs.List.{linesFor}
+use Rattle.list_objects.specs.ObjectForms.{GatheredOf}
+use Rattle.list_lines.specs.LinesForms.{Ready, lineIn}
+
+-- ---- what is gathered of an object
+
+module _ (t : Tables) (o : ℕ) (g : Gathered) (f : GatheredOf t o g) where
+  pub gathered-ready : Ready g
+  gathered-ready =
+      record {
+        few = f .few-sets;
+        tags-long = f .tags-long;
+        stamps-long = f .stamps-long;
+        versions-long = f .versions-long;
+      }
+
+  line-is : (v : ℕ) → lineIn g v ≡ versionLine (createOf t o) (setsFor t o) v
+  line-is v =
+      let stamps = take (g .sets) (g .stamps) in
+      let long : length stamps ≡ length (setsFor t o)
+      = length-take-le (g .sets) (g .stamps) (omega (arith, f .few-sets, f .stamps-long)) ∙ f .sets in
+      rw (f .create, f .tags) (line-by (setsFor t o) stamps (f .stamps) v (createOf t o) long)
+
+  pub gathered-lines : map (lineIn g) (take (g .count) (g .versions)) ≡ linesFor t o
+  unfolding linesFor objectLines
+  gathered-lines =
+      ap (map (lineIn g)) (f .versions)
+      ∙ ap (λ (h : ℕ → List ℕ). map h (versionsOf (setsFor t o) (rowOf t o))) (fun-ext line-is)
+
+  pub gathered-count : length (linesFor t o) ≡ g .count
+  gathered-count =
+      ap length (sym gathered-lines)
+      ∙ length-map (take (g .count) (g .versions)) (lineIn g)
+      ∙ length-take-le (g .count) (g .versions) (omega (arith, f .versions-long, f .few-groups))
+
+  pub gathered-line :
+      (v : ℕ) → v < length (linesFor t o) →
+      lineIn g (getD (g .versions) v 0) ≡ getD (linesFor t o) v []
+  gathered-line v l =
+      let low : v < g .count = omega (arith, gathered-count) in
+      let front = take (g .count) (g .versions) in
+      let long = length-take-le (g .count) (g .versions) (omega (arith, f .versions-long, f .few-groups)) in
+      sym (ap (λ (ls : List (List ℕ)). getD ls v []) (sym gathered-lines)
+      ∙ map-place (lineIn g) front v 0 [] (omega (arith, long))
+      ∙ ap (lineIn g) (getD-take (g .count) (g .versions) v 0 low))
+
+-- ---- the objects in their order are the numbers below their count, each once
+
+count-all : (n : ℕ) → length (keep n (λ o. true)) ≡ n
+unfolding keep
+count-all zero = refl
+count-all (suc n) = length-append (keep n (λ o. true)) (n ∷ []) ∙ rw (count-all n) (add-one n)
+
+none-above : (n : ℕ) → any (leb n) (keep n (λ o. true)) ≡ false
+none-above n = any-off (leb n) (keep n (λ o. true)) (λ x m. lt-leb n x (keep-at n (λ o. true) x m .0))
+
+module _ (t : Tables) where
+  abbrev n : ℕ
+  n = t .counters .objects
+
+  objects-length : length (objectsOf t) ≡ n
+  unfolding objectsOf
+  objects-length = gathered-length (createdBefore t) [] (keep n (λ o. true)) ∙ omega (arith, count-all n)
+
+  object-low : (i : ℕ) → i < n → getD (objectsOf t) i 0 < n
+  unfolding objectsOf any
+  object-low i l = go (decLt (getD (objectsOf t) i 0) n)
+    where
+      none : any (leb n) (objectsOf t) ≡ false
+      none = any-gathered (createdBefore t) (leb n) [] (keep n (λ o. true)) ∙ none-above n
+
+      go : Dec (getD (objectsOf t) i 0 < n) → getD (objectsOf t) i 0 < n
+      go (yes h) = h
+      go (no h) =
+          clash
+          (any-place-on (leb n) 0 (objectsOf t) i (omega (arith, objects-length))
+          (le-leb n (getD (objectsOf t) i 0) (omega arith)))
+          none
+
+  -- `order` has them at its front
+  module _ (order : List ℕ) (e : take n order ≡ objectsOf t) where
+    pub sorted-low : (i : ℕ) → i < n → getD order i 0 < n
+    sorted-low i l = rw (← getD-take n order i 0 l, e) (object-low i l)

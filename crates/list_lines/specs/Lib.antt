@@ -1,0 +1,3 @@
+pub mod List
+pub mod LineByNumber
+pub mod LinesForms

@@ -1,0 +1,58 @@
+-- The lines of what the code gathered of an object, and where a line is found. No one need believe it: laws in proofs/
+-- tie it to `List`. Assumes nothing.
+use mathlib.Core.Path.{_≡_}
+use mathlib.Core.Bool.{true}
+use mathlib.Core.List.{List, [], flatMap}
+use Prim.Native.Nat.{ℕ, _≤_, _<_}
+use lib.Dec.{ltb}
+use lib.ListN.{length, getD, take}
+use Rattle.math_lists.specs.NumbersBelow.{sum}
+use Rattle.group_step.specs.GroupRows.{mostSets, mostGroups}
+use Rattle.table_drawing.specs.declared.Counters.{Counters}
+use Rattle.table_drawing.specs.Tables.{Tables, groupsAt}
+use Rattle.list_text.specs.HeadAndRefusal.{headLine}
+use Rattle.list_line.specs.Line.{lineLength}
+use Rattle.list_line.specs.LineForms.{lineBy}
+use Rattle.list_objects.specs.declared.Gathered.{Gathered}
+use Rattle.list_objects.specs.Objects.{objectsOf}
+use Rattle.list_lines.specs.declared.Found.{Found}
+use Rattle.list_lines.specs.declared.Numbered.{Numbered}
+use Rattle.list_lines.specs.List.{linesFor}
+
+-- ---- the lines of what is gathered
+
+-- the arrays are as long as they must be
+pub record Ready (g : Gathered) : Type 0 where
+  pub few : g .sets ≤ mostSets
+  pub tags-long : length (g .tags) ≡ mostSets
+  pub stamps-long : length (g .stamps) ≡ mostSets
+  pub versions-long : length (g .versions) ≡ mostGroups
+
+abbrev pub lineIn : Gathered → ℕ → List ℕ
+lineIn g v = lineBy (g .create) (take (g .sets) (g .tags)) (take (g .sets) (g .stamps)) v
+
+-- line 0, from the counters and the objects as they are lent
+abbrev pub headOf : Counters → List ℕ → List ℕ
+headOf c os = headLine (c .sites) (c .objects) (sum (c .objects) (groupsAt os))
+
+-- ---- a line by its number
+
+-- the k-th of the lines of the objects os is the one that is so many behind the first of the rest
+pub record LeftOf (lines : ℕ → List (List ℕ)) (os : List ℕ) (k : ℕ) (rest : List ℕ) (left : ℕ) : Type 0 where
+  pub test : ltb k (length (flatMap lines os)) ≡ ltb left (length (flatMap lines rest))
+  pub line : getD (flatMap lines os) k [] ≡ getD (flatMap lines rest) left []
+
+-- the k-th of the lines of all objects is that version's line of that object, if there is one
+pub record FoundIn (t : Tables) (k : ℕ) (f : Found) : Type 0 where
+  pub ok : f .ok ≡ ltb k (length (flatMap (linesFor t) (objectsOf t)))
+  pub object : f .ok ≡ true → f .object < t .counters .objects
+  pub version : f .ok ≡ true → f .version < length (linesFor t (f .object))
+  pub line :
+      f .ok ≡ true →
+      getD (flatMap (linesFor t) (objectsOf t)) k [] ≡ getD (linesFor t (f .object)) (f .version) []
+
+-- the k-th of the lines stands at the front of the output, if there is one
+pub record NumberedAs (lines : List (List ℕ)) (k : ℕ) (r : Numbered) (out : List ℕ) : Type 0 where
+  pub ok : r .ok ≡ ltb k (length lines)
+  pub few : r .bytes ≤ lineLength
+  pub line : r .ok ≡ true → take (r .bytes) out ≡ getD lines k []

@@ -1,0 +1,196 @@
+// The lines of the printed list by their numbers: line 0, and the line of each version.
+use group_step::OBJECTS;
+use group_step::SETS;
+use list_line::LINE;
+use list_line::put_line;
+use list_objects::Gathered;
+use list_objects::gather;
+use list_objects::put_sets;
+use list_objects::sort_objects;
+use list_sort::ROWS;
+use table_drawing::Answer;
+use table_drawing::Counters;
+use table_drawing::ENTRY;
+use table_drawing::entries::at16;
+use table_output::Written;
+use table_output::put_at;
+ghost use mathlib.Core.Path.{_≡_};
+ghost use mathlib.Core.Bool.{true};
+ghost use mathlib.Core.List.{[]};
+ghost use Prim.Native.Nat.{_≤_, _<_};
+ghost use lib.ListN.{length, getD, take};
+ghost use Rattle.math_lists.specs.NumbersBelow.{sum};
+ghost use Rattle.group_step.specs.GroupRows.{mostObjects, mostGroups};
+ghost use Rattle.table_drawing.specs.Tables.{groupsAt, tablesOf};
+ghost use Rattle.table_drawing.specs.AnswerNumbers.{numberOf};
+ghost use Rattle.table_soundness.specs.Sound.{sound};
+ghost use Rattle.table_output.specs.Output.{writing};
+ghost use Rattle.list_line.specs.Line.{lineLength};
+ghost use Rattle.list_lines.specs.List.{linesFor, linesOf};
+ghost use Rattle.list_lines.specs.LineByNumber.{lineOf};
+ghost use Rattle.list_lines.specs.LinesForms.{Ready, lineIn, headOf, FoundIn, NumberedAs};
+
+// Where a line of a version is found: whether there is one, the object, and which of its versions it is.
+struct Found {
+    ok: bool,
+    object: usize,
+    version: usize,
+}
+
+// A line put at the front of a buffer: whether there is one of that number, and how many bytes it has.
+struct Numbered {
+    ok: bool,
+    bytes: usize,
+}
+
+// How many versions the first m objects have.
+fn version_total(objects: &[u16], m: usize) -> u32
+    requires { ⌜ m ≤ mostObjects ⌝ }
+    ensures { λ r. ⌜ r ≡ sum m (groupsAt (now (objects .entry))) ⌝ }
+{
+    let mut total: u32 = 0;
+    let mut o: usize = 0;
+    while o < m {
+        total = total + at16(objects, o * ENTRY + 2) as u32;
+        o += 1;
+    }
+    total
+}
+
+// Puts line 0 at the front of out.
+pub fn head(out: &mut [u8], c: Counters, objects: &[u16]) -> usize
+    requires { ⌜ (c .objects ≤ mostObjects) × (lineLength ≤ length (now out)) ⌝ }
+    ensures { λ r. ⌜ (take r (now (out .exit)) ≡ headOf c (now (objects .entry))) × (r ≤ lineLength) ⌝ }
+{
+    let total = version_total(objects, c.objects as usize);
+    list_text::put_head(out, c.sites as u32, c.objects as u32, total)
+}
+
+// Where the k-th line of a version is found, line 0 left out.
+fn find(c: Counters, records: &[u8], objects: &[u16], groups: &[u64], k: usize) -> Found
+    requires { ⌜ sound (tablesOf c (now records) (now objects) (now groups)) ≡ true ⌝ }
+    ensures { λ r.
+        ⌜ FoundIn (tablesOf c (now (records .entry)) (now (objects .entry)) (now (groups .entry))) k r ⌝ }
+{
+    let mut order = [0u16; OBJECTS];
+    sort_objects(&mut order, records, objects, c.objects as usize);
+    let mut left = k;
+    let mut i: usize = 0;
+    while i < c.objects as usize {
+        let o = at16(&order, i) as usize;
+        let count = at16(objects, o * ENTRY + 2) as usize;
+        if left < count {
+            return Found {
+                ok: true,
+                object: o,
+                version: left,
+            };
+        }
+        left = left - count;
+        i += 1;
+    }
+    Found {
+        ok: false,
+        object: 0,
+        version: 0,
+    }
+}
+
+// Puts the line of the v-th version at the front of out.
+fn put_version(out: &mut [u8], g: Gathered, v: usize) -> usize
+    requires { ⌜ Ready g × (v < mostGroups) × (lineLength ≤ length (now out)) ⌝ }
+    ensures { λ r. ⌜ (take r (now (out .exit)) ≡ lineIn g (getD (g .versions) v 0)) × (r ≤ lineLength) ⌝ }
+{
+    let tags = g.tags;
+    let stamps = g.stamps;
+    let versions = g.versions;
+    let create = g.create;
+    put_line(out, create, &tags, &stamps, g.sets, versions[v])
+}
+
+// Puts the line of a version of object o at the front of out.
+fn put_found(
+    out: &mut [u8],
+    c: Counters,
+    records: &[u8],
+    objects: &[u16],
+    groups: &[u64],
+    o: usize,
+    v: usize,
+) -> usize
+    requires { ⌜ (sound (tablesOf c (now records) (now objects) (now groups)) ≡ true)
+        × (o < c .objects)
+        × (v < length (linesFor (tablesOf c (now records) (now objects) (now groups)) o))
+        × (lineLength ≤ length (now out)) ⌝ }
+    ensures { λ r. ⌜ (take r (now (out .exit))
+        ≡ getD (linesFor (tablesOf c (now (records .entry)) (now (objects .entry)) (now (groups .entry))) o) v [])
+        × (r ≤ lineLength) ⌝ }
+{
+    let mut places = [0u16; SETS];
+    put_sets(&mut places, c, records, objects, groups, o);
+    // what work space holds at first does not matter; zeros would be set by memset (docs/DECISIONS.md, 24)
+    let mut rows = [1u64; ROWS];
+    let g = gather(&mut rows, c, records, objects, groups, &places, o);
+    put_version(out, g, v)
+}
+
+// Puts line k at the front of out, if there is one.
+fn put_numbered(
+    out: &mut [u8],
+    c: Counters,
+    records: &[u8],
+    objects: &[u16],
+    groups: &[u64],
+    k: usize,
+) -> Numbered
+    requires { ⌜ (sound (tablesOf c (now records) (now objects) (now groups)) ≡ true)
+        × (lineLength ≤ length (now out)) ⌝ }
+    ensures { λ r. ⌜ NumberedAs
+        (linesOf (tablesOf c (now (records .entry)) (now (objects .entry)) (now (groups .entry))))
+        k r (now (out .exit)) ⌝ }
+{
+    if k == 0 {
+        let bytes = head(out, c, objects);
+        return Numbered { ok: true, bytes };
+    }
+    let f = find(c, records, objects, groups, k - 1);
+    if !f.ok {
+        return Numbered {
+            ok: false,
+            bytes: 0,
+        };
+    }
+    let bytes = put_found(out, c, records, objects, groups, f.object, f.version);
+    Numbered { ok: true, bytes }
+}
+
+// Puts line k into out from the start on; refused, everything stays as it was.
+pub fn print_line(
+    c: Counters,
+    records: &[u8],
+    objects: &[u16],
+    groups: &[u64],
+    k: usize,
+    out: &mut [u8],
+    start: usize,
+) -> Written
+    ensures { λ r. ⌜ writing (numberOf (r .answer)) (r .bytes) (now (out .exit))
+        ≡ lineOf (tablesOf c (now (records .entry)) (now (objects .entry)) (now (groups .entry))) k
+        (now (out .entry)) start ⌝ }
+{
+    if !table_soundness::is_sound(c, records, objects, groups) {
+        return Written {
+            answer: Answer::Unsound,
+            bytes: 0,
+        };
+    }
+    let mut line = [0u8; LINE];
+    let r = put_numbered(&mut line, c, records, objects, groups, k);
+    if !r.ok {
+        return Written {
+            answer: Answer::NoLine,
+            bytes: 0,
+        };
+    }
+    put_at(out, start, &line, r.bytes)
+}

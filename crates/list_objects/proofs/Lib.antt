@@ -1,0 +1,4 @@
+pub mod SetTurns
+pub mod RankOrder
+pub mod GatheredIs
+pub mod SetsByIndex

@@ -1,0 +1,2 @@
+pub mod Objects
+pub mod ObjectForms

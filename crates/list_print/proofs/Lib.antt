@@ -1,0 +1,3 @@
+pub mod BytesBehind
+pub mod LinesJoined
+pub mod OnePass

@@ -1,0 +1,147 @@
+// All lines, put into the output one behind another.
+use super::object_lines::put_versions;
+use edit_history::RECORDS;
+use edit_walk::PLACES;
+use group_step::OBJECTS;
+use group_step::SETS;
+use list_line::LINE;
+use list_lines::head;
+use list_objects::gather;
+use list_objects::sort_objects;
+use list_sort::ROWS;
+use table_drawing::Counters;
+use table_index::MEMBERS;
+use table_output::copy_in;
+ghost use mathlib.Core.Path.{_≡_};
+ghost use mathlib.Core.Bool.{true};
+ghost use Prim.Native.Nat.{_+_, _*_, _≤_, _<_};
+ghost use lib.ListN.{length};
+ghost use Rattle.group_step.specs.GroupRows.{mostObjects, mostSets, mostGroups};
+ghost use Rattle.table_drawing.specs.Tables.{tablesOf};
+ghost use Rattle.table_soundness.specs.Sound.{sound};
+ghost use Rattle.list_line.specs.Line.{lineLength};
+ghost use Rattle.list_objects.specs.ObjectForms.{MembersOf};
+ghost use Rattle.list_lines.specs.List.{linesFor};
+ghost use Rattle.list_print.specs.Printing.{joined, listOf, listLength};
+ghost use Rattle.list_lines.specs.LinesForms.{headOf};
+ghost use Rattle.list_print.specs.PrintForms.{allLines, Behind};
+
+// Puts line 0 behind the first n bytes; says how many bytes stand there then. The line is formed in a buffer of its
+// own.
+fn put_head(out: &mut [u8], line: &mut [u8], n: usize, c: Counters, objects: &[u16]) -> usize
+    requires { ⌜ (c .objects ≤ mostObjects)
+        × (n + lineLength ≤ length (now out))
+        × (lineLength ≤ length (now line)) ⌝ }
+    ensures { λ r. ⌜ Behind (now (out .entry)) n (headOf c (now (objects .entry))) lineLength (now (out .exit)) r ⌝ }
+{
+    let k = head(line, c, objects);
+    copy_in(&mut out[n..], line, k);
+    n + k
+}
+
+// Puts the lines of object o behind the first n bytes; line and rows are work space, and members has the places of the
+// Sets of each object: all are made once.
+fn put_object(
+    out: &mut [u8],
+    line: &mut [u8],
+    rows: &mut [u64],
+    n: usize,
+    c: Counters,
+    records: &[u8],
+    objects: &[u16],
+    groups: &[u64],
+    members: &[u16],
+    o: usize,
+) -> usize
+    requires { ⌜ (sound (tablesOf c (now records) (now objects) (now groups)) ≡ true)
+        × MembersOf (tablesOf c (now records) (now objects) (now groups)) (now members)
+        × (o < c .objects)
+        × (n + mostGroups * lineLength ≤ length (now out))
+        × (length (now rows) ≡ mostGroups * mostSets)
+        × (lineLength ≤ length (now line)) ⌝ }
+    ensures { λ r. ⌜ Behind (now (out .entry)) n
+        (joined (linesFor (tablesOf c (now (records .entry)) (now (objects .entry)) (now (groups .entry))) o))
+        (mostGroups * lineLength) (now (out .exit)) r ⌝ }
+{
+    let g = gather(rows, c, records, objects, groups, &members[o * SETS..], o);
+    put_versions(out, line, n, g)
+}
+
+// Puts the lines of all objects behind the first n bytes, in their order.
+fn put_objects(
+    out: &mut [u8],
+    line: &mut [u8],
+    rows: &mut [u64],
+    n: usize,
+    c: Counters,
+    records: &[u8],
+    objects: &[u16],
+    groups: &[u64],
+    members: &[u16],
+) -> usize
+    requires { ⌜ (sound (tablesOf c (now records) (now objects) (now groups)) ≡ true)
+        × MembersOf (tablesOf c (now records) (now objects) (now groups)) (now members)
+        × (n + mostObjects * (mostGroups * lineLength) ≤ length (now out))
+        × (length (now rows) ≡ mostGroups * mostSets)
+        × (lineLength ≤ length (now line)) ⌝ }
+    ensures { λ r. ⌜ Behind (now (out .entry)) n
+        (allLines (tablesOf c (now (records .entry)) (now (objects .entry)) (now (groups .entry))))
+        (mostObjects * (mostGroups * lineLength)) (now (out .exit)) r ⌝ }
+{
+    let m = c.objects as usize;
+    let mut order = [0u16; OBJECTS];
+    sort_objects(&mut order, records, objects, m);
+    let mut w = n;
+    let mut i: usize = 0;
+    while i < m {
+        let o = order[i] as usize;
+        w = put_object(out, line, rows, w, c, records, objects, groups, members, o);
+        i += 1;
+    }
+    w
+}
+
+// Puts all lines behind the first n bytes.
+pub fn put_list(
+    out: &mut [u8],
+    n: usize,
+    c: Counters,
+    records: &[u8],
+    objects: &[u16],
+    groups: &[u64],
+) -> usize
+    requires { ⌜ (sound (tablesOf c (now records) (now objects) (now groups)) ≡ true)
+        × (n + listLength ≤ length (now out)) ⌝ }
+    ensures { λ r. ⌜ Behind (now (out .entry)) n
+        (listOf (tablesOf c (now (records .entry)) (now (objects .entry)) (now (groups .entry))))
+        listLength (now (out .exit)) r ⌝ }
+{
+    let mut line = [0u8; LINE];
+    let w = put_head(out, &mut line, n, c, objects);
+    // what work space holds at first does not matter; zeros would be set by memset (docs/DECISIONS.md, 24)
+    let mut rows = [1u64; ROWS];
+    let mut places = [1u16; PLACES];
+    let mut numbers = [1u16; RECORDS];
+    let mut members = [1u16; MEMBERS];
+    let mut counts = [0u16; OBJECTS];
+    let k = c.records as usize;
+    table_index::build(
+        records,
+        k,
+        &mut places,
+        &mut numbers,
+        &mut counts,
+        &mut members,
+    );
+    put_objects(
+        out,
+        &mut line,
+        &mut rows,
+        w,
+        c,
+        records,
+        objects,
+        groups,
+        &members,
+    )
+}

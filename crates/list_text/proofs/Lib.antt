@@ -1,0 +1,2 @@
+pub mod OneDecimal
+pub mod PiecesBehind

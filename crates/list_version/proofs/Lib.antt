@@ -1,0 +1,13 @@
+pub mod LoopTurns
+pub mod MembersByTest
+pub mod LastMember
+pub mod ValuesByStamps
+pub mod IdentifiersByTags
+pub mod IdentifierRows
+pub mod Names
+pub mod NeverShared
+pub mod ListsCompared
+pub mod VersionsSorted
+pub mod RanksStrict
+pub mod ValueShown
+pub mod LastInAnyOrder

@@ -1,0 +1,5 @@
+pub mod Identifier
+pub mod VersionOrder
+pub mod VersionForms
+pub mod Members
+pub mod Values

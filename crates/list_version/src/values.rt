@@ -1,0 +1,65 @@
+// The values of a version. A stamp is an edit's key, then its place in the total order, then its value, as one number
+// that is never 0 for a key: the largest stamp of the members with a key is that of the last one. The stamps of an
+// object's Sets are made once; one pass over the members of a version finds the largest of each key.
+use super::ALL_KEYS;
+use super::SITE_NUMBERS;
+use super::sets::edit_in;
+use super::sets::is_member;
+use edit_causal::vector_sum;
+use edit_record::Edit;
+use edit_record::KEYS;
+ghost use mathlib.Core.Path.{_≡_};
+ghost use Prim.Native.Nat.{_≤_};
+ghost use lib.ListN.{length, take};
+ghost use Rattle.group_step.specs.GroupRows.{mostSets};
+ghost use Rattle.list_version.specs.VersionForms.{setsAt, stampOf, Small, Stamped, LargestOf};
+
+// The values that four bytes have.
+pub const VALUES: u64 = 4294967296;
+
+// A number above each place in the total order with a value behind it.
+const PLACINGS: u64 = 1152921504606846976;
+
+// The stamp of e; 0 for a key that is none.
+fn stamp(e: Edit) -> u64
+    ensures { λ r. ⌜ (r ≡ stampOf e) × Small e ⌝ }
+{
+    let v = e.vector;
+    let sum = vector_sum(v);
+    if KEYS <= e.key {
+        return 0;
+    }
+    e.key as u64 * PLACINGS
+        + ((sum as u64 * SITE_NUMBERS + e.site.0 as u64) * VALUES + e.value as u64 + 1)
+}
+
+// Puts the stamps of the t Sets at the front of out.
+pub fn put_stamps(out: &mut [u64], recs: &[u8], places: &[u16], t: usize)
+    requires { ⌜ (t ≤ length (now places)) × (t ≤ length (now out)) ⌝ }
+    ensures { λ r. ⌜ Stamped (setsAt (now (recs .entry)) (take t (now (places .entry)))) (take t (now (out .exit))) ⌝ }
+{
+    let mut i: usize = 0;
+    while i < t {
+        let e = edit_in(recs, places, i);
+        out[i] = stamp(e);
+        i += 1;
+    }
+}
+
+// The largest stamp of each key among the members of g, by the t stamps of the object's Sets; 0 where there is none.
+pub fn largest(stamps: &[u64], t: usize, g: u64) -> [u64; ALL_KEYS]
+    requires { ⌜ (t ≤ length (now stamps)) × (t ≤ mostSets) ⌝ }
+    ensures { λ r. ⌜ LargestOf r (take t (now (stamps .entry))) g ⌝ }
+{
+    let mut best = [0u64; ALL_KEYS];
+    let mut i: usize = 0;
+    while i < t {
+        let s = stamps[i];
+        let k = (s / PLACINGS) as usize;
+        if is_member(g, i) & (best[k] < s) {
+            best[k] = s;
+        }
+        i += 1;
+    }
+    best
+}

@@ -1,0 +1,53 @@
+-- Lists that grow at their end: what a test, a choice and its length make of one element more; and a test over a
+-- choice that holds all which pass. Assumes nothing.
+use mathlib.Core.Path.{_≡_, refl, ap, _∙_}
+use mathlib.Core.Bool.{Bool, true, false, _||_, cond, or-false}
+use mathlib.Core.List.{List, [], _∷_, _++_}
+use Prim.Native.Nat.{_+_}
+use lib.ListN.{length, length-append}
+use Rattle.math_lists.proofs.Booleans.{clash}
+use Rattle.math_lists.proofs.Elements.{any-append}
+use Rattle.math_lists.specs.SortedLists.{any, filter}
+
+module _ {A : Type 0} where
+  -- ---- one element more
+
+  pub any-snoc : (f : A → Bool) (xs : List A) (x : A) → any f (xs ++ (x ∷ [])) ≡ (any f xs || f x)
+  unfolding any
+  any-snoc f xs x = any-append f xs (x ∷ []) ∙ ap (λ (b : Bool). any f xs || b) (or-false (f x))
+
+  pub filter-snoc :
+      (f : A → Bool) (xs : List A) (x : A) → filter f (xs ++ (x ∷ [])) ≡ filter f xs ++ cond (f x) (x ∷ []) []
+  unfolding filter
+  filter-snoc f [] x = refl
+  filter-snoc f (y ∷ ys) x = go (f y) (filter-snoc f ys x)
+    where
+      go : (b : Bool) → filter f (ys ++ (x ∷ [])) ≡ filter f ys ++ cond (f x) (x ∷ []) [] →
+          cond b (y ∷ filter f (ys ++ (x ∷ []))) (filter f (ys ++ (x ∷ [])))
+          ≡ cond b (y ∷ filter f ys) (filter f ys) ++ cond (f x) (x ∷ []) []
+      go true ih = rw ih
+      go false ih = ih
+
+  -- a list to whose end one element is added, or none
+  pub length-maybe : (xs : List A) (b : Bool) (x : A) → length (xs ++ cond b (x ∷ []) []) ≡ length xs + cond b 1 0
+  length-maybe xs true x = length-append xs (x ∷ [])
+  length-maybe xs false x = length-append xs []
+
+  pub filter-length-snoc :
+      (f : A → Bool) (xs : List A) (x : A) →
+      length (filter f (xs ++ (x ∷ []))) ≡ length (filter f xs) + cond (f x) 1 0
+  filter-length-snoc f xs x = ap length (filter-snoc f xs x) ∙ length-maybe (filter f xs) (f x) x
+
+  -- ---- a test over a choice
+
+  pub any-filter :
+      (f g : A → Bool) (xs : List A) → ((x : A) → f x ≡ true → g x ≡ true) → any f (filter g xs) ≡ any f xs
+  unfolding any filter
+  any-filter f g [] h = refl
+  any-filter f g (x ∷ xs) h = go (g x) refl (f x) refl (any-filter f g xs h)
+    where
+      go : (b : Bool) → g x ≡ b → (a : Bool) → f x ≡ a → any f (filter g xs) ≡ any f xs →
+          any f (cond b (x ∷ filter g xs) (filter g xs)) ≡ (f x || any f xs)
+      go true p a q ih = rw ih
+      go false p true q ih = clash (h x q) p
+      go false p false q ih = rw q ih

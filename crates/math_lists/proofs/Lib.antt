@@ -1,0 +1,10 @@
+pub mod Booleans
+pub mod LastBelow
+pub mod NumbersBelow
+pub mod Elements
+pub mod SortedLists
+pub mod ByPlaces
+pub mod GrownAtEnd
+pub mod PutInOrder
+pub mod ReplacedPart
+pub mod LentLocal

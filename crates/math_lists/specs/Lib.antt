@@ -1,0 +1,2 @@
+pub mod NumbersBelow
+pub mod SortedLists

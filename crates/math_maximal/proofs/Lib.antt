@@ -1,0 +1,9 @@
+pub mod MaximalSets
+pub mod OneElementMore
+pub mod Bits
+pub mod Groups
+pub mod StepOnAnyRow
+pub mod StepKeepsMaximal
+pub mod MoreElements
+pub mod Renumbered
+pub mod GroupsByArrival

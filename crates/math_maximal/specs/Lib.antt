@@ -1,0 +1,4 @@
+pub mod MaximalSets
+pub mod Groups
+pub mod Step
+pub mod GroupsByArrival

@@ -1,9 +1,0 @@
-pub mod Sets
-pub mod OneMore
-pub mod Bits
-pub mod Groups
-pub mod Row
-pub mod Step
-pub mod Count
-pub mod Renumber
-pub mod Arrivals

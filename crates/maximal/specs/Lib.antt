@@ -1,4 +1,0 @@
-pub mod Sets
-pub mod Groups
-pub mod Step
-pub mod Arrivals

@@ -1,4 +1,0 @@
-pub mod Turns
-pub mod Ranks
-pub mod Gathering
-pub mod Members

@@ -1,3 +1,0 @@
-pub mod Rearranged
-pub mod Settled
-pub mod Equal

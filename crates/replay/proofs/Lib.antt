@@ -1,4 +1,0 @@
-pub mod AnyRecords
-pub mod Going
-pub mod Own
-pub mod Indexed

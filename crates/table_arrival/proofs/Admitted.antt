@@ -1,0 +1,129 @@
+-- What is known of an edit that passes 1 to 6, of one that is accepted, and of the tables after it. Assumes nothing.
+use mathlib.Core.Path.{_≡_, refl, sym, ap, _∙_}
+use mathlib.Core.Logic.{inl, inr}
+use mathlib.Core.Bool.{Bool, true, false, not, _&&_, _||_, cond}
+use mathlib.Core.List.{List}
+use Prim.Native.Nat.{ℕ, _+_, _≤_, _<_}
+use native.Mathlib.Omega.{arith}
+use lib.ListN.{length, getD}
+use lib.Dec.{eqb, leb, ltb}
+use borrow.Author.Tests.{eqb-true, eqb-false, leb-false, ltb-false, not-false}
+use Rattle.math_lists.specs.SortedLists.{any}
+use Rattle.math_lists.proofs.Booleans.{clash, neither, then-off}
+use Rattle.edit_record.specs.Layout.{recordLength}
+use Rattle.edit_record.specs.RecordBytes.{decodeOf}
+use Rattle.edit_record.specs.Answer1.{isCreate, isSet, malformed, unfit}
+use Rattle.edit_record.proofs.WellFormed.{WellFormed, well-formed}
+use Rattle.edit_history.specs.EditsHeld.{mostRecords, isTarget}
+use Rattle.edit_history.specs.Answers2to5.{isRepeated, isEarly, isTorn, isAstray, passes}
+use Rattle.group_step.specs.GroupRows.{mostObjects, mostSets, mostGroups}
+use Rattle.table_drawing.specs.Tables.{Tables, heldBy}
+use Rattle.table_drawing.specs.AnswerNumbers.{Outcome, outcomeOf}
+use Rattle.table_arrival.specs.Answers6and7.{matesOf, groupsAfter, isFull, isCrowded, answerTo}
+use Rattle.table_arrival.specs.Arrival.{putRecord, withCreate, withSet, taken, acceptanceOf}
+use Rattle.table_arrival.specs.ArrivalForms.{six, sixth}
+use Rattle.table_arrival.proofs.FirstReason.{none-present}
+use Rattle.table_arrival.proofs.SixByCounters.{answer-is}
+
+-- ---- an edit that passes 1 to 6
+
+pub record Admitted (t : Tables) (b : List ℕ) : Type 0 where
+  pub whole : length b ≡ recordLength
+  pub fit : unfit (t .counters .sites) (decodeOf b) ≡ false
+  pub formed : WellFormed (t .counters .sites) (decodeOf b)
+  pub fresh : isRepeated (heldBy t) (decodeOf b) ≡ false
+  pub timely : isEarly (heldBy t) (decodeOf b) ≡ false
+  pub seamless : isTorn (heldBy t) (decodeOf b) ≡ false
+  pub aimed : isAstray (heldBy t) (decodeOf b) ≡ false
+  pub room : t .counters .records < mostRecords
+  pub create-room : isCreate (decodeOf b) ≡ true → t .counters .objects < mostObjects
+  pub set-room : isSet (decodeOf b) ≡ true → length (matesOf t (decodeOf b)) < mostSets
+
+pub admitted : (t : Tables) (b : List ℕ) → sixth t b ≡ 0 → Admitted t b
+unfolding sixth malformed isFull
+admitted t b h =
+    let e = decodeOf b in
+    let no : (i : ℕ) → getD (six t b) i false ≡ false = none-present 0 (six t b) h in
+    let (w, f) = neither (not (eqb (length b) recordLength)) (unfit (t .counters .sites) e) (no 0) in
+    let records? = leb mostRecords (t .counters .records) in
+    let objects? = isCreate e && leb mostObjects (t .counters .objects) in
+    let sets? = isSet e && leb mostSets (length (matesOf t e)) in
+    let (rc, s) = neither (records? || objects?) sets? (no 5) in
+    let (r, c) = neither records? objects? rc in
+    record {
+      whole = eqb-true (length b) recordLength (not-false (eqb (length b) recordLength) w);
+      fit = f;
+      formed = well-formed (t .counters .sites) e f;
+      fresh = no 1;
+      timely = no 2;
+      seamless = no 3;
+      aimed = no 4;
+      room = leb-false mostRecords (t .counters .records) r;
+      create-room = λ k. leb-false mostObjects (t .counters .objects) (then-off (isCreate e) _ k c);
+      set-room = λ k. leb-false mostSets (length (matesOf t e)) (then-off (isSet e) _ k s);
+    }
+
+module _ (t : Tables) (b : List ℕ) (a : Admitted t b) where
+  pub admitted-passes : passes (t .counters .sites) (heldBy t) (decodeOf b) ≡ true
+  unfolding passes
+  admitted-passes = rw (a .fit, a .fresh, a .timely, a .seamless, a .aimed)
+
+  -- a Set has its target
+  pub admitted-target : isSet (decodeOf b) ≡ true → any (isTarget (decodeOf b)) (heldBy t) ≡ true
+  unfolding isAstray
+  admitted-target k =
+      not-false (any (isTarget (decodeOf b)) (heldBy t))
+      (then-off (isSet (decodeOf b)) (not (any (isTarget (decodeOf b)) (heldBy t))) k (a .aimed))
+
+  pub set-or-create : isCreate (decodeOf b) ≡ false → isSet (decodeOf b) ≡ true
+  set-or-create k = elim (a .formed .kind) [ inl c ↦ clash c k | inr s ↦ s ]
+
+-- ---- an edit that is accepted
+
+pub record Accepted (t : Tables) (b : List ℕ) : Type 0 where
+  pub admitted : Admitted t b
+  pub few : isSet (decodeOf b) ≡ true → length (groupsAfter t (decodeOf b)) ≤ mostGroups
+
+pub accepted : (t : Tables) (b : List ℕ) → answerTo t b ≡ 0 → Accepted t b
+accepted t b h = go (eqb (sixth t b) 0) refl (isCrowded t (decodeOf b)) refl (sym (answer-is t b) ∙ h)
+  where
+    go : (x : Bool) → eqb (sixth t b) 0 ≡ x → (y : Bool) → isCrowded t (decodeOf b) ≡ y →
+        cond x (cond y 7 0) (sixth t b) ≡ 0 → Accepted t b
+    go true p true q z = absurd (omega arith)
+    go true p false q z =
+        record {
+          admitted = admitted t b (eqb-true (sixth t b) 0 p);
+          few =
+              λ k. ltb-false mostGroups (length (groupsAfter t (decodeOf b)))
+              (then-off (isSet (decodeOf b)) _ k (unfold isCrowded in q));
+        }
+    go false p y q z = absurd (eqb-false (sixth t b) 0 p z)
+
+-- ---- an outcome of 0 is the edit taken
+
+pub was-taken :
+    (u t : Tables) (b : List ℕ) → outcomeOf 0 t ≡ acceptanceOf u b → (answerTo u b ≡ 0) × (t ≡ taken u b)
+unfolding acceptanceOf
+was-taken u t b h = go (eqb (answerTo u b) 0) refl h
+  where
+    go : (x : Bool) → eqb (answerTo u b) 0 ≡ x →
+        outcomeOf 0 t ≡ cond x (outcomeOf 0 (taken u b)) (outcomeOf (answerTo u b) u) →
+        (answerTo u b ≡ 0) × (t ≡ taken u b)
+    go true e q = (eqb-true (answerTo u b) 0 e, ap (λ (o : Outcome). o .after) q)
+    go false e q = absurd (eqb-false (answerTo u b) 0 e (sym (ap (λ (o : Outcome). o .answer) q)))
+
+-- which is one record more
+pub taken-records :
+    (u : Tables) (b : List ℕ) →
+    (taken u b .records ≡ putRecord (u .records) (u .counters .records) b)
+    × (taken u b .counters .records ≡ u .counters .records + 1)
+    × (taken u b .counters .sites ≡ u .counters .sites)
+unfolding withCreate withSet
+taken-records u b = go (isCreate (decodeOf b))
+  where
+    go : (k : Bool) →
+        (cond k (withCreate u b) (withSet u b) .records ≡ putRecord (u .records) (u .counters .records) b)
+        × (cond k (withCreate u b) (withSet u b) .counters .records ≡ u .counters .records + 1)
+        × (cond k (withCreate u b) (withSet u b) .counters .sites ≡ u .counters .sites)
+    go true = (refl, refl, refl)
+    go false = (refl, refl, refl)

@@ -1,0 +1,104 @@
+-- An empty drawing is sound, and an arrival leaves sound tables sound, whatever it is answered. Assumes nothing.
+use mathlib.Core.Path.{_≡_, refl, _∙_}
+use mathlib.Core.Bool.{Bool, true, false, cond}
+use mathlib.Core.List.{List}
+use Prim.Native.Nat.{ℕ, _+_, _≤_}
+use native.Mathlib.Omega.{arith}
+use lib.ListN.{length, getD, set, replicate, length-set, length-replicate}
+use lib.Dec.{eqb}
+use borrow.Author.Tests.{eqb-true}
+use Rattle.math_lists.specs.NumbersBelow.{all}
+use Rattle.math_lists.specs.SortedLists.{filter}
+use Rattle.edit_record.specs.Layout.{mostSites}
+use Rattle.edit_record.specs.RecordBytes.{decodeOf}
+use Rattle.edit_record.specs.Answer1.{isCreate}
+use Rattle.edit_history.specs.EditsHeld.{editsOf, countFrom, creates}
+use Rattle.edit_history.specs.Answers2to5.{recordsPass}
+use Rattle.table_drawing.specs.Tables.{Tables, emptyDrawing, recordsLength, objectsLength, groupsLength}
+use Rattle.table_drawing.specs.AnswerNumbers.{outcomeOf}
+use Rattle.table_soundness.specs.Sound.{sound}
+use Rattle.table_soundness.proofs.SoundFacts.{Sound, sound-at, sound-on}
+use Rattle.table_arrival.specs.Answers6and7.{answerTo}
+use Rattle.table_arrival.specs.Arrival.{withCreate, withSet, taken, acceptanceOf, arrivalOf}
+use Rattle.table_arrival.proofs.Admitted.{accepted, set-or-create}
+use Rattle.table_arrival.proofs.CreateKeepsSound.{create-keeps-sound}
+use Rattle.table_arrival.proofs.SetKeepsSound.{set-keeps-sound}
+use Rattle.math_lists.proofs.ByPlaces.{zero-anywhere}
+
+-- sound tables with a count for each site, as the code's arrays have
+pub record Kept (t : Tables) : Type 0 where
+  pub isSound : Sound t
+  pub wide : length (t .counters .held) ≡ mostSites
+
+-- ---- the empty drawing
+
+pub empty-kept : (n : ℕ) → 1 ≤ n → n ≤ mostSites → Kept (emptyDrawing n)
+unfolding emptyDrawing editsOf countFrom creates filter recordsPass all
+empty-kept n some few =
+    record {
+      isSound =
+          record {
+            records-long = length-replicate {A = ℕ} recordsLength 0;
+            objects-long = length-replicate {A = ℕ} objectsLength 0;
+            groups-long = length-replicate {A = ℕ} groupsLength 0;
+            some-sites = some;
+            few-sites = few;
+            few-records = omega arith;
+            few-objects = omega arith;
+            held = λ s l. zero-anywhere mostSites s;
+            objects = refl;
+            pass = refl;
+            object = λ o l. absurd (omega arith);
+            records-zero = λ i l k. zero-anywhere recordsLength i;
+            objects-zero = λ i l k. zero-anywhere objectsLength i;
+            groups-zero = λ i l k. zero-anywhere groupsLength i;
+          };
+      wide = refl;
+    }
+
+-- ---- an arrival
+
+module _ (t : Tables) (b : List ℕ) (k : Kept t) where
+  taken-kept : answerTo t b ≡ 0 → Kept (taken t b)
+  taken-kept h = go (isCreate (decodeOf b)) refl
+    where
+      bumped : (x : ℕ) → length (set (t .counters .held) (decodeOf b .site .0) x) ≡ mostSites
+      bumped x = length-set (t .counters .held) (decodeOf b .site .0) x ∙ k .wide
+
+      count : ℕ
+      count = getD (t .counters .held) (decodeOf b .site .0) 0 + 1
+
+      go : (c : Bool) → isCreate (decodeOf b) ≡ c → Kept (cond c (withCreate t b) (withSet t b))
+      go true c =
+          record {
+            isSound = create-keeps-sound t b (k .isSound) (k .wide) (accepted t b h .admitted) c;
+            wide = unfold withCreate in bumped count;
+          }
+      go false c =
+          record {
+            isSound =
+                set-keeps-sound t b (k .isSound) (accepted t b h) (set-or-create t b (accepted t b h .admitted) c)
+                (k .wide);
+            wide = unfold withSet in bumped count;
+          }
+
+  pub acceptance-keeps : Kept (acceptanceOf t b .after)
+  unfolding acceptanceOf
+  acceptance-keeps = go (eqb (answerTo t b) 0) refl
+    where
+      go : (x : Bool) → eqb (answerTo t b) 0 ≡ x →
+          Kept (cond x (outcomeOf 0 (taken t b)) (outcomeOf (answerTo t b) t) .after)
+      go true h = taken-kept (eqb-true (answerTo t b) 0 h)
+      go false h = k
+
+-- whatever the tables, an arrival leaves them sound or unsound as they were
+pub arrival-keeps-sound :
+    (t : Tables) (b : List ℕ) → length (t .counters .held) ≡ mostSites → sound (arrivalOf t b .after) ≡ sound t
+unfolding arrivalOf
+arrival-keeps-sound t b wide = go (sound t) refl
+  where
+    go : (x : Bool) → sound t ≡ x → sound (cond x (acceptanceOf t b) (outcomeOf 8 t) .after) ≡ x
+    go true h =
+        sound-on (acceptanceOf t b .after)
+        (acceptance-keeps t b (record { isSound = sound-at t h; wide = wide }) .isSound)
+    go false h = h

@@ -1,0 +1,99 @@
+-- What the code of an arrival at sound tables has in hand: the edit decoded, the survey of the records, and the first
+-- of 1 to 6. Assumes nothing.
+use mathlib.Core.Path.{_≡_, sym, ap, _∙_}
+use mathlib.Core.Bool.{true, false}
+use mathlib.Core.List.{List}
+use Prim.Native.Nat.{ℕ, _≤_, _<_}
+use lib.ListN.{length, getD}
+use Rattle.edit_record.specs.declared.Edit.{Edit}
+use Rattle.edit_record.specs.Layout.{recordLength}
+use Rattle.edit_record.specs.RecordBytes.{decodeOf}
+use Rattle.edit_record.specs.Answer1.{isCreate, isSet}
+use Rattle.edit_history.specs.declared.Surveyed.{Surveyed}
+use Rattle.edit_history.specs.EditsHeld.{mostRecords, editsOf, setsOn}
+use Rattle.edit_history.specs.SurveyForms.{markBits, surveyOf}
+use Rattle.group_step.specs.GroupRows.{mostObjects}
+use Rattle.table_drawing.specs.Tables.{Tables, tablesOf, heldBy, recordsLength, objectsLength}
+use Rattle.table_drawing.specs.AnswerNumbers.{outcomeOf}
+use Rattle.table_soundness.specs.Sound.{sound}
+use Rattle.table_soundness.proofs.SoundFacts.{sound-at}
+use Rattle.table_index.specs.IndexForms.{Holds}
+use Rattle.table_arrival.specs.Answers6and7.{firstOf}
+use Rattle.table_arrival.specs.Arrival.{counted, putRecord, putEntry, withCreate, acceptanceOf}
+use Rattle.table_arrival.specs.ArrivalForms.{sixBy, sixth, Ready}
+use Rattle.table_arrival.proofs.SixByCounters.{six-are}
+use Rattle.table_arrival.proofs.Admitted.{admitted, set-or-create}
+use Rattle.table_arrival.proofs.ObjectsByNumber.{sets-few}
+use Rattle.table_arrival.proofs.CodeOutcomes.{create-is, count-room}
+
+module _ (t : Tables) (h : sound t ≡ true) where
+  -- the records may be surveyed for any edit
+  pub surveyable :
+      (e : Edit) →
+      (t .counters .records ≤ mostRecords)
+      × (length (setsOn (e .tsite) (e .tseq) (editsOf (t .records) (t .counters .records))) ≤ markBits)
+  surveyable e = (sound-at t h .few-records, sets-few t (sound-at t h) (e .tsite) (e .tseq))
+
+  -- the counters are those of the records
+  pub holds : Holds (t .counters) (t .records)
+  holds =
+      let s = sound-at t h in
+      record {
+        few-sites = s .few-sites;
+        few-records = s .few-records;
+        few-objects = s .few-objects;
+        pass = s .pass;
+        held = s .held;
+        objects = s .objects;
+        few-sets = sets-few t s;
+      }
+
+  module _ (b : List ℕ) (e : Edit) (de : e ≡ decodeOf b) where
+    -- the code's 1 to 6 are the definition's
+    pub sixth-is :
+        (v : Surveyed) → v ≡ surveyOf (heldBy t) e → firstOf 1 (sixBy (t .counters) (length b) e v) ≡ sixth t b
+    sixth-is v dv = rw (dv, de) (six-are t (sound-at t h) b)
+
+    module _ (z : sixth t b ≡ 0) where
+      -- ---- a Create
+
+      pub create-given :
+          isCreate e ≡ true →
+          (t .counters .records < mostRecords)
+          × (t .counters .objects < mostObjects)
+          × (length (t .records) ≡ recordsLength)
+          × (length (t .objects) ≡ objectsLength)
+          × (length b ≡ recordLength)
+          × (getD (t .counters .held) (e .site .0) 0 < mostRecords)
+      create-given k =
+          let s = sound-at t h in
+          let a = admitted t b z in (
+            a .room,
+            a .create-room (sym (ap isCreate de) ∙ k),
+            s .records-long,
+            s .objects-long,
+            a .whole,
+            rw de (count-room t b s a),
+          )
+
+      pub create-taken :
+          isCreate e ≡ true →
+          outcomeOf 0
+          (tablesOf (counted (t .counters) (e .site) 1) (putRecord (t .records) (t .counters .records) b)
+          (putEntry (t .objects) (t .counters .objects) (t .counters .records) 0 1)
+          (t .groups))
+          ≡ acceptanceOf t b
+      unfolding withCreate
+      create-taken k = rw de (create-is t b z (sym (ap isCreate de) ∙ k))
+
+      -- ---- a Set
+
+      pub set-ready : (v : Surveyed) → v ≡ surveyOf (heldBy t) e → isCreate e ≡ false → Ready t b e v
+      set-ready v dv k =
+          record {
+            isSound = h;
+            edit = de;
+            surveyed = dv;
+            passes = z;
+            set = ap isSet de ∙ set-or-create t b (admitted t b z) (sym (ap isCreate de) ∙ k);
+          }

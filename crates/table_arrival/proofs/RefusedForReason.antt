@@ -1,0 +1,40 @@
+-- Demand 2, refusals: an edit is refused only for a listed reason that is present, and always when one is; and 7 is
+-- given exactly when more than 32 maximal sets would exist. Assumes nothing.
+use mathlib.Core.Path.{_≡_, ap}
+use mathlib.Core.Logic.{_⊎_}
+use mathlib.Core.Bool.{true}
+use mathlib.Core.List.{List, [], _∷_, _++_}
+use Prim.Native.Nat.{ℕ, _+_}
+use lib.ListN.{length}
+use lib.Dec.{ltb}
+use Rattle.math_lists.specs.SortedLists.{any}
+use Rattle.edit_record.specs.declared.Edit.{Edit}
+use Rattle.edit_record.specs.Answer1.{isSet}
+use Rattle.edit_history.specs.EditsHeld.{recordAt, isTarget, objectOf}
+use Rattle.group_step.specs.GroupRows.{mostGroups}
+use Rattle.table_drawing.specs.Tables.{Tables, heldBy, placeAt}
+use Rattle.table_arrival.specs.Answers6and7.{isCrowded, reasons, answerTo}
+use Rattle.group_true.specs.TrueGroups.{trueGroups}
+use Rattle.table_arrival.proofs.FirstReason.{First, first-present, answer-present}
+use Rattle.table_arrival.proofs.Faithful.{Faithful, after-true}
+
+-- the answer is 0, or the number of a reason that is present while none before it is
+pub refused-for-a-reason :
+    (t : Tables) (b : List ℕ) → (answerTo t b ≡ 0) ⊎ ((i : ℕ) × (answerTo t b ≡ 1 + i) × First (reasons t b) i)
+unfolding answerTo
+refused-for-a-reason t b = answer-present 1 (reasons t b)
+
+-- and where a reason is present, the first that is gives the answer
+pub reason-refuses : (t : Tables) (b : List ℕ) (i : ℕ) → First (reasons t b) i → answerTo t b ≡ 1 + i
+unfolding answerTo
+reason-refuses t b i f = first-present 1 (reasons t b) i f
+
+-- in a faithful drawing 7's reason is that the object's Sets with the new one have more than 32 maximal sets
+pub crowded-exactly :
+    (t : Tables) → Faithful t → (e : Edit) → isSet e ≡ true → any (isTarget e) (heldBy t) ≡ true →
+    isCrowded t e
+    ≡ ltb mostGroups
+    (length
+    (trueGroups (heldBy t ++ (e ∷ [])) (recordAt (t .records) (placeAt (t .objects) (objectOf e (heldBy t))))))
+unfolding isCrowded
+crowded-exactly t f e k aim = rw k (ap (λ (l : List ℕ). ltb mostGroups (length l)) (after-true t f e k aim))

@@ -1,0 +1,170 @@
+-- What an accepted edit, Create or Set, leaves sound: the records and their counts, and the entries and rows of the
+-- objects that it does not touch. Assumes nothing.
+use mathlib.Core.Path.{_≡_, refl, sym, ap, _∙_}
+use mathlib.Core.Logic.{inl, inr}
+use mathlib.Core.Bool.{Bool, true, false, cond}
+use mathlib.Core.List.{List, [], _∷_, _++_}
+use Prim.Native.Nat.{ℕ, zero, suc, _+_, _-_, _*_, _≤_, _<_}
+use native.Mathlib.Omega.{arith}
+use native.Mathlib.Numerals.{add-one}
+use native.Mathlib.Decide.{ℕ-discrete}
+use lib.ListN.{length, getD, set}
+use lib.Seq.{getD-set-same, getD-set-other}
+use lib.Dec.{eqb}
+use borrow.Author.Tests.{eq-eqb, ne-eqb}
+use Rattle.math_lists.specs.NumbersBelow.{all}
+use Rattle.math_lists.specs.SortedLists.{filter}
+use Rattle.math_lists.proofs.NumbersBelow.{all-on, all-at}
+use Rattle.math_lists.proofs.LastBelow.{last}
+use Rattle.math_lists.proofs.GrownAtEnd.{filter-length-snoc}
+use Rattle.edit_record.specs.declared.Site.{Site}
+use Rattle.edit_record.specs.declared.Seq.{Seq}
+use Rattle.edit_record.specs.declared.Edit.{Edit}
+use Rattle.edit_record.specs.Layout.{mostSites, recordLength}
+use Rattle.edit_record.specs.RecordBytes.{decodeOf}
+use Rattle.edit_record.specs.Answer1.{isCreate}
+use Rattle.edit_history.specs.EditsHeld.{recordAt, editsOf, countFrom, creates, isSetOn, setsOn}
+use Rattle.edit_history.specs.Answers2to5.{passes, recordsPass}
+use Rattle.group_step.specs.GroupRows.{mostSets}
+use Rattle.table_drawing.specs.Tables.{Tables, heldBy, recordsLength}
+use Rattle.table_soundness.proofs.SoundFacts.{Sound, ZeroFrom}
+use Rattle.table_soundness.proofs.EachObject.{Entry}
+use Rattle.table_arrival.specs.Arrival.{putRecord}
+use Rattle.table_arrival.proofs.Admitted.{Admitted, admitted-passes}
+use Rattle.table_arrival.proofs.RecordsOneMore.{put-long, put-after, put-before, put-here, put-edits-before}
+use Rattle.table_arrival.proofs.RecordsOneMore.{put-edits}
+
+-- ---- counts over one edit more
+
+pub count-snoc :
+    (s : ℕ) (es : List Edit) (e : Edit) →
+    countFrom s (es ++ (e ∷ [])) ≡ countFrom s es + cond (eqb (e .site .0) s) 1 0
+unfolding countFrom
+count-snoc s es e = filter-length-snoc (λ a. eqb (a .site .0) s) es e
+
+pub creates-snoc :
+    (es : List Edit) (e : Edit) → length (creates (es ++ (e ∷ []))) ≡ length (creates es) + cond (isCreate e) 1 0
+unfolding creates
+creates-snoc es e = filter-length-snoc isCreate es e
+
+pub sets-snoc :
+    (s : Site) (q : Seq) (es : List Edit) (e : Edit) →
+    length (setsOn s q (es ++ (e ∷ []))) ≡ length (setsOn s q es) + cond (isSetOn s q e) 1 0
+unfolding setsOn
+sets-snoc s q es e = filter-length-snoc (isSetOn s q) es e
+
+-- ---- the tables with one record more
+
+module _ (t : Tables) (b : List ℕ) (s : Sound t) (wide : length (t .counters .held) ≡ mostSites)
+    (a : Admitted t b) where
+  abbrev e : Edit
+  e = decodeOf b
+
+  abbrev n : ℕ
+  n = t .counters .records
+
+  abbrev rs : List ℕ
+  rs = t .records
+
+  abbrev rs′ : List ℕ
+  rs′ = putRecord rs n b
+
+  pub room : n * recordLength + recordLength ≤ length rs
+  room = omega (arith, s .records-long, a .room)
+
+  pub held-after : editsOf rs′ (n + 1) ≡ heldBy t ++ (e ∷ [])
+  held-after = ap (editsOf rs′) (add-one n) ∙ put-edits rs n b (a .whole) room
+
+  pub records-long-after : length rs′ ≡ recordsLength
+  records-long-after = put-long rs n b (a .whole) room ∙ s .records-long
+
+  -- the counts of the sites
+  pub counts-after :
+      (x : ℕ) → x < mostSites →
+      getD (set (t .counters .held) (e .site .0) (getD (t .counters .held) (e .site .0) 0 + 1)) x 0
+      ≡ countFrom x (editsOf rs′ (n + 1))
+  counts-after x l =
+      let h = t .counters .held in
+      let y = e .site .0 in
+      let grown : countFrom x (editsOf rs′ (n + 1)) ≡ countFrom x (heldBy t) + cond (eqb y x) 1 0
+      = ap (countFrom x) held-after ∙ count-snoc x (heldBy t) e in
+      elim (ℕ-discrete x y) [
+        | yes q ↦
+            (let m : y < length h = omega arith in
+            rw (grown, q, eq-eqb y y refl, getD-set-same h y (getD h y 0 + 1) 0 m)
+            (ap (λ (k : ℕ). k + 1) (s .held y (omega arith))))
+        | no q ↦
+            (let d : y ≡ x → ⊥ = λ r. q (sym r) in
+            rw (grown, ne-eqb y x d, getD-set-other h y x (getD h y 0 + 1) 0 q)
+            (s .held x l ∙ omega arith))
+      ]
+
+  -- the records pass 1 to 5 in their order
+  pub pass-after : recordsPass (t .counters .sites) rs′ (n + 1) ≡ true
+  unfolding recordsPass
+  pass-after =
+      let f : ℕ → Bool = λ p. passes (t .counters .sites) (editsOf rs p) (recordAt rs p) in
+      let f′ : ℕ → Bool = λ p. passes (t .counters .sites) (editsOf rs′ p) (recordAt rs′ p) in
+      rw (add-one n)
+      (all-on (suc n) f′ (λ p l. elim (last l) [
+        | inl m ↦
+            rw (put-edits-before rs n b (a .whole) room p (omega arith), put-before rs n b (a .whole) room p m)
+            (all-at n f (s .pass) p m)
+        | inr q ↦
+            rw (q, put-edits-before rs n b (a .whole) room n (omega arith), put-here rs n b (a .whole) room)
+            (admitted-passes t b a)
+      ]))
+
+  -- past the last record there are zeros
+  pub records-zero-after : ZeroFrom rs′ ((n + 1) * recordLength)
+  records-zero-after i l k =
+      put-after rs n b (a .whole) room i (omega arith)
+      ∙ s .records-zero i (omega arith) (omega (arith, put-long rs n b (a .whole) room))
+
+  -- the place p < n, looked at after the edit
+  module _ (p : ℕ) (l : p < n) where
+    same : recordAt rs′ p ≡ recordAt rs p
+    same = put-before rs n b (a .whole) room p l
+
+    create-after : isCreate (recordAt rs′ p) ≡ isCreate (recordAt rs p)
+    create-after = ap isCreate same
+
+    number-after : length (creates (editsOf rs′ p)) ≡ length (creates (editsOf rs p))
+    number-after =
+        ap (λ (es : List Edit). length (creates es)) (put-edits-before rs n b (a .whole) room p (omega arith))
+
+    -- the Sets on the Create in it are those before and the edit, if it is one
+    sets-after :
+        length (setsOn (recordAt rs′ p .site) (recordAt rs′ p .seq) (editsOf rs′ (n + 1)))
+        ≡ length (setsOn (recordAt rs p .site) (recordAt rs p .seq) (heldBy t))
+        + cond (isSetOn (recordAt rs p .site) (recordAt rs p .seq) e) 1 0
+    sets-after =
+        ap (λ (r : Edit). length (setsOn (r .site) (r .seq) (editsOf rs′ (n + 1)))) same
+        ∙ ap (λ (es : List Edit). length (setsOn (recordAt rs p .site) (recordAt rs p .seq) es)) held-after
+        ∙ sets-snoc (recordAt rs p .site) (recordAt rs p .seq) (heldBy t) e
+
+  -- an object that the edit is no Set of
+  pub entry-kept :
+      (o p k : ℕ) → Entry rs n o p k → isSetOn (recordAt rs p .site) (recordAt rs p .seq) e ≡ false →
+      Entry rs′ (n + 1) o p k
+  entry-kept o p k x d =
+      record {
+        place = omega (arith, x .place);
+        create = create-after p (x .place) ∙ x .create;
+        number = number-after p (x .place) ∙ x .number;
+        sets = x .sets ∙ sym (sets-after p (x .place) ∙ rw d (omega arith));
+        few = x .few;
+      }
+
+  -- the object whose Set it is has one more
+  pub entry-grown :
+      (o p k : ℕ) → Entry rs n o p k → isSetOn (recordAt rs p .site) (recordAt rs p .seq) e ≡ true →
+      k + 1 ≤ mostSets → Entry rs′ (n + 1) o p (k + 1)
+  entry-grown o p k x d few =
+      record {
+        place = omega (arith, x .place);
+        create = create-after p (x .place) ∙ x .create;
+        number = number-after p (x .place) ∙ x .number;
+        sets = ap (λ (m : ℕ). m + 1) (x .sets) ∙ sym (sets-after p (x .place) ∙ rw d);
+        few = few;
+      }

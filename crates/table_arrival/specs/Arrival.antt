@@ -1,0 +1,71 @@
+-- What an arriving edit does: 8, then 1 to 7 in turn, the first that applies; else the tables with the Create or the
+-- Set in. Assumes nothing.
+use Prim.Native.Nat.{ℕ, _+_, _-_, _*_}
+use mathlib.Core.List.{List, _++_}
+use mathlib.Core.Bool.{cond}
+use lib.ListN.{getD, set, length, take, drop, replicate}
+use lib.Dec.{eqb}
+use Rattle.edit_record.specs.declared.Site.{Site}
+use Rattle.edit_record.specs.Layout.{recordLength}
+use Rattle.edit_record.specs.RecordBytes.{decodeOf}
+use Rattle.edit_record.specs.Answer1.{isCreate}
+use Rattle.edit_history.specs.EditsHeld.{objectOf}
+use Rattle.group_step.specs.GroupRows.{mostGroups, putRow}
+use Rattle.table_drawing.specs.declared.Counters.{Counters}
+use Rattle.table_drawing.specs.Tables.{Tables, tablesOf, entryLength, heldBy}
+use Rattle.table_drawing.specs.AnswerNumbers.{Outcome, outcomeOf}
+use Rattle.table_soundness.specs.Sound.{sound}
+use Rattle.table_arrival.specs.Answers6and7.{answerTo, groupsAfter, matesOf}
+
+-- ---- the tables after an accepted edit
+
+-- one record more, of site s, and d objects more
+abbrev pub counted : Counters → Site → ℕ → Counters
+counted c s d =
+    record {
+      sites = c .sites;
+      records = c .records + 1;
+      objects = c .objects + d;
+      held = set (c .held) (s .0) (getD (c .held) (s .0) 0 + 1);
+    }
+
+-- the record b in place p
+abbrev pub putRecord : List ℕ → ℕ → List ℕ → List ℕ
+putRecord rs p b = take (p * recordLength) rs ++ (b ++ drop (p * recordLength + recordLength) rs)
+
+-- the entry of object o: the place of its Create, its number of Sets and its number of groups
+abbrev pub putCounts : List ℕ → ℕ → ℕ → ℕ → List ℕ
+putCounts os o k g = set (set os (o * entryLength + 1) k) (o * entryLength + 2) g
+
+abbrev pub putEntry : List ℕ → ℕ → ℕ → ℕ → ℕ → List ℕ
+putEntry os o p k g = putCounts (set os (o * entryLength) p) o k g
+
+-- a Create adds one object with the empty group, which is 0
+unfoldable pub withCreate : Tables → List ℕ → Tables
+withCreate t b =
+    let c = t .counters in
+    tablesOf (counted c (decodeOf b .site) 1) (putRecord (t .records) (c .records) b)
+    (putEntry (t .objects) (c .objects) (c .records) 0 1)
+    (t .groups)
+
+unfoldable pub withSet : Tables → List ℕ → Tables
+withSet t b =
+    let c = t .counters in
+    let e = decodeOf b in
+    let o = objectOf e (heldBy t) in
+    let gs = groupsAfter t e in
+    tablesOf (counted c (e .site) 0) (putRecord (t .records) (c .records) b)
+    (putCounts (t .objects) o (length (matesOf t e) + 1) (length gs))
+    (putRow o (t .groups) (gs ++ replicate (mostGroups - length gs) 0))
+
+-- ---- the arrival
+
+abbrev pub taken : Tables → List ℕ → Tables
+taken t b = cond (isCreate (decodeOf b)) (withCreate t b) (withSet t b)
+
+-- at tables that are known to be sound
+unfoldable pub acceptanceOf : Tables → List ℕ → Outcome
+acceptanceOf t b = cond (eqb (answerTo t b) 0) (outcomeOf 0 (taken t b)) (outcomeOf (answerTo t b) t)
+
+unfoldable pub arrivalOf : Tables → List ℕ → Outcome
+arrivalOf t b = cond (sound t) (acceptanceOf t b) (outcomeOf 8 t)

@@ -1,0 +1,3 @@
+pub mod Arrival
+pub mod ArrivalForms
+pub mod Answers6and7

@@ -1,0 +1,284 @@
+// What an arriving edit does to the tables: document 01, 'Numbers given back' and 'Conflict, groups, identifiers'.
+use edit_history::RECORDS;
+use edit_history::Surveyed;
+use edit_record::CREATE;
+use edit_record::Edit;
+use edit_record::RECORD;
+use edit_record::SET;
+use edit_record::Site;
+use group_step::OBJECTS;
+use table_drawing::Answer;
+use table_drawing::Counters;
+use table_drawing::ENTRY;
+ghost use mathlib.Core.Path.{_≡_};
+ghost use mathlib.Core.Bool.{true};
+ghost use mathlib.Core.List.{[], _∷_};
+ghost use Prim.Native.Nat.{_+_, _≤_, _<_};
+ghost use lib.ListN.{length, getD};
+ghost use Rattle.edit_record.specs.Layout.{recordLength, twoBytes};
+ghost use Rattle.edit_record.specs.RecordBytes.{decodeOf};
+ghost use Rattle.edit_history.specs.EditsHeld.{mostRecords, editsOf};
+ghost use Rattle.edit_history.specs.SurveyForms.{surveyOf};
+ghost use Rattle.group_step.specs.GroupRows.{mostObjects};
+ghost use Rattle.table_drawing.specs.Tables.{tablesOf, recordsLength, objectsLength};
+ghost use Rattle.table_drawing.specs.AnswerNumbers.{outcomeOf, numberOf};
+ghost use Rattle.table_soundness.specs.Sound.{sound};
+ghost use Rattle.table_arrival.specs.Answers6and7.{firstOf};
+ghost use Rattle.table_arrival.specs.Arrival.{counted, putRecord, putCounts, putEntry, acceptanceOf, arrivalOf};
+ghost use Rattle.table_arrival.specs.ArrivalForms.{fullWith, sixBy, Ready};
+
+// An answer to an arriving edit, and the counters after it.
+#[repr(C)]
+pub struct Arrived {
+    pub answer: Answer,
+    pub counters: Counters,
+}
+
+// The bytes of the record src into d.
+fn copy_record(d: &mut [u8], src: &[u8])
+    requires { ⌜ (length (now d) ≡ recordLength) × (length (now src) ≡ recordLength) ⌝ }
+    ensures { λ r. ⌜ now (d .exit) ≡ now (src .entry) ⌝ }
+{
+    let mut i: usize = 0;
+    while i < RECORD {
+        d[i] = src[i];
+        i += 1;
+    }
+}
+
+// The record rec in place p.
+fn put_record(recs: &mut [u8], p: usize, rec: &[u8])
+    requires { ⌜ (p < mostRecords) × (length (now recs) ≡ recordsLength) × (length (now rec) ≡ recordLength) ⌝ }
+    ensures { λ r. ⌜ now (recs .exit) ≡ putRecord (now (recs .entry)) p (now (rec .entry)) ⌝ }
+{
+    let at = p * RECORD;
+    let end = at + RECORD;
+    copy_record(&mut recs[at..end], rec);
+}
+
+// The number of Sets and the number of groups in the entry of object o.
+fn put_counts(objects: &mut [u16], o: usize, k: u16, g: u16)
+    requires { ⌜ (o < mostObjects) × (length (now objects) ≡ objectsLength) ⌝ }
+    ensures { λ r. ⌜ now (objects .exit) ≡ putCounts (now (objects .entry)) o k g ⌝ }
+{
+    let at = o * ENTRY;
+    objects[at + 1] = k;
+    objects[at + 2] = g;
+}
+
+// The entry of a new object o: the place of its Create, no Sets, and one group.
+fn put_object(objects: &mut [u16], o: usize, p: u16)
+    requires { ⌜ (o < mostObjects) × (length (now objects) ≡ objectsLength) ⌝ }
+    ensures { λ r. ⌜ now (objects .exit) ≡ putEntry (now (objects .entry)) o p 0 1 ⌝ }
+{
+    let at = o * ENTRY;
+    objects[at] = p;
+    objects[at + 1] = 0;
+    objects[at + 2] = 1;
+}
+
+// The counters with one record more, of site s, and d objects more.
+fn counted_with(c: Counters, s: Site, d: u16) -> Counters
+    requires { ⌜ (c .records < mostRecords) × (c .objects + d < twoBytes) × (getD (c .held) (s .0) 0 < mostRecords) ⌝ }
+    ensures { λ r. ⌜ r ≡ counted c s d ⌝ }
+{
+    let v = c.held;
+    let held = edit_history::bumped(v, s);
+    Counters {
+        sites: c.sites,
+        records: c.records + 1,
+        objects: c.objects + d,
+        held,
+    }
+}
+
+// Whether 6 applies to an edit whose object has k Sets.
+fn is_full(c: Counters, e: Edit, k: usize) -> bool
+    ensures { λ r. ⌜ r ≡ fullWith c e k ⌝ }
+{
+    (RECORDS <= c.records as usize)
+        | ((e.kind == CREATE) & (OBJECTS <= c.objects as usize))
+        | ((e.kind == SET) & (group_step::SETS <= k))
+}
+
+// The first of 1 to 6 whose reason is present.
+fn first_reason(one: bool, two: bool, three: bool, four: bool, five: bool, six: bool) -> Answer
+    ensures { λ r. ⌜ numberOf r ≡ firstOf 1 (one ∷ two ∷ three ∷ four ∷ five ∷ six ∷ []) ⌝ }
+{
+    if one {
+        return Answer::Malformed;
+    }
+    if two {
+        return Answer::Repeated;
+    }
+    if three {
+        return Answer::Early;
+    }
+    if four {
+        return Answer::Torn;
+    }
+    if five {
+        return Answer::Astray;
+    }
+    if six {
+        return Answer::Full;
+    }
+    Answer::Done
+}
+
+// 1 to 6, the first that applies to an edit e of so many bytes, from the counters and the survey of the records.
+fn refusal(c: Counters, bytes: usize, e: Edit, v: Surveyed) -> Answer
+    ensures { λ r. ⌜ numberOf r ≡ firstOf 1 (sixBy c bytes e v) ⌝ }
+{
+    let held = c.held;
+    let one = (bytes != RECORD) | edit_record::is_unfit(c.sites, e);
+    let two = edit_history::is_repeated(held, e);
+    let three = edit_history::is_early(held, e);
+    let five = (e.kind == SET) & !v.found;
+    let six = is_full(c, e, v.sets);
+    first_reason(one, two, three, v.torn, five, six)
+}
+
+// Takes a Create that passes 1 to 6: its record, its object's entry and the counters after it.
+fn take_create(
+    c: Counters,
+    records: &mut [u8],
+    objects: &mut [u16],
+    rec: &[u8],
+    s: Site,
+) -> Counters
+    requires { ⌜ (c .records < mostRecords)
+        × (c .objects < mostObjects)
+        × (length (now records) ≡ recordsLength)
+        × (length (now objects) ≡ objectsLength)
+        × (length (now rec) ≡ recordLength)
+        × (getD (c .held) (s .0) 0 < mostRecords) ⌝ }
+    ensures { λ r. ⌜ (r ≡ counted c s 1)
+        × (now (records .exit) ≡ putRecord (now (records .entry)) (c .records) (now (rec .entry)))
+        × (now (objects .exit) ≡ putEntry (now (objects .entry)) (c .objects) (c .records) 0 1) ⌝ }
+{
+    put_record(records, c.records as usize, rec);
+    put_object(objects, c.objects as usize, c.records);
+    counted_with(c, s, 1)
+}
+
+// Stores a Set on object o, which now has k Sets and g groups: its record, the entry's counts and the counters after
+// it.
+fn store_set(
+    c: Counters,
+    records: &mut [u8],
+    objects: &mut [u16],
+    rec: &[u8],
+    s: Site,
+    o: usize,
+    k: u16,
+    g: u16,
+) -> Counters
+    requires { ⌜ (c .records < mostRecords)
+        × (c .objects ≤ mostObjects)
+        × (o < mostObjects)
+        × (length (now records) ≡ recordsLength)
+        × (length (now objects) ≡ objectsLength)
+        × (length (now rec) ≡ recordLength)
+        × (getD (c .held) (s .0) 0 < mostRecords) ⌝ }
+    ensures { λ r. ⌜ (r ≡ counted c s 0)
+        × (now (records .exit) ≡ putRecord (now (records .entry)) (c .records) (now (rec .entry)))
+        × (now (objects .exit) ≡ putCounts (now (objects .entry)) o k g) ⌝ }
+{
+    put_record(records, c.records as usize, rec);
+    put_counts(objects, o, k, g);
+    counted_with(c, s, 0)
+}
+
+// Takes a Set that passes 1 to 6, or refuses it with 7 and leaves everything as it was.
+fn take_set(
+    c: Counters,
+    records: &mut [u8],
+    objects: &mut [u16],
+    groups: &mut [u64],
+    rec: &[u8],
+    e: Edit,
+    v: Surveyed,
+) -> Arrived
+    requires { ⌜ Ready (tablesOf c (now records) (now objects) (now groups)) (now rec) e v ⌝ }
+    ensures { λ r. ⌜ outcomeOf (numberOf (r .answer))
+        (tablesOf (r .counters) (now (records .exit)) (now (objects .exit)) (now (groups .exit)))
+        ≡ acceptanceOf (tablesOf c (now (records .entry)) (now (objects .entry)) (now (groups .entry)))
+        (now (rec .entry)) ⌝ }
+{
+    let o = v.object;
+    let k = v.sets;
+    let g = objects[o * ENTRY + 2];
+    let m = group_step::step_at(groups, o, g as usize, v.conflicts, k);
+    if group_step::GROUPS < m {
+        return Arrived {
+            answer: Answer::Crowded,
+            counters: c,
+        };
+    }
+    let d = store_set(c, records, objects, rec, e.site, o, k as u16 + 1, m as u16);
+    Arrived {
+        answer: Answer::Done,
+        counters: d,
+    }
+}
+
+// An arrival at tables that are known to be sound, as those that an arrival left are, of the record's edit e with its
+// survey v.
+pub fn accept(
+    c: Counters,
+    records: &mut [u8],
+    objects: &mut [u16],
+    groups: &mut [u64],
+    rec: &[u8],
+    e: Edit,
+    v: Surveyed,
+) -> Arrived
+    requires { ⌜ (sound (tablesOf c (now records) (now objects) (now groups)) ≡ true)
+        × (e ≡ decodeOf (now rec))
+        × (v ≡ surveyOf (editsOf (now records) (c .records)) e) ⌝ }
+    ensures { λ r. ⌜ outcomeOf (numberOf (r .answer))
+        (tablesOf (r .counters) (now (records .exit)) (now (objects .exit)) (now (groups .exit)))
+        ≡ acceptanceOf (tablesOf c (now (records .entry)) (now (objects .entry)) (now (groups .entry)))
+        (now (rec .entry)) ⌝ }
+{
+    let answer = refusal(c, rec.len(), e, v);
+    if table_drawing::number(answer) != 0 {
+        return Arrived {
+            answer,
+            counters: c,
+        };
+    }
+    if e.kind == CREATE {
+        let d = take_create(c, records, objects, rec, e.site);
+        return Arrived {
+            answer: Answer::Done,
+            counters: d,
+        };
+    }
+    take_set(c, records, objects, groups, rec, e, v)
+}
+
+// An arriving edit, any bytes, at any tables: 8, then 1 to 7 in turn, the first that applies; else the edit is taken.
+pub fn arrive(
+    c: Counters,
+    records: &mut [u8],
+    objects: &mut [u16],
+    groups: &mut [u64],
+    rec: &[u8],
+) -> Arrived
+    ensures { λ r. ⌜ outcomeOf (numberOf (r .answer))
+        (tablesOf (r .counters) (now (records .exit)) (now (objects .exit)) (now (groups .exit)))
+        ≡ arrivalOf (tablesOf c (now (records .entry)) (now (objects .entry)) (now (groups .entry)))
+        (now (rec .entry)) ⌝ }
+{
+    if !table_soundness::is_sound(c, records, objects, groups) {
+        return Arrived {
+            answer: Answer::Unsound,
+            counters: c,
+        };
+    }
+    let e = edit_record::decode(rec);
+    let v = edit_history::survey(records, c.records as usize, e);
+    accept(c, records, objects, groups, rec, e, v)
+}

@@ -1,0 +1,291 @@
+-- One record more in the index: a Create gets the next number and a row with no places yet, a Set's place is put behind
+-- those of its object. Assumes that the records pass and are within the limits.
+use mathlib.Core.Path.{_≡_, refl, sym, ap, _∙_}
+use mathlib.Core.Logic.{_⊎_, inl, inr}
+use mathlib.Core.Bool.{true, false, cond}
+use mathlib.Core.List.{List, [], _∷_, _++_}
+use Prim.Native.Nat.{ℕ, suc, _+_, _*_, _≤_, _<_}
+use native.Mathlib.Omega.{arith}
+use native.Mathlib.Decide.{ℕ-discrete}
+use lib.Dec.{eqb}
+use lib.ListN.{length, getD, set, replicate, length-set, length-append, List·getD-append}
+use lib.Seq.{getD-set-same, getD-set-other, getD-append-seam}
+use borrow.Author.Tests.{eqb-true, eq-eqb}
+use Rattle.math_lists.specs.SortedLists.{filter}
+use Rattle.math_lists.proofs.Booleans.{clash, off, both, and-on}
+use Rattle.math_lists.proofs.LastBelow.{last}
+use Rattle.math_lists.proofs.NumbersBelow.{all-at, all-on}
+use Rattle.math_lists.proofs.ByPlaces.{zero-anywhere}
+use Rattle.edit_record.specs.Answer1.{isCreate, isSet}
+use Rattle.edit_causal.specs.Causal.{sameEdit}
+use Rattle.edit_history.specs.EditsHeld.{mostRecords, recordAt, editsOf, creates, isSetOn, setsOn}
+use Rattle.edit_history.specs.Answers2to5.{passes, recordsPass}
+use Rattle.edit_walk.specs.WalkForms.{placesLength, placeOf, Indexed}
+use Rattle.edit_history.proofs.EditsHeld.{target-parts, create-less, chosen-grow, chosen-more}
+use Rattle.edit_history.proofs.RecordsPassed.{formed-at, one-place, target-before, set-after}
+use Rattle.edit_walk.proofs.WalkKeeps.{spot, indexed-more}
+use Rattle.group_step.specs.GroupRows.{mostObjects, mostSets}
+use Rattle.table_drawing.specs.declared.Counters.{Counters}
+use Rattle.table_index.specs.IndexForms.{numberAt, isOn, placesOn, membersLength, IndexOf, Holds}
+use Rattle.table_index.proofs.PlacesOfSets.{places-added, places-stay, places-none, places-length, one-number}
+use Rattle.edit_record.proofs.WellFormed.{create-not-set}
+
+-- ---- the start
+
+pub index-starts :
+    (rs ps ns ms : List ℕ) → length ps ≡ placesLength → length ns ≡ mostRecords → length ms ≡ membersLength →
+    IndexOf rs 0 ps ns (replicate mostObjects 0) ms
+index-starts rs ps ns ms a b d =
+    record {
+      places-long = a;
+      numbers-long = b;
+      counts-long = refl;
+      members-long = d;
+      indexed = λ p l. absurd (omega arith);
+      numbered = λ p l. absurd (omega arith);
+      counted = λ p l. absurd (omega arith);
+      rows = λ p l. absurd (omega arith);
+      fresh = λ o l. zero-anywhere mostObjects o;
+    }
+
+pub none-numbered : (rs : List ℕ) → 0 ≡ numberAt rs 0
+unfolding creates editsOf filter
+none-numbered rs = refl
+
+-- ---- one record more
+
+-- a Create is no Set
+module _ (c : Counters) (rs : List ℕ) (h : Holds c rs) (n : ℕ) (l : n < c .records) where
+  -- a Set on the Create in place p has the identity of that Create for its target
+  on-target :
+      (p q : ℕ) → isOn rs p q ≡ true →
+      (isSet (recordAt rs q) ≡ true)
+      × (recordAt rs q .tsite .0 ≡ recordAt rs p .site .0)
+      × (recordAt rs q .tseq .0 ≡ recordAt rs p .seq .0)
+  on-target p q on =
+      let e = recordAt rs q in
+      let a = recordAt rs p in
+      let (set, same) = both (isSet e) (sameEdit (e .tsite) (e .tseq) (a .site) (a .seq)) on in
+      let (site, seq) = both (eqb (e .tsite .0) (a .site .0)) (eqb (e .tseq .0) (a .seq .0)) same in
+      (set, eqb-true (e .tsite .0) (a .site .0) site, eqb-true (e .tseq .0) (a .seq .0) seq)
+
+  -- the first records pass too
+  pass-below : (m : ℕ) → m ≤ c .records → recordsPass (c .sites) rs m ≡ true
+  unfolding recordsPass
+  pass-below m k =
+      all-on m (λ p. passes (c .sites) (editsOf rs p) (recordAt rs p))
+      (λ p j. all-at (c .records) (λ q. passes (c .sites) (editsOf rs q) (recordAt rs q)) (h .pass) p (omega arith))
+
+  numbers-few : (m : ℕ) → m ≤ c .records → numberAt rs m ≤ mostObjects
+  unfolding creates
+  numbers-few m k =
+      let all : c .objects ≡ numberAt rs (c .records) = h .objects in
+      omega (arith, chosen-grow isCreate rs m (c .records) k, h .few-objects)
+
+  numbers-grow : numberAt rs n ≤ numberAt rs (suc n)
+  unfolding creates
+  numbers-grow = chosen-grow isCreate rs n (suc n) (omega arith)
+
+  pub number-low : numberAt rs n ≤ mostObjects
+  number-low = numbers-few n (omega arith)
+
+  pub number-more : numberAt rs (suc n) ≡ numberAt rs n + cond (isCreate (recordAt rs n)) 1 0
+  unfolding creates
+  number-more = chosen-more isCreate rs n
+
+  places-few : (m p : ℕ) → m ≤ c .records → length (placesOn rs m p) ≤ mostSets
+  unfolding setsOn
+  places-few m p k =
+      let s = recordAt rs p .site in
+      let q = recordAt rs p .seq in
+      omega (
+        arith,
+        places-length rs p m,
+        chosen-grow (isSetOn s q) rs m (c .records) k,
+        h .few-sets s q,
+      )
+
+  module _ (ps ns cs ms : List ℕ) (x : IndexOf rs n ps ns cs ms) where
+    abbrev at : ℕ
+    at = recordAt rs n .site .0 * mostRecords + recordAt rs n .seq .0
+
+    placed : Indexed rs (suc n) (set ps at n)
+    placed =
+        indexed-more (c .sites) (h .few-sites) rs n (pass-below (suc n) l) ps (omega (arith, h .few-records))
+        (x .places-long) (x .indexed)
+
+    pub spot-low : at < placesLength
+    spot-low = spot (c .sites) (h .few-sites) rs n (pass-below (suc n) l) (omega (arith, h .few-records))
+
+    -- ---- a Create
+
+    module _ (create : isCreate (recordAt rs n) ≡ true) where
+      not-on : (p : ℕ) → isOn rs p n ≡ false
+      not-on p = off (isOn rs p n) (λ on. clash (on-target p n on .0) (create-not-set (recordAt rs n) create))
+
+      -- no Set can have named it
+      none-on : placesOn rs (suc n) n ≡ []
+      none-on =
+          places-none rs n (suc n)
+          (λ q k. off (isOn rs n q) (λ on. elim (last k) [
+            | inl m ↦ omega (arith, set-after (c .sites) rs (c .records) (h .pass) n q l (omega arith) on)
+            | inr e ↦ clash (rw e at on) (not-on n)
+          ]))
+
+      pub create-added : IndexOf rs (suc n) (set ps at n) (set ns n (numberAt rs n)) cs ms
+      create-added =
+          record {
+            places-long = simp length-set (x .places-long);
+            numbers-long = simp length-set (x .numbers-long);
+            counts-long = x .counts-long;
+            members-long = x .members-long;
+            indexed = placed;
+            numbered = λ p k cp. elim (last k) [
+              | inl m ↦ getD-set-other ns n p (numberAt rs n) 0 (λ e. absurd (omega arith)) ∙ x .numbered p m cp
+              | inr e ↦
+                  rw e (getD-set-same ns n (numberAt rs n) 0
+                  (omega (arith, x .numbers-long, h .few-records)))
+            ];
+            counted = λ p k cp. elim (last k) [
+              | inl m ↦ x .counted p m cp ∙ ap length (sym (places-stay rs p n (not-on p)))
+              | inr e ↦ rw (e, none-on) (x .fresh (numberAt rs n) (omega arith))
+            ];
+            rows = λ p k cp i j. elim (last k) [
+              | inl m ↦
+                  (let same = places-stay rs p n (not-on p) in
+                  x .rows p m cp i (rw same at j) ∙ ap (λ (y : List ℕ). getD y i 0) (sym same))
+              | inr e ↦ absurd (none-short (rw e at j))
+            ];
+            fresh = λ o k. x .fresh o (omega (arith, numbers-grow));
+          }
+        where
+          none-short : {i : ℕ} → i < length (placesOn rs (suc n) n) → ⊥
+          none-short j = let e = ap length none-on in omega arith
+
+    -- ---- a Set
+
+    -- its target is a Create before it, and the index says where
+    pub target-at :
+        isCreate (recordAt rs n) ≡ false →
+        (q : ℕ)
+        × (q < n)
+        × (isCreate (recordAt rs q) ≡ true)
+        × (isOn rs q n ≡ true)
+        × (placeOf (set ps at n) (recordAt rs n .tsite .0) (recordAt rs n .tseq .0) ≡ q)
+    target-at d =
+        let e = recordAt rs n in
+        let is : isSet e ≡ true
+        = elim (formed-at (c .sites) rs (c .records) (h .pass) n l .kind) [ inl y ↦ clash y d | inr y ↦ y ] in
+        let (q, m, t) = target-before (c .sites) rs (c .records) (h .pass) n l is in
+        let a = recordAt rs q in
+        let parts = target-parts e a t in (
+          q,
+          m,
+          parts .create,
+          and-on (isSet e) (sameEdit (e .tsite) (e .tseq) (a .site) (a .seq)) is
+              (and-on (eqb (e .tsite .0) (a .site .0)) (eqb (e .tseq .0) (a .seq .0))
+              (eq-eqb (e .tsite .0) (a .site .0) (sym (parts .site)))
+              (eq-eqb (e .tseq .0) (a .seq .0) (sym (parts .seq)))),
+          rw (parts .site, parts .seq) at (placed q (omega arith)),
+        )
+
+    -- on the Create in place q
+
+    module _ (q : ℕ) (m : q < n) (create : isCreate (recordAt rs q) ≡ true) (on : isOn rs q n ≡ true) where
+      abbrev o : ℕ
+      o = numberAt rs q
+
+      abbrev k : ℕ
+      k = getD cs o 0
+
+      count : k ≡ length (placesOn rs n q)
+      count = x .counted q m create
+
+      grown : placesOn rs (suc n) q ≡ placesOn rs n q ++ (n ∷ [])
+      grown = places-added rs q n on
+
+      grown-length : length (placesOn rs (suc n) q) ≡ suc k
+      grown-length = ap length grown ∙ length-append (placesOn rs n q) (n ∷ []) ∙ omega (arith, count)
+
+      pub room : k < mostSets
+      room = omega (arith, grown-length, places-few (suc n) q l)
+
+      pub low : o < mostObjects
+      low = omega (arith, create-less rs q n m create, numbers-few n (omega arith))
+
+      -- the others stay as they are
+      other : (p : ℕ) → p < n → isCreate (recordAt rs p) ≡ true → (p ≡ q → ⊥) →
+          (placesOn rs (suc n) p ≡ placesOn rs n p) × (numberAt rs p ≡ o → ⊥)
+      other p j cp d = (
+        places-stay rs p n (off (isOn rs p n) (λ y.
+            let (s, a, b) = on-target p n y in
+            let (s′, a′, b′) = on-target q n on in
+            d (one-place (c .sites) rs (c .records) (h .pass) p q (omega arith) (omega arith) (sym a ∙ a′)
+            (sym b ∙ b′)))),
+        λ e. d (one-number rs p q cp create e),
+      )
+
+      is-set : isSet (recordAt rs n) ≡ true
+      is-set = on-target q n on .0
+
+      newer : {A : Type 0} {p : ℕ} → p ≡ n → isCreate (recordAt rs p) ≡ true → A
+      newer e cp = clash is-set (create-not-set (recordAt rs n) (rw e at cp))
+
+      pub set-added : IndexOf rs (suc n) (set ps at n) ns (set cs o (k + 1)) (set ms (o * mostSets + k) n)
+      set-added =
+          record {
+            places-long = simp length-set (x .places-long);
+            numbers-long = x .numbers-long;
+            counts-long = simp length-set (x .counts-long);
+            members-long = simp length-set (x .members-long);
+            indexed = placed;
+            numbered = λ p j cp. elim (last j) [ inl i ↦ x .numbered p i cp | inr e ↦ newer e cp ];
+            counted = λ p j cp. elim (last j) [ inl i ↦ counted-at p i cp (ℕ-discrete p q) | inr e ↦ newer e cp ];
+            rows = λ p j cp i b.
+                elim (last j) [ inl y ↦ row-at p y cp i b (ℕ-discrete p q) | inr e ↦ newer e cp ];
+            fresh = λ p j.
+                getD-set-other cs o p (k + 1) 0
+                (λ e. absurd
+                (omega (arith, create-less rs q n m create, numbers-grow)))
+                ∙ x .fresh p (omega (arith, numbers-grow));
+          }
+        where
+          counted-at :
+              (p : ℕ) → p < n → isCreate (recordAt rs p) ≡ true → Dec (p ≡ q) →
+              getD (set cs o (k + 1)) (numberAt rs p) 0 ≡ length (placesOn rs (suc n) p)
+          counted-at p j cp (yes e) =
+              rw (e, getD-set-same cs o (k + 1) 0 (omega (arith, x .counts-long, low)))
+              (omega (arith, grown-length))
+          counted-at p j cp (no d) =
+              getD-set-other cs o (numberAt rs p) (k + 1) 0 (other p j cp d .1)
+              ∙ x .counted p j cp
+              ∙ ap length (sym (other p j cp d .0))
+
+          row-at :
+              (p : ℕ) → p < n → isCreate (recordAt rs p) ≡ true → (i : ℕ) → i < length (placesOn rs (suc n) p) →
+              Dec (p ≡ q) →
+              getD (set ms (o * mostSets + k) n) (numberAt rs p * mostSets + i) 0 ≡ getD (placesOn rs (suc n) p) i 0
+          row-at p j cp i b (yes e) = rw e (own (last own-low))
+            where
+              own-low : i < suc k
+              own-low = omega (arith, grown-length, (rw e at b))
+
+              own : (i < k) ⊎ (i ≡ k) →
+                  getD (set ms (o * mostSets + k) n) (o * mostSets + i) 0 ≡ getD (placesOn rs (suc n) q) i 0
+              own (inl y) =
+                  getD-set-other ms (o * mostSets + k) (o * mostSets + i) n 0 (λ z. absurd (omega arith))
+                  ∙ x .rows q m create i (omega (arith, count))
+                  ∙ sym (List·getD-append (placesOn rs n q) (n ∷ []) 0 i (omega (arith, count)))
+                  ∙ ap (λ (y : List ℕ). getD y i 0) (sym grown)
+              own (inr y) =
+                  rw (y, getD-set-same ms (o * mostSets + k) n 0 (omega (arith, x .members-long, low, room)))
+                  (sym (ap (λ (z : ℕ). getD (placesOn rs n q ++ (n ∷ [])) z 0) count
+                  ∙ getD-append-seam (placesOn rs n q) n [] 0)
+                  ∙ ap (λ (z : List ℕ). getD z k 0) (sym grown))
+          row-at p j cp i b (no d) =
+              let (same, apart) = other p j cp d in
+              let short : i < length (placesOn rs n p) = rw same at b in
+              getD-set-other ms (o * mostSets + k) (numberAt rs p * mostSets + i) n 0
+              (λ z. apart (omega (arith, room, places-few n p (omega arith))))
+              ∙ x .rows p j cp i short
+              ∙ ap (λ (y : List ℕ). getD y i 0) (sym same)

@@ -1,0 +1,247 @@
+-- The survey by the index is the survey of the edits held, for an edit to which none of 1 to 3 applies: a Create has no
+-- target, and a Set whose target is held has it where the index says. Assumes that the records pass and are within the
+-- limits.
+use mathlib.Core.Path.{_≡_, refl, sym, ap, ap₂, _∙_}
+use mathlib.Core.Logic.{_⊎_, inl, inr}
+use mathlib.Core.Bool.{Bool, true, false, not, _&&_, _||_, cond}
+use mathlib.Core.List.{List, [], _∷_, map}
+use Prim.Native.Nat.{ℕ, zero, suc, _+_, _*_, _≤_, _<_}
+use native.Mathlib.Omega.{arith}
+use lib.Dec.{eqb}
+use lib.ListN.{length, getD, take, drop}
+use borrow.Author.Tests.{eqb-true, not-true}
+use Rattle.math_lists.specs.SortedLists.{any, filter}
+use Rattle.math_lists.proofs.Booleans.{clash, off, both, neither}
+use Rattle.math_lists.proofs.LastBelow.{last}
+use Rattle.edit_record.specs.declared.Site.{Site}
+use Rattle.edit_record.specs.declared.Seq.{Seq}
+use Rattle.edit_record.specs.declared.Edit.{Edit}
+use Rattle.edit_record.specs.Layout.{mostSites}
+use Rattle.edit_record.specs.Answer1.{isCreate, isSet, unfit}
+use Rattle.edit_record.proofs.WellFormed.{well-formed, create-aims-nowhere}
+use Rattle.edit_causal.specs.Causal.{sameEdit}
+use Rattle.edit_causal.proofs.Identities.{same-site, same-seq}
+use Rattle.edit_history.specs.EditsHeld.{recordAt, editsOf, creates, isSetOn, setsOn, isTarget, indexOf, objectOf}
+use Rattle.edit_history.specs.EditsHeld.{conflictsWith}
+use Rattle.edit_history.specs.Answers2to5.{isTorn}
+use Rattle.edit_history.specs.SurveyForms.{repeatedAgainst, earlyAgainst, surveyOf}
+use Rattle.edit_walk.specs.WalkForms.{placeOf, tornByLatest, targetHeld}
+use Rattle.edit_history.proofs.EditsHeld.{target-parts, any-edit-on, any-edit-at, chosen-more, create-less, object-snoc}
+use Rattle.edit_history.proofs.ByCounts.{repeated-against, early-against}
+use Rattle.edit_history.proofs.RecordsPassed.{InTurn, in-turn, formed-at, one-place, target-before}
+use Rattle.edit_walk.proofs.LatestDecides.{torn-same, target-same}
+use Rattle.group_step.specs.GroupRows.{mostObjects, mostSets}
+use Rattle.table_drawing.specs.declared.Counters.{Counters}
+use Rattle.table_index.specs.IndexForms.{numberAt, placesOn, IndexOf, Holds}
+use Rattle.table_index.proofs.PlacesOfSets.{places-sets, places-length, row-places}
+
+module _
+    (c : Counters)
+    (rs : List ℕ)
+    (h : Holds c rs)
+    (ps ns cs ms : List ℕ)
+    (x : IndexOf rs (c .records) ps ns cs ms) where
+  abbrev n : ℕ
+  n = c .records
+
+  abbrev es : List Edit
+  es = editsOf rs n
+
+  -- ---- the number of an object
+
+  object-one :
+      (e : Edit) (m : ℕ) →
+      objectOf e (editsOf rs (suc m))
+      ≡ objectOf e (editsOf rs m)
+      + cond (isCreate (recordAt rs m) && not (any (isTarget e) (editsOf rs m) || isTarget e (recordAt rs m))) 1 0
+  unfolding editsOf
+  object-one e m = object-snoc e (editsOf rs m) (recordAt rs m)
+
+  create-one : (m : ℕ) → numberAt rs (suc m) ≡ numberAt rs m + cond (isCreate (recordAt rs m)) 1 0
+  unfolding creates
+  create-one m = chosen-more isCreate rs m
+
+  none-among :
+      (e : Edit) (m : ℕ) → ((p : ℕ) → p < m → isTarget e (recordAt rs p) ≡ false) →
+      any (isTarget e) (editsOf rs m) ≡ false
+  none-among e m f =
+      off (any (isTarget e) (editsOf rs m))
+      (λ y. let (p, j, u) = any-edit-at (isTarget e) rs m y in
+      clash u (f p j))
+
+  -- where the target is not among them every Create counts
+  object-none :
+      (e : Edit) (m : ℕ) → ((p : ℕ) → p < m → isTarget e (recordAt rs p) ≡ false) →
+      objectOf e (editsOf rs m) ≡ numberAt rs m
+  unfolding objectOf creates indexOf editsOf filter
+  object-none e zero f = refl
+  object-none e (suc m) f =
+      object-one e m
+      ∙ rw (none-among e m (λ p l. f p (omega arith)), f m (omega arith)) (go (isCreate (recordAt rs m)))
+      ∙ ap (λ (k : ℕ). k + cond (isCreate (recordAt rs m)) 1 0) (object-none e m (λ p l. f p (omega arith)))
+      ∙ sym (create-one m)
+    where
+      go : (b : Bool) →
+          objectOf e (editsOf rs m) + cond (b && true) 1 0 ≡ objectOf e (editsOf rs m) + cond b 1 0
+      go true = refl
+      go false = refl
+
+  module _ (e : Edit) (q : ℕ) (l : q < n) (t : isTarget e (recordAt rs q) ≡ true) where
+    -- no other edit is the target
+    alone : (p : ℕ) → p < n → isTarget e (recordAt rs p) ≡ true → p ≡ q
+    alone p k u =
+        let a = target-parts e (recordAt rs p) u in
+        let b = target-parts e (recordAt rs q) t in
+        one-place (c .sites) rs n (h .pass) p q k l (a .site ∙ sym (b .site)) (a .seq ∙ sym (b .seq))
+
+    not-before : (p : ℕ) → p < q → isTarget e (recordAt rs p) ≡ false
+    not-before p k = off (isTarget e (recordAt rs p)) (λ u. let z = alone p (omega arith) u in omega arith)
+
+    -- after the target none does
+    object-after : (m : ℕ) → q < m → m ≤ n → objectOf e (editsOf rs m) ≡ numberAt rs q
+    object-after zero a b = absurd (omega arith)
+    object-after (suc m) a b = go (last a) (λ k. object-after m k (omega arith))
+      where
+        stays : (k : ℕ) (b : Bool) → k + cond (b && false) 1 0 ≡ k
+        stays k true = omega arith
+        stays k false = omega arith
+
+        go : (q < m) ⊎ (q ≡ m) → (q < m → objectOf e (editsOf rs m) ≡ numberAt rs q) →
+            objectOf e (editsOf rs (suc m)) ≡ numberAt rs q
+        go (inl k) ih =
+            object-one e m
+            ∙ rw (any-edit-on (isTarget e) rs m q k t) (stays (objectOf e (editsOf rs m)) (isCreate (recordAt rs m)))
+            ∙ ih k
+        go (inr z) ih =
+            object-one e m
+            ∙ rw (none-among e m (λ p k. not-before p (omega arith)), rw z at t)
+            (stays (objectOf e (editsOf rs m)) (isCreate (recordAt rs m)))
+            ∙ object-none e m (λ p k. not-before p (omega arith))
+            ∙ ap (numberAt rs) (sym z)
+
+    object-is : objectOf e es ≡ numberAt rs q
+    object-is = object-after n l (omega arith)
+
+  -- ---- an edit to which none of 1 to 3 applies
+
+  pub turn :
+      (e : Edit) → not (unfit (c .sites) e || repeatedAgainst (c .held) e || earlyAgainst (c .held) e) ≡ true →
+      InTurn (c .sites) es e × (unfit (c .sites) e ≡ false)
+  turn e y =
+      let u = unfit (c .sites) e in
+      let r = repeatedAgainst (c .held) e in
+      let a = earlyAgainst (c .held) e in
+      let (ur, early) = neither (u || r) a (not-true (u || r || a) y) in
+      let (fit, repeated) = neither u r ur in
+      let low : e .site .0 < mostSites = omega (arith, well-formed (c .sites) e fit .site, h .few-sites) in (
+        in-turn (c .sites) es e fit (sym (repeated-against (c .held) es (h .held) e low) ∙ repeated)
+            (sym (early-against (c .held) es (h .held) e low) ∙ early),
+        fit,
+      )
+
+  pub torn-is : (e : Edit) → InTurn (c .sites) es e → tornByLatest rs ps e ≡ isTorn es e
+  torn-is e t = torn-same (c .sites) (h .few-sites) rs n (h .pass) ps (x .indexed) e t
+
+  -- ---- a Create
+
+  no-sets : (f : Edit → Bool) (xs : List Edit) → any f xs ≡ false → filter f xs ≡ []
+  unfolding any filter
+  no-sets f [] y = refl
+  no-sets f (a ∷ xs) y = let (p, q) = neither (f a) (any f xs) y in rw p (no-sets f xs q)
+
+  module _ (e : Edit) (fit : unfit (c .sites) e ≡ false) (create : isCreate e ≡ true) where
+    no-target : e .tseq .0 ≡ 0
+    no-target = create-aims-nowhere (c .sites) e fit create
+
+    not-target : (p : ℕ) → p < n → isTarget e (recordAt rs p) ≡ false
+    not-target p l =
+        off (isTarget e (recordAt rs p))
+        (λ t. omega (
+          arith,
+          target-parts e (recordAt rs p) t .seq,
+          formed-at (c .sites) rs n (h .pass) p l .seq,
+          no-target,
+        ))
+
+    none-on : setsOn (e .tsite) (e .tseq) es ≡ []
+    unfolding setsOn
+    none-on =
+        no-sets (isSetOn (e .tsite) (e .tseq)) es
+        (off (any (isSetOn (e .tsite) (e .tseq)) es) (λ y.
+        let (p, l, on) = any-edit-at (isSetOn (e .tsite) (e .tseq)) rs n y in
+        let a = recordAt rs p in
+        let (set, same) = both (isSet a) (sameEdit (a .tsite) (a .tseq) (e .tsite) (e .tseq)) on in
+        let (_, seq) = both (eqb (a .tsite .0) (e .tsite .0)) (eqb (a .tseq .0) (e .tseq .0)) same in
+        let (u, k, t) = target-before (c .sites) rs n (h .pass) p l set in
+        omega (
+          arith,
+          target-parts a (recordAt rs u) t .seq,
+          formed-at (c .sites) rs n (h .pass) u (omega arith) .seq,
+          eqb-true (a .tseq .0) (e .tseq .0) seq,
+          no-target,
+        )))
+
+    pub create-surveyed :
+        (torn : Bool) → torn ≡ isTorn es e →
+        record { torn = torn; found = false; object = c .objects; sets = 0; conflicts = 0 } ≡ surveyOf es e
+    unfolding surveyOf conflictsWith
+    create-surveyed torn y =
+        rw (y, none-among e n not-target, object-none e n not-target, none-on, h .objects)
+
+  -- ---- a Set whose target is held
+
+  -- where its target stands, and what the index has of it
+  pub record Aimed (e : Edit) (q : ℕ) : Type 0 where
+    pub low : q < n
+    pub create : isCreate (recordAt rs q) ≡ true
+    pub number : getD ns q 0 ≡ objectOf e es
+    pub few : objectOf e es < mostObjects
+    pub count : getD cs (objectOf e es) 0 ≡ length (setsOn (e .tsite) (e .tseq) es)
+    pub sets :
+        map (recordAt rs) (take (getD cs (objectOf e es) 0) (drop (objectOf e es * mostSets) ms))
+        ≡ setsOn (e .tsite) (e .tseq) es
+
+  module _ (e : Edit) (long : length (c .held) ≡ mostSites) (on : targetHeld (c .held) rs ps e ≡ true) where
+    held : any (isTarget e) es ≡ true
+    held =
+        sym (target-same (c .sites) (h .few-sites) rs n (h .pass) ps (x .indexed) (c .held) long (h .held) e)
+        ∙ on
+
+    at-place : (q : ℕ) → q < n → isTarget e (recordAt rs q) ≡ true → Aimed e q
+    at-place q l t =
+        let parts = target-parts e (recordAt rs q) t in
+        let o = objectOf e es in
+        let is : o ≡ numberAt rs q = object-is e q l t in
+        let same : setsOn (recordAt rs q .site) (recordAt rs q .seq) es ≡ setsOn (e .tsite) (e .tseq) es
+        = ap₂ (λ (s : Site) (p : Seq). setsOn s p es) (same-site (recordAt rs q .site) (e .tsite) (parts .site))
+        (same-seq (recordAt rs q .seq) (e .tseq) (parts .seq)) in
+        let many : getD cs o 0 ≡ length (placesOn rs n q) = rw is (x .counted q l (parts .create)) in
+        let less : o < mostObjects
+        = omega (arith, create-less rs q n l (parts .create), h .objects, h .few-objects) in
+        let few : getD cs o 0 ≤ mostSets
+        = omega (arith, places-length rs q n, h .few-sets (recordAt rs q .site) (recordAt rs q .seq)) in
+        let part : take (getD cs o 0) (drop (o * mostSets) ms) ≡ placesOn rs n q
+        = rw (many, is)
+        (row-places rs n ps ns cs ms x q l (parts .create) (omega arith) (omega (arith, is)) .1) in
+        record {
+          low = l;
+          create = parts .create;
+          number = x .numbered q l (parts .create) ∙ sym is;
+          few = less;
+          count = many ∙ places-length rs q n ∙ ap length same;
+          sets = ap (map (recordAt rs)) part ∙ places-sets rs q n ∙ same;
+        }
+
+    pub aimed : Aimed e (placeOf ps (e .tsite .0) (e .tseq .0))
+    aimed =
+        let (q, l, t) = any-edit-at (isTarget e) rs n held in
+        let parts = target-parts e (recordAt rs q) t in
+        let at : placeOf ps (e .tsite .0) (e .tseq .0) ≡ q = rw (parts .site, parts .seq) at (x .indexed q l) in
+        rw at (at-place q l t)
+
+    pub target-surveyed :
+        (torn : Bool) (k : ℕ) (m : ℕ) → torn ≡ isTorn es e → k ≡ getD cs (objectOf e es) 0 →
+        m ≡ conflictsWith e (setsOn (e .tsite) (e .tseq) es) →
+        record { torn = torn; found = true; object = objectOf e es; sets = k; conflicts = m } ≡ surveyOf es e
+    unfolding surveyOf
+    target-surveyed torn k m y z w = rw (y, z, w, held, aimed .count)

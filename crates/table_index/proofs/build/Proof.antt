@@ -1,0 +1,91 @@
+-- `table_index::build` meets its contract: after i records, the index is that of the first i. Assumes nothing.
+use mathlib.Core.Path.{_≡_, refl, sym, _∙_}
+use Prim.Native.Nat.{_≤_, _-_}
+use native.Mathlib.Omega.{arith}
+use denote.Ref.{now}
+use Rattle.table_index.specs.IndexForms.{numberAt, IndexOf}
+use Rattle.table_index.proofs.OneRecordMore.{index-starts, none-numbered}
+use borrow.Author.Needs.{needs}
+use Rattle.table_index.proofs.build.Statement.{statement}
+use Rattle.table_index.proofs.build.Tie as tie
+
+abbrev Inv-loop : tie.InvT-loop
+Inv-loop recs n places₀ numbers₀ counts₀ members₀ m₀ i₀ places numbers counts members m i =
+    (i ≤ n) × IndexOf recs i places numbers counts members × (m ≡ numberAt recs i)
+
+abbrev μ-loop : tie.MeasureT-loop
+μ-loop recs n places₀ numbers₀ counts₀ members₀ m₀ i₀ places numbers counts members m i = n - i
+
+loop-holds : tie.Need-loop-holds Inv-loop μ-loop
+loop-holds c =
+    let s = c .before .before .before .before .before in
+    let a = s .args in (
+      omega arith,
+      rw (s .pre .3)
+          (index-starts (now (a .recs)) (now (a .places)) (now (a .numbers)) (now (a .members)) (s .pre .1) (s .pre .2)
+          (s .pre .4)),
+      none-numbered (now (a .recs)),
+    )
+
+add-requires : tie.Need-add-requires Inv-loop μ-loop
+add-requires c κs =
+    let s5 = c .before .before .before .before .before in
+    let s = s5 .before .before .before .before .before .before in
+    let l = s5 .loop in
+    let (d, h, e) = s .pre .0 in
+    ((d, h, omega (arith, e)), l .inv .1, l .inv .2)
+
+add-i : tie.Need-add-i Inv-loop μ-loop
+add-i c = search needs
+
+loop-less : tie.Need-loop-less Inv-loop μ-loop
+loop-less c = search needs
+
+loop-again : tie.Need-loop-again Inv-loop μ-loop
+loop-again c =
+    let s8 = c .before .before .before .before .before .before .before .before in
+    let m = s8 .add .ensures in
+    (omega arith, m .0, m .1)
+
+same-length : tie.Need-same-length Inv-loop μ-loop
+same-length c =
+    let s7 = c .before .before .before .before .before .before .before in
+    c .before .loop .inv .1 .places-long ∙ sym (s7 .pre .1)
+
+same-length-2 : tie.Need-same-length-2 Inv-loop μ-loop
+same-length-2 c =
+    let s7 = c .before .before .before .before .before .before .before in
+    c .before .loop .inv .1 .numbers-long ∙ sym (s7 .pre .2)
+
+same-length-3 : tie.Need-same-length-3 Inv-loop μ-loop
+same-length-3 c =
+    let s7 = c .before .before .before .before .before .before .before in
+    c .before .loop .inv .1 .counts-long ∙ sym (rw (s7 .pre .3) refl)
+
+same-length-4 : tie.Need-same-length-4 Inv-loop μ-loop
+same-length-4 c =
+    let s7 = c .before .before .before .before .before .before .before in
+    c .before .loop .inv .1 .members-long ∙ sym (s7 .pre .4)
+
+returns : tie.Need-returns Inv-loop μ-loop
+returns c =
+    let s7 = c .before .before .before .before .before .before .before in
+    let k : c .before .loop .i ≡ s7 .args .n = omega arith in
+    rw (← k) (c .before .loop .inv .1)
+
+pub build-spec : {M : Type 1} → statement M
+build-spec =
+    tie.close
+    (tie.spec
+    Inv-loop
+    μ-loop
+    loop-holds
+    add-requires
+    add-i
+    loop-less
+    loop-again
+    same-length
+    same-length-2
+    same-length-3
+    same-length-4
+    returns)

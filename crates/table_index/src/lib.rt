@@ -1,0 +1,195 @@
+// The index of a drawing's records: where each edit stands, the number of each Create's object, and for each object how
+// many Sets it has and where they stand. By it an arriving edit is surveyed without being held against every record.
+use edit_history::RECORDS;
+use edit_history::Surveyed;
+use edit_record::AT_KEY;
+use edit_record::AT_SEQ;
+use edit_record::AT_SITE;
+use edit_record::CREATE;
+use edit_record::Edit;
+use edit_record::RECORD;
+use edit_record::SITES;
+use group_step::OBJECTS;
+use group_step::SETS;
+use table_drawing::Counters;
+use table_drawing::entries::at16;
+ghost use mathlib.Core.Path.{_≡_};
+ghost use mathlib.Core.Bool.{not, _||_};
+ghost use mathlib.Core.List.{map};
+ghost use Prim.Native.Nat.{_+_, _*_, _≤_, _<_};
+ghost use lib.ListN.{length, getD, set, take, replicate};
+ghost use Rattle.edit_record.specs.Layout.{mostSites};
+ghost use Rattle.edit_record.specs.Answer1.{unfit};
+ghost use Rattle.edit_causal.specs.Conflict.{doConflict};
+ghost use Rattle.edit_history.specs.EditsHeld.{mostRecords, recordAt, editsOf, conflictsWith};
+ghost use Rattle.edit_history.specs.SurveyForms.{surveyOf, repeatedAgainst, earlyAgainst};
+ghost use Rattle.edit_walk.specs.WalkForms.{placesLength};
+ghost use Rattle.group_step.specs.GroupRows.{mostObjects, mostSets};
+ghost use Rattle.table_drawing.specs.declared.Counters.{Counters};
+ghost use Rattle.table_index.specs.IndexForms.{numberAt, membersLength, IndexOf, Holds};
+
+// The entries of all rows of places.
+pub const MEMBERS: usize = OBJECTS * SETS;
+
+// Where the index has the edit in place p of the records.
+fn spot(recs: &[u8], p: usize) -> usize
+    requires { ⌜ p < mostRecords ⌝ }
+    ensures { λ r. ⌜ r ≡ recordAt (now (recs .entry)) p .site .0 * mostRecords
+        + recordAt (now (recs .entry)) p .seq .0 ⌝ }
+{
+    let at = p * RECORD;
+    let site = edit_record::byte_at(recs, at + AT_SITE);
+    let seq = edit_record::two_at(recs, at + AT_SEQ);
+    site as usize * RECORDS + seq as usize
+}
+
+// Puts the place p behind those of the Sets of object o.
+fn add_set(p: usize, o: usize, counts: &mut [u16], members: &mut [u16])
+    requires { ⌜ (p < mostRecords)
+        × (o < mostObjects)
+        × (length (now counts) ≡ mostObjects)
+        × (length (now members) ≡ membersLength)
+        × (getD (now counts) o 0 < mostSets) ⌝ }
+    ensures { λ r. ⌜ (now (counts .exit) ≡ set (now (counts .entry)) o (getD (now (counts .entry)) o 0 + 1))
+        × (now (members .exit) ≡ set (now (members .entry)) (o * mostSets + getD (now (counts .entry)) o 0) p) ⌝ }
+{
+    let k = counts[o];
+    members[o * SETS + k as usize] = p as u16;
+    counts[o] = k + 1;
+}
+
+// Puts the record in place p into the index of those before it, of which m are Creates; says how many are then.
+pub fn add(
+    recs: &[u8],
+    p: usize,
+    m: u16,
+    places: &mut [u16],
+    numbers: &mut [u16],
+    counts: &mut [u16],
+    members: &mut [u16],
+) -> u16
+    requires { ⌜ ((c : Counters) × Holds c (now recs) × (p < c .records))
+        × IndexOf (now recs) p (now places) (now numbers) (now counts) (now members)
+        × (m ≡ numberAt (now recs) p) ⌝ }
+    ensures { λ r. ⌜ IndexOf (now (recs .entry)) (p + 1) (now (places .exit)) (now (numbers .exit))
+        (now (counts .exit)) (now (members .exit))
+        × (r ≡ numberAt (now (recs .entry)) (p + 1)) ⌝ }
+{
+    let at = spot(recs, p);
+    places[at] = p as u16;
+    if edit_history::kind_at(recs, p) == CREATE {
+        numbers[p] = m;
+        return m + 1;
+    }
+    let q = edit_walk::target_place(recs, places, p);
+    let o = numbers[q as usize];
+    add_set(p, o as usize, counts, members);
+    m
+}
+
+// Makes the index of the first n records.
+pub fn build(
+    recs: &[u8],
+    n: usize,
+    places: &mut [u16],
+    numbers: &mut [u16],
+    counts: &mut [u16],
+    members: &mut [u16],
+)
+    requires { ⌜ ((c : Counters) × Holds c (now recs) × (n ≡ c .records))
+        × (length (now places) ≡ placesLength)
+        × (length (now numbers) ≡ mostRecords)
+        × (now counts ≡ replicate mostObjects 0)
+        × (length (now members) ≡ membersLength) ⌝ }
+    ensures { λ r. ⌜ IndexOf (now (recs .entry)) n (now (places .exit)) (now (numbers .exit))
+        (now (counts .exit)) (now (members .exit)) ⌝ }
+{
+    let mut m: u16 = 0;
+    let mut i: usize = 0;
+    while i < n {
+        m = add(recs, i, m, places, numbers, counts, members);
+        i += 1;
+    }
+}
+
+// Whether the edit in place p conflicts with e. Most edits are told by their keys.
+pub fn is_conflict_at(recs: &[u8], p: u16, e: Edit) -> bool
+    ensures { λ r. ⌜ r ≡ doConflict (recordAt (now (recs .entry)) p) e ⌝ }
+{
+    if edit_record::byte_at(recs, p as usize * RECORD + AT_KEY) != e.key {
+        return false;
+    }
+    let a = edit_history::decode_at(recs, p as usize);
+    edit_causal::is_conflict(a, e)
+}
+
+// Which of the edits in the k first places conflict with e, bit i for the i-th.
+fn conflicts_in(recs: &[u8], places: &[u16], k: usize, e: Edit) -> u64
+    requires { ⌜ (k ≤ length (now places)) × (k ≤ mostSets) ⌝ }
+    ensures { λ r. ⌜ r ≡ conflictsWith e (map (recordAt (now (recs .entry))) (take k (now (places .entry)))) ⌝ }
+{
+    let mut marks: u64 = 0;
+    let mut i: usize = 0;
+    while i < k {
+        let b = is_conflict_at(recs, places[i], e);
+        marks = edit_history::marked_if(b, marks, i);
+        i += 1;
+    }
+    marks
+}
+
+// Whether none of 1 to 3 applies to the edit, where so many edits of each site are held. It says as well what the type
+// of the counts says, for a caller that has them from a struct.
+fn is_in_turn(sites: u8, held: [u16; SITES], e: Edit) -> bool
+    ensures { λ r. ⌜ (r ≡ not (unfit sites e || repeatedAgainst held e || earlyAgainst held e))
+        × (length held ≡ mostSites) ⌝ }
+{
+    !(edit_record::is_unfit(sites, e)
+        | edit_history::is_repeated(held, e)
+        | edit_history::is_early(held, e))
+}
+
+// All that an arriving edit asks of the records held. The records are looked through only for an edit that is refused.
+pub fn survey(
+    c: Counters,
+    recs: &[u8],
+    places: &[u16],
+    numbers: &[u16],
+    counts: &[u16],
+    members: &[u16],
+    e: Edit,
+) -> Surveyed
+    requires { ⌜ Holds c (now recs)
+        × IndexOf (now recs) (c .records) (now places) (now numbers) (now counts) (now members) ⌝ }
+    ensures { λ r. ⌜ r ≡ surveyOf (editsOf (now (recs .entry)) (c .records)) e ⌝ }
+{
+    let n = c.records as usize;
+    let held = c.held;
+    if !is_in_turn(c.sites, held, e) {
+        return edit_history::survey(recs, n, e);
+    }
+    let torn = edit_walk::is_torn_by_latest(recs, places, e);
+    if e.kind == CREATE {
+        return Surveyed {
+            torn,
+            found: false,
+            object: c.objects as usize,
+            sets: 0,
+            conflicts: 0,
+        };
+    }
+    if !edit_walk::is_target_held(held, recs, places, e) {
+        return edit_history::survey(recs, n, e);
+    }
+    let q = edit_walk::place_at(places, e.tsite, e.tseq);
+    let o = at16(numbers, q as usize) as usize;
+    let k = at16(counts, o) as usize;
+    let conflicts = conflicts_in(recs, &members[o * SETS..], k, e);
+    Surveyed {
+        torn,
+        found: true,
+        object: o,
+        sets: k,
+        conflicts,
+    }
+}

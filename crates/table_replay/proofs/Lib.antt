@@ -1,0 +1,4 @@
+pub mod ReplayFaithful
+pub mod ReplayGoes
+pub mod OwnRecords
+pub mod IndexGoesAlong

@@ -1,0 +1,128 @@
+-- A drawing made from records holds those records: its table has their bytes in their places, and replayed they give
+-- the same drawing. Assumes nothing.
+use mathlib.Core.Path.{_≡_, refl, sym, ap, ap₂, _∙_}
+use mathlib.Core.Logic.{inl, inr}
+use mathlib.Core.Bool.{Bool, true, false, cond}
+use mathlib.Core.List.{List, _++_}
+use Prim.Native.Nat.{ℕ, zero, suc, _+_, _*_, _≤_, _<_}
+use native.Mathlib.Omega.{arith}
+use native.Mathlib.Numerals.{add-one}
+use lib.ListN.{length, take}
+use lib.Seq.{take-add}
+use lib.Dec.{eqb}
+use borrow.Author.Tests.{eqb-true, eqb-false, eq-eqb}
+use Rattle.math_lists.proofs.LastBelow.{last}
+use Rattle.edit_record.specs.Layout.{recordLength}
+use Rattle.edit_history.specs.EditsHeld.{bytesAt}
+use Rattle.table_drawing.specs.Tables.{Tables, emptyDrawing, sitesRight}
+use Rattle.table_drawing.specs.AnswerNumbers.{outcomeOf}
+use Rattle.table_soundness.proofs.SoundFacts.{Sound}
+use Rattle.table_arrival.specs.Arrival.{putRecord, taken, acceptanceOf}
+use Rattle.table_arrival.proofs.Admitted.{Accepted, accepted, was-taken, taken-records}
+use Rattle.table_arrival.proofs.RecordsOneMore.{put-bytes-here, put-bytes-before}
+use Rattle.table_replay.specs.Replay.{Replayed, replayed, oneMore, replayOf}
+use Rattle.table_replay.proofs.ReplayGoes.{Going, going-faithful}
+
+-- ---- only the records' bytes count
+
+replay-same :
+    (sites : ℕ) (rs rs′ : List ℕ) (n : ℕ) → ((p : ℕ) → p < n → bytesAt rs p ≡ bytesAt rs′ p) →
+    replayOf sites rs n ≡ replayOf sites rs′ n
+unfolding replayOf
+replay-same sites rs rs′ zero h = refl
+replay-same sites rs rs′ (suc n) h = rw (replay-same sites rs rs′ n (λ p l. h p (omega arith)), h n (omega arith))
+
+pub records-same :
+    (rs rs′ : List ℕ) (n : ℕ) → ((p : ℕ) → p < n → bytesAt rs p ≡ bytesAt rs′ p) →
+    take (n * recordLength) rs ≡ take (n * recordLength) rs′
+records-same rs rs′ zero h = refl
+records-same rs rs′ (suc n) h =
+    let e : suc n * recordLength ≡ n * recordLength + recordLength = omega arith in
+    rw (e, take-add (n * recordLength) recordLength rs, take-add (n * recordLength) recordLength rs′)
+    (ap₂ (λ (x y : List ℕ). x ++ y) (records-same rs rs′ n (λ p l. h p (omega arith))) (h n (omega arith)))
+
+-- ---- one record back
+
+-- where none is refused, the index is 0
+index-none : (sites : ℕ) (rs : List ℕ) (n : ℕ) → replayOf sites rs n .answer ≡ 0 → replayOf sites rs n .index ≡ 0
+unfolding replayOf
+index-none sites rs zero h = refl
+index-none sites rs (suc n) h = go (eqb (r .answer) 0) refl h (index-none sites rs n)
+  where
+    r : Replayed
+    r = replayOf sites rs n
+
+    go : (x : Bool) → eqb (r .answer) 0 ≡ x → cond x (oneMore rs n (r .after)) r .answer ≡ 0 →
+        (r .answer ≡ 0 → r .index ≡ 0) → cond x (oneMore rs n (r .after)) r .index ≡ 0
+    go true e h ih = rw (eq-eqb (acceptanceOf (r .after) (bytesAt rs n) .answer) 0 h)
+    go false e h ih = ih h
+
+pub going-of :
+    (sites : ℕ) (rs : List ℕ) (n : ℕ) → replayOf sites rs n .answer ≡ 0 → Going sites rs n (replayOf sites rs n .after)
+going-of sites rs n h =
+    ap₂ (λ (a i : ℕ). replayed a i (replayOf sites rs n .after)) (sym h) (sym (index-none sites rs n h))
+
+-- the tables before the last record, and that it was taken there
+going-back :
+    (sites : ℕ) (rs : List ℕ) (n : ℕ) (t : Tables) → Going sites rs (suc n) t →
+    (u : Tables) × Going sites rs n u × (outcomeOf 0 t ≡ acceptanceOf u (bytesAt rs n))
+unfolding replayOf
+going-back sites rs n t g = go (eqb (r .answer) 0) refl g
+  where
+    r : Replayed
+    r = replayOf sites rs n
+
+    go : (x : Bool) → eqb (r .answer) 0 ≡ x → replayed 0 0 t ≡ cond x (oneMore rs n (r .after)) r →
+        (u : Tables) × Going sites rs n u × (outcomeOf 0 t ≡ acceptanceOf u (bytesAt rs n))
+    go true e q = (
+      r .after,
+      going-of sites rs n (eqb-true (r .answer) 0 e),
+      ap (λ (y : Replayed). outcomeOf (y .answer) (y .after)) q,
+    )
+    go false e q = absurd (eqb-false (r .answer) 0 e (sym (ap (λ (y : Replayed). y .answer) q)))
+
+-- ---- the records that a drawing holds
+
+pub record Holds (sites : ℕ) (rs : List ℕ) (n : ℕ) (t : Tables) : Type 0 where
+  pub count : t .counters .records ≡ n
+  pub sites-are : t .counters .sites ≡ sites
+  pub bytes : (p : ℕ) → p < n → bytesAt (t .records) p ≡ bytesAt rs p
+
+pub holds :
+    (sites : ℕ) (rs : List ℕ) → sitesRight sites ≡ true → (n : ℕ) (t : Tables) → Going sites rs n t → Holds sites rs n t
+unfolding replayOf emptyDrawing
+holds sites rs right zero t g =
+    record {
+      count = ap (λ (r : Replayed). r .after .counters .records) g;
+      sites-are = ap (λ (r : Replayed). r .after .counters .sites) g;
+      bytes = λ p l. absurd (omega arith);
+    }
+holds sites rs right (suc n) t g =
+    let (u, before, last-one) = going-back sites rs n t g in
+    let b = bytesAt rs n in
+    let (zero-answer, is) = was-taken u t b last-one in
+    let a : Accepted u b = accepted u b zero-answer in
+    let s : Sound u = going-faithful sites rs right n u before .kept .isSound in
+    let h = holds sites rs right n u before in
+    let room : n * recordLength + recordLength ≤ length (u .records)
+    = omega (arith, s .records-long, a .admitted .room, h .count) in
+    let (records, count, sites-are) = taken-records u b in
+    let put : t .records ≡ putRecord (u .records) n b
+    = ap (λ (x : Tables). x .records) is ∙ records ∙ ap (λ (k : ℕ). putRecord (u .records) k b) (h .count) in
+    record {
+      count = ap (λ (x : Tables). x .counters .records) is ∙ count ∙ ap (λ (k : ℕ). k + 1) (h .count) ∙ add-one n;
+      sites-are = ap (λ (x : Tables). x .counters .sites) is ∙ sites-are ∙ h .sites-are;
+      bytes =
+          λ p l. ap (λ (x : List ℕ). bytesAt x p) put
+          ∙ elim (last l) [
+            | inl m ↦ put-bytes-before (u .records) n b (a .admitted .whole) room p m ∙ h .bytes p m
+            | inr e ↦ rw e (put-bytes-here (u .records) n b (a .admitted .whole) room)
+          ];
+    }
+
+-- a drawing's own records give the drawing
+pub own-records :
+    (sites : ℕ) (rs : List ℕ) → sitesRight sites ≡ true → (n : ℕ) (t : Tables) → Going sites rs n t →
+    Going sites (t .records) n t
+own-records sites rs right n t g =
+    g ∙ sym (replay-same sites (t .records) rs n (holds sites rs right n t g .bytes))

@@ -1,0 +1,149 @@
+-- `table_replay::take_next` meets its contract: what an accepted record leaves holds what the index needs to take it
+-- in. Assumes nothing.
+use mathlib.Core.Path.{_≡_, sym, _∙_}
+use native.Mathlib.Omega.{arith}
+use denote.Ref.{now}
+use Rattle.table_drawing.specs.Tables.{tablesOf}
+use Rattle.table_drawing.specs.AnswerNumbers.{numberOf}
+use Rattle.table_arrival.proofs.CodeInHand.{holds}
+use Rattle.table_replay.proofs.IndexGoesAlong.{counted-on, holds-on, index-on, numbered-on}
+use borrow.Author.Needs.{needs}
+use Rattle.table_replay.proofs.take_next.Statement.{statement}
+use Rattle.table_replay.proofs.take_next.Tie as tie
+
+decode-requires : tie.Need-decode-requires
+decode-requires c κs = search needs
+
+survey-requires : tie.Need-survey-requires
+survey-requires c κs =
+    let s10 = c .before .before .before .before .before .before .before .before .before .before in
+    let s = s10 .before .before .before .before in
+    let a = s .args in
+    (holds (tablesOf (a .c) (now (a .records)) (now (a .objects)) (now (a .groups))) (s .pre .0), s .pre .2)
+
+accept-requires : tie.Need-accept-requires
+accept-requires c κs =
+    let s9 = c .before .before .before .before .before .before .before .before .before in
+    let s = s9 .before .before .before .before .before .before .before .before .before in
+    (s .pre .0, s9 .decode .ensures, c .before .before .before .survey .ensures)
+
+number-requires : tie.Need-number-requires
+number-requires c κs = search needs
+
+cast-add : tie.Need-cast-add
+cast-add c = search needs
+
+add-requires : tie.Need-add-requires
+add-requires c κs =
+    let s6 = c .before .before .before .before .before .before in
+    let s7 = s6 .before in
+    let s14 = s7 .before .before .before .before .before .before .before in
+    let s24 = s14 .before .before .before .before .before .before .before .before .before .before in
+    let s = s24 .before .before .before .before .before .before .before .before .before in
+    let a = s .args in
+    let t = tablesOf (a .c) (now (a .records)) (now (a .objects)) (now (a .groups)) in
+    let b = now (a .rec) in
+    let m = s14 .accept in
+    let z : numberOf (m .result .answer) ≡ 0 = sym (s7 .number .ensures) ∙ s6 .if1 .taken in
+    let ok = rw z at (m .ensures) in (
+      (
+        m .result .counters,
+        holds-on t (s .pre .0) (s .pre .1) b _ ok,
+        omega
+            (arith, counted-on t (s .pre .0) (s .pre .1) b _ ok),
+      ),
+      index-on t (s .pre .0) (s .pre .1) b _ ok (now (a .places)) (now (a .numbers)) (now (a .counts))
+          (now (a .members))
+          (s .pre .2),
+      numbered-on t (s .pre .0) (s .pre .1) b _ ok,
+    )
+
+same-length : tie.Need-same-length
+same-length c = search needs
+
+same-length-2 : tie.Need-same-length-2
+same-length-2 c = search needs
+
+same-length-3 : tie.Need-same-length-3
+same-length-3 c = search needs
+
+same-length-4 : tie.Need-same-length-4
+same-length-4 c = search needs
+
+same-length-5 : tie.Need-same-length-5
+same-length-5 c = search needs
+
+same-length-6 : tie.Need-same-length-6
+same-length-6 c = search needs
+
+same-length-7 : tie.Need-same-length-7
+same-length-7 c = search needs
+
+returns : tie.Need-returns
+returns c =
+    let s8 = c .before .before .before .before .before .before .before .before in
+    let s15 = s8 .before .before .before .before .before .before .before in
+    let s16 = s15 .before in
+    let s23 = s16 .before .before .before .before .before .before .before in
+    let s33 = s23 .before .before .before .before .before .before .before .before .before .before in
+    let s = s33 .before .before .before .before .before .before .before .before .before in
+    let a = s .args in
+    let t = tablesOf (a .c) (now (a .records)) (now (a .objects)) (now (a .groups)) in
+    let b = now (a .rec) in
+    let m = s23 .accept in
+    let z : numberOf (m .result .answer) ≡ 0 = sym (s16 .number .ensures) ∙ s15 .if1 .taken in
+    let ok = rw z at (m .ensures) in
+    (m .ensures, λ y. rw (counted-on t (s .pre .0) (s .pre .1) b _ ok) (s8 .add .ensures .0))
+
+same-length-8 : tie.Need-same-length-8
+same-length-8 c = search needs
+
+same-length-9 : tie.Need-same-length-9
+same-length-9 c = search needs
+
+same-length-10 : tie.Need-same-length-10
+same-length-10 c = search needs
+
+same-length-11 : tie.Need-same-length-11
+same-length-11 c = search needs
+
+same-length-12 : tie.Need-same-length-12
+same-length-12 c = search needs
+
+same-length-13 : tie.Need-same-length-13
+same-length-13 c = search needs
+
+same-length-14 : tie.Need-same-length-14
+same-length-14 c = search needs
+
+returns-2 : tie.Need-returns-2
+returns-2 c =
+    let s8 = c .before .before .before .before .before .before .before .before in
+    (s8 .accept .ensures, λ z. absurd (c .if1 .left (c .before .number .ensures ∙ z)))
+
+pub take-next-spec : {M : Type 1} → statement M
+take-next-spec =
+    tie.close
+    (tie.spec
+    decode-requires
+    survey-requires
+    accept-requires
+    number-requires
+    cast-add
+    add-requires
+    same-length
+    same-length-2
+    same-length-3
+    same-length-4
+    same-length-5
+    same-length-6
+    same-length-7
+    returns
+    same-length-8
+    same-length-9
+    same-length-10
+    same-length-11
+    same-length-12
+    same-length-13
+    same-length-14
+    returns-2)

@@ -1,0 +1,171 @@
+// Records taken one after another from an empty drawing.
+use edit_history::RECORDS;
+use edit_record::RECORD;
+use edit_record::SITES;
+use edit_walk::PLACES;
+use group_step::OBJECTS;
+use table_arrival::Arrived;
+use table_drawing::Answer;
+use table_drawing::Counters;
+use table_index::MEMBERS;
+ghost use mathlib.Core.Path.{_≡_};
+ghost use mathlib.Core.Bool.{true};
+ghost use Prim.Native.Nat.{_*_, _≤_};
+ghost use lib.ListN.{length};
+ghost use Rattle.edit_record.specs.Layout.{mostSites, recordLength};
+ghost use Rattle.edit_history.specs.EditsHeld.{mostRecords};
+ghost use Rattle.table_drawing.specs.Tables.{tablesOf, emptyDrawing, lengthsRight, sitesRight};
+ghost use Rattle.table_drawing.specs.AnswerNumbers.{outcomeOf, numberOf};
+ghost use Rattle.table_soundness.specs.Sound.{sound};
+ghost use Rattle.table_index.specs.IndexForms.{IndexOf};
+ghost use Rattle.table_arrival.specs.Arrival.{acceptanceOf};
+ghost use Rattle.table_replay.specs.Replay.{replayed, replayOf};
+
+// The answer to the first refused record and its index, or 0 and 0; and the counters after the records before it.
+pub struct Taken {
+    pub answer: Answer,
+    pub index: usize,
+    pub counters: Counters,
+}
+
+// Takes one record at tables that are sound, by the index of their records, and puts it into the index if it is taken.
+fn take_next(
+    c: Counters,
+    records: &mut [u8],
+    objects: &mut [u16],
+    groups: &mut [u64],
+    places: &mut [u16],
+    numbers: &mut [u16],
+    counts: &mut [u16],
+    members: &mut [u16],
+    rec: &[u8],
+) -> Arrived
+    requires { ⌜ (sound (tablesOf c (now records) (now objects) (now groups)) ≡ true)
+        × (length (c .held) ≡ mostSites)
+        × IndexOf (now records) (c .records) (now places) (now numbers) (now counts) (now members) ⌝ }
+    ensures { λ r. ⌜ (outcomeOf (numberOf (r .answer))
+        (tablesOf (r .counters) (now (records .exit)) (now (objects .exit)) (now (groups .exit)))
+        ≡ acceptanceOf (tablesOf c (now (records .entry)) (now (objects .entry)) (now (groups .entry)))
+        (now (rec .entry)))
+        × (numberOf (r .answer) ≡ 0 → IndexOf (now (records .exit)) (r .counters .records) (now (places .exit))
+        (now (numbers .exit)) (now (counts .exit)) (now (members .exit))) ⌝ }
+{
+    let e = edit_record::decode(rec);
+    let v = table_index::survey(c, records, places, numbers, counts, members, e);
+    let a = table_arrival::accept(c, records, objects, groups, rec, e, v);
+    let answer = a.answer;
+    if table_drawing::number(answer) == 0 {
+        table_index::add(
+            records,
+            c.records as usize,
+            c.objects,
+            places,
+            numbers,
+            counts,
+            members,
+        );
+    }
+    a
+}
+
+// Takes the first n records of recs, one after another, into an empty drawing.
+fn take_records(
+    empty: Counters,
+    records: &mut [u8],
+    objects: &mut [u16],
+    groups: &mut [u64],
+    places: &mut [u16],
+    numbers: &mut [u16],
+    counts: &mut [u16],
+    members: &mut [u16],
+    recs: &[u8],
+    n: usize,
+) -> Taken
+    requires { ⌜ (tablesOf empty (now records) (now objects) (now groups) ≡ emptyDrawing (empty .sites))
+        × IndexOf (now records) (empty .records) (now places) (now numbers) (now counts) (now members)
+        × (sitesRight (empty .sites) ≡ true)
+        × (n ≤ mostRecords)
+        × (n * recordLength ≤ length (now recs)) ⌝ }
+    ensures { λ r. ⌜ replayed (numberOf (r .answer)) (r .index)
+        (tablesOf (r .counters) (now (records .exit)) (now (objects .exit)) (now (groups .exit)))
+        ≡ replayOf (empty .sites) (now (recs .entry)) n ⌝ }
+{
+    let mut c = empty;
+    let mut i: usize = 0;
+    while i < n {
+        let at = i * RECORD;
+        let end = at + RECORD;
+        let a = take_next(
+            c,
+            records,
+            objects,
+            groups,
+            places,
+            numbers,
+            counts,
+            members,
+            &recs[at..end],
+        );
+        let next = a.counters;
+        let answer = a.answer;
+        if table_drawing::number(answer) != 0 {
+            return Taken {
+                answer,
+                index: i,
+                counters: next,
+            };
+        }
+        c = next;
+        i += 1;
+    }
+    Taken {
+        answer: Answer::Done,
+        index: 0,
+        counters: c,
+    }
+}
+
+// Opens a drawing of so many sites in the tables and takes the first n records of recs into it, one after another.
+pub fn replay(
+    sites: u8,
+    records: &mut [u8],
+    objects: &mut [u16],
+    groups: &mut [u64],
+    recs: &[u8],
+    n: usize,
+) -> Taken
+    requires { ⌜ (lengthsRight (now records) (now objects) (now groups) ≡ true)
+        × (sitesRight sites ≡ true)
+        × (n ≤ mostRecords)
+        × (n * recordLength ≤ length (now recs)) ⌝ }
+    ensures { λ r. ⌜ replayed (numberOf (r .answer)) (r .index)
+        (tablesOf (r .counters) (now (records .exit)) (now (objects .exit)) (now (groups .exit)))
+        ≡ replayOf sites (now (recs .entry)) n ⌝ }
+{
+    let held = [0u16; SITES];
+    let none = Counters {
+        sites,
+        records: 0,
+        objects: 0,
+        held,
+    };
+    let opened = table_drawing::open(none, records, objects, groups, sites);
+    let empty = opened.counters;
+    // what work space holds at first does not matter; zeros would be set by memset (docs/DECISIONS.md, 24)
+    let mut places = [1u16; PLACES];
+    let mut numbers = [1u16; RECORDS];
+    let mut members = [1u16; MEMBERS];
+    let mut counts = [0u16; OBJECTS];
+    take_records(
+        empty,
+        records,
+        objects,
+        groups,
+        &mut places,
+        &mut numbers,
+        &mut counts,
+        &mut members,
+        recs,
+        n,
+    )
+}

@@ -1,0 +1,129 @@
+-- The tests of soundness put together. Assumes nothing.
+use mathlib.Core.Path.{_≡_, refl, sym, ap, _∙_}
+use mathlib.Core.Bool.{Bool, true, false, not, _&&_, _||_, and-assoc, and-true, and-false, or-false}
+use mathlib.Core.List.{List}
+use Prim.Native.Nat.{ℕ, _*_, _≤_, _<_}
+use lib.Dec.{eqb, leb, ltb}
+use lib.ListN.{getD, length}
+use borrow.Author.Tests.{eqb-true, leb-true, lt-ltb, le-ltb, le-leb, lt-leb, not-false}
+use Rattle.math_lists.specs.NumbersBelow.{all}
+use Rattle.math_lists.proofs.Booleans.{both}
+use Rattle.math_lists.proofs.NumbersBelow.{all-same}
+use Rattle.edit_record.specs.Layout.{mostSites, recordLength}
+use Rattle.edit_history.specs.Answers2to5.{recordsPass}
+use Rattle.edit_history.specs.EditsHeld.{mostRecords, recordAt, creates, countFrom}
+use Rattle.edit_walk.specs.declared.Walked.{Walked}
+use Rattle.edit_walk.specs.WalkForms.{WalkedOver}
+use Rattle.edit_history.proofs.EditsHeld.{target-parts}
+use Rattle.edit_history.proofs.RecordsPassed.{target-before}
+use Rattle.group_step.specs.GroupRows.{mostObjects, mostGroups}
+use Rattle.table_drawing.specs.declared.Counters.{Counters}
+use Rattle.table_drawing.specs.Tables.{Tables, entryLength, heldBy, recordsLength, objectsLength, groupsLength}
+use Rattle.table_drawing.specs.Tables.{lengthsRight, sitesRight}
+use Rattle.table_soundness.specs.Sound.{withinLimits, countsAgree, objectSound, zeroFrom, sound}
+use Rattle.table_soundness.specs.SoundnessForms.{Targeted, Passed}
+
+-- ---- an entry
+
+-- tests that count only where the first one holds
+pub where-first :
+    (a b x y v w z : Bool) →
+    (a ≡ true → x ≡ v) →
+    (a ≡ true → y ≡ w) →
+    (a && b && x && y && z) ≡ (a && b && v && w && z)
+where-first true b x y v w z p q = rw (p refl, q refl)
+where-first false b x y v w z p q = refl
+
+-- ---- a place of a row of g groups
+
+pub unused-place : (g i : ℕ) (z a b : Bool) → g ≤ i → (leb g i && z || ltb i g && a && b) ≡ z
+unused-place g i z a b l = rw (le-leb g i l, le-ltb i g l) (or-false z)
+
+pub used-place : (g i : ℕ) (z a b : Bool) → i < g → (leb g i && z || ltb i g && a && b) ≡ (a && b)
+used-place g i z a b l = rw (lt-leb g i l, lt-ltb i g l)
+
+-- ---- the lengths and the limits
+
+pub group-room : (rs os gs : List ℕ) → lengthsRight rs os gs ≡ true → length gs ≡ groupsLength
+group-room rs os gs h =
+    eqb-true (length gs) groupsLength
+    (both (eqb (length rs) recordsLength && eqb (length os) objectsLength) (eqb (length gs) groupsLength) h .1)
+
+pub few-groups : (g : ℕ) → not (leb 1 g && leb g mostGroups) ≡ false → g ≤ mostGroups
+few-groups g h =
+    let t = not-false (leb 1 g && leb g mostGroups) h in
+    leb-true g mostGroups (both (leb 1 g) (leb g mostGroups) t .1)
+
+pub few : (c : Counters) → withinLimits c ≡ true → (c .records ≤ mostRecords) × (c .objects ≤ mostObjects)
+few c h =
+    let (p, o) = both (sitesRight (c .sites) && leb (c .records) mostRecords) (leb (c .objects) mostObjects) h in
+    let r = both (sitesRight (c .sites)) (leb (c .records) mostRecords) p .1 in
+    (leb-true (c .records) mostRecords r, leb-true (c .objects) mostObjects o)
+
+pub few-sites : (c : Counters) → withinLimits c ≡ true → c .sites ≤ mostSites
+few-sites c h =
+    let (p, _) = both (sitesRight (c .sites) && leb (c .records) mostRecords) (leb (c .objects) mostObjects) h in
+    let (s, _) = both (sitesRight (c .sites)) (leb (c .records) mostRecords) p in
+    leb-true (c .sites) mostSites (both (leb 1 (c .sites)) (leb (c .sites) mostSites) s .1)
+
+-- ---- what is not right at the start
+
+pub wrong-lengths : (t : Tables) → lengthsRight (t .records) (t .objects) (t .groups) ≡ false → sound t ≡ false
+unfolding sound
+wrong-lengths t h = rw h
+
+pub past-limits : (t : Tables) → withinLimits (t .counters) ≡ false → sound t ≡ false
+unfolding sound
+past-limits t h = rw (h, and-false (lengthsRight (t .records) (t .objects) (t .groups)))
+
+pub not-passing :
+    (t : Tables) → recordsPass (t .counters .sites) (t .records) (t .counters .records) ≡ false → sound t ≡ false
+unfolding sound
+not-passing t h = simp (h, and-false)
+
+-- ---- what the walk gives
+
+-- each Set's target stands before it
+pub targeted :
+    (sites : ℕ) (rs : List ℕ) (n : ℕ) → recordsPass sites rs n ≡ true → Targeted rs n
+targeted sites rs n pass p l h =
+    let (q, m, t) = target-before sites rs n pass p l h in
+    let x = target-parts (recordAt rs p) (recordAt rs q) t in
+    (q, m, x .create, x .site, x .seq)
+
+pub walk-passed :
+    (t : Tables) (w : Walked) (ps : List ℕ) → lengthsRight (t .records) (t .objects) (t .groups) ≡ true →
+    withinLimits (t .counters) ≡ true → WalkedOver (t .counters .sites) (t .records) (t .counters .records) w ps →
+    w .ok ≡ true → Passed t (w .held) ps
+walk-passed t w ps lengths limits over ok =
+    let pass : recordsPass (t .counters .sites) (t .records) (t .counters .records) ≡ true = sym (over .ok) ∙ ok in
+    record {
+      lengths = lengths;
+      limits = limits;
+      pass = pass;
+      counted = over .counted ok;
+      index = over .indexed ok;
+      targets = targeted (t .counters .sites) (t .records) (t .counters .records) pass;
+    }
+
+-- ---- the whole
+
+module _ (t : Tables) (hs ps : List ℕ) (w : Passed t hs ps) where
+  same-counts :
+      let given = t .counters .held in
+      all mostSites (λ s. eqb (getD given s 0) (getD hs s 0))
+      ≡ all mostSites (λ s. eqb (getD given s 0) (countFrom s (heldBy t)))
+  same-counts = all-same mostSites _ _ (λ s l. ap (eqb (getD (t .counters .held) s 0)) (w .counted s l))
+
+  -- what is left to test of tables within their limits whose records pass
+  pub rest-is :
+      let c = t .counters in
+      (all mostSites (λ s. eqb (getD (c .held) s 0) (getD hs s 0))
+      && (eqb (c .objects) (length (creates (heldBy t)))
+      && all (c .objects) (objectSound (t .records) (c .records) (t .objects) (t .groups)))
+      && (zeroFrom (t .records) (c .records * recordLength)
+      && zeroFrom (t .objects) (c .objects * entryLength)
+      && zeroFrom (t .groups) (c .objects * mostGroups)))
+      ≡ sound t
+  unfolding sound countsAgree
+  rest-is = rw (same-counts, w .lengths, w .limits, w .pass) (simp (and-assoc, and-true))

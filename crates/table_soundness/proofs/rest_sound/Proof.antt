@@ -1,0 +1,48 @@
+-- `table_soundness::rest_sound` meets its contract. Assumes nothing.
+use denote.Ref.{now}
+use borrow.Author.Needs.{needs}
+use Rattle.table_drawing.specs.Tables.{tablesOf}
+use Rattle.table_soundness.proofs.SoundTests.{few, group-room, rest-is}
+use Rattle.table_soundness.proofs.rest_sound.Statement.{statement}
+use Rattle.table_soundness.proofs.rest_sound.Tie as tie
+
+cast-n : tie.Need-cast-n
+cast-n c = search needs
+
+cast-m : tie.Need-cast-m
+cast-m c = search needs
+
+counts-agree-requires : tie.Need-counts-agree-requires
+counts-agree-requires c κs = search needs
+
+drawing-sound-requires : tie.Need-drawing-sound-requires
+drawing-sound-requires c κs =
+    let s = c .before .before .before .before .before .before .before .before in
+    let (n, m) = few (s .args .c) (s .pre .limits) in
+    let a = s .args in
+    let room = group-room (now (a .records)) (now (a .objects)) (now (a .groups)) (s .pre .lengths) in
+    (n, m, room, s .pre .index, s .pre .targets)
+
+unused-zero-requires : tie.Need-unused-zero-requires
+unused-zero-requires c κs =
+    let s = c .before .before .before .before .before .before .before .before .before in
+    few (s .args .c) (s .pre .limits)
+
+returns : tie.Need-returns
+returns c =
+    let s = c .before .before .before .before .before .before .before .before .before .before in
+    let a = s .args in
+    let t = tablesOf (a .c) (now (a .records)) (now (a .objects)) (now (a .groups)) in
+    rw (c .unused-zero .ensures, c .before .drawing-sound .ensures, c .before .before .counts-agree .ensures)
+    (rest-is t (a .held) (now (a .places)) (s .pre))
+
+pub rest-sound-spec : {M : Type 1} → statement M
+rest-sound-spec =
+    tie.close
+    (tie.spec
+    cast-n
+    cast-m
+    counts-agree-requires
+    drawing-sound-requires
+    unused-zero-requires
+    returns)

@@ -1,0 +1,61 @@
+-- What the test of soundness gathers in one pass over the records rs: where each edit stands, how many Creates stand
+-- before each record, and how many Sets are aimed at it. Assumes nothing.
+use mathlib.Core.Path.{_≡_}
+use mathlib.Core.Bool.{Bool, true, _&&_}
+use mathlib.Core.List.{List}
+use Prim.Native.Nat.{ℕ, _<_}
+use lib.ListN.{getD, length}
+use lib.Dec.{eqb}
+use Rattle.math_lists.specs.SortedLists.{filter}
+use Rattle.edit_record.specs.declared.Edit.{Edit}
+use Rattle.edit_record.specs.Layout.{mostSites}
+use Rattle.edit_record.specs.Answer1.{isCreate, isSet}
+use Rattle.edit_history.specs.EditsHeld.{recordAt, editsOf, countFrom, creates, setsOn, mostRecords}
+use Rattle.edit_history.specs.Answers2to5.{recordsPass}
+use Rattle.edit_walk.specs.WalkForms.{placeOf, Indexed}
+use Rattle.table_drawing.specs.Tables.{Tables, heldBy, lengthsRight}
+use Rattle.table_soundness.specs.Sound.{withinLimits}
+
+-- ---- what is known of the targets
+
+-- each Set among the first n records has its Create before it
+abbrev pub Targeted : List ℕ → ℕ → Type 0
+Targeted rs n =
+    (p : ℕ) →
+    p < n →
+    isSet (recordAt rs p) ≡ true →
+    (q : ℕ)
+    × (q < p)
+    × (isCreate (recordAt rs q) ≡ true)
+    × (recordAt rs q .site .0 ≡ recordAt rs p .tsite .0)
+    × (recordAt rs q .seq .0 ≡ recordAt rs p .tseq .0)
+
+-- ---- what is counted
+
+-- e is a Set, and the index ps has its target in place p
+abbrev pub aimsAt : List ℕ → ℕ → Edit → Bool
+aimsAt ps p e = isSet e && eqb (placeOf ps (e .tsite .0) (e .tseq .0)) p
+
+-- ns has how many Creates stand before each of the first n records
+abbrev pub Numbered : List ℕ → ℕ → List ℕ → Type 0
+Numbered rs n ns = (p : ℕ) → p < n → getD ns p 0 ≡ length (creates (editsOf rs p))
+
+-- ts has how many of the first n records are Sets that the index ps has aimed at each place
+abbrev pub Aimed : List ℕ → ℕ → List ℕ → List ℕ → Type 0
+Aimed rs n ps ts = (p : ℕ) → p < mostRecords → getD ts p 0 ≡ length (filter (aimsAt ps p) (editsOf rs n))
+
+-- ts has how many Sets there are on each of the first n records
+abbrev pub Tallied : List ℕ → ℕ → List ℕ → Type 0
+Tallied rs n ts =
+    (p : ℕ) → p < n → getD ts p 0 ≡ length (setsOn (recordAt rs p .site) (recordAt rs p .seq) (editsOf rs n))
+
+-- ---- what is known of tables once their limits are tested and their records walked
+
+-- hs are the counts that the walk gave, and ps is its index
+pub record Passed (t : Tables) (hs ps : List ℕ) : Type 0 where
+  pub lengths : lengthsRight (t .records) (t .objects) (t .groups) ≡ true
+  pub limits : withinLimits (t .counters) ≡ true
+  pub pass : recordsPass (t .counters .sites) (t .records) (t .counters .records) ≡ true
+  pub counted : (s : ℕ) → s < mostSites → getD hs s 0 ≡ countFrom s (heldBy t)
+  pub index : Indexed (t .records) (t .counters .records) ps
+  pub targets : Targeted (t .records) (t .counters .records)

@@ -1,0 +1,102 @@
+// When tables are sound, whatever stands in them: the records walked once, then the counts, the objects and the unused
+// entries.
+mod objects;
+mod unused;
+
+use edit_history::RECORDS;
+use edit_record::RECORD;
+use edit_record::SITES;
+use edit_walk::PLACES;
+use group_step::GROUPS;
+use group_step::OBJECTS;
+use table_drawing::Counters;
+use table_drawing::ENTRY;
+ghost use mathlib.Core.Path.{_≡_};
+ghost use mathlib.Core.Bool.{_&&_};
+ghost use Prim.Native.Nat.{_*_, _≤_};
+ghost use lib.Dec.{eqb};
+ghost use lib.ListN.{getD};
+ghost use Rattle.math_lists.specs.NumbersBelow.{all};
+ghost use Rattle.group_step.specs.GroupRows.{mostObjects, mostGroups};
+ghost use Rattle.edit_record.specs.Layout.{mostSites, recordLength};
+ghost use Rattle.edit_history.specs.EditsHeld.{mostRecords};
+ghost use Rattle.table_drawing.specs.Tables.{entryLength, tablesOf};
+ghost use Rattle.table_soundness.specs.Sound.{withinLimits, zeroFrom, sound};
+ghost use Rattle.table_soundness.specs.SoundnessForms.{Passed};
+
+// Whether the counters are within their limits.
+pub fn within_limits(c: Counters) -> bool
+    ensures { λ r. ⌜ r ≡ withinLimits c ⌝ }
+{
+    table_drawing::sites_right(c.sites)
+        & (c.records as usize <= RECORDS)
+        & (c.objects as usize <= OBJECTS)
+}
+
+// Whether two lists of counts agree.
+pub fn counts_agree(given: [u16; SITES], counted: [u16; SITES]) -> bool
+    ensures { λ r. ⌜ r ≡ all mostSites (λ s. eqb (getD given s 0) (getD counted s 0)) ⌝ }
+{
+    let mut agree = true;
+    let mut s: usize = 0;
+    while s < SITES {
+        agree = agree & (given[s] == counted[s]);
+        s += 1;
+    }
+    agree
+}
+
+// Whether every entry past n records and m objects is zero.
+fn unused_zero(records: &[u8], objects: &[u16], groups: &[u64], n: usize, m: usize) -> bool
+    requires { ⌜ (n ≤ mostRecords) × (m ≤ mostObjects) ⌝ }
+    ensures { λ r. ⌜ r ≡ (zeroFrom (now (records .entry)) (n * recordLength)
+        && zeroFrom (now (objects .entry)) (m * entryLength)
+        && zeroFrom (now (groups .entry)) (m * mostGroups)) ⌝ }
+{
+    let a = unused::is_zero_from8(records, n * RECORD);
+    let b = unused::is_zero_from16(objects, m * ENTRY);
+    let d = unused::is_zero_from64(groups, m * GROUPS);
+    a & b & d
+}
+
+// Whether tables within their limits whose records pass are sound, by the counts and the index that the records gave.
+fn rest_sound(
+    c: Counters,
+    held: [u16; SITES],
+    places: &[u16],
+    records: &[u8],
+    objects: &[u16],
+    groups: &[u64],
+) -> bool
+    requires { ⌜ Passed (tablesOf c (now records) (now objects) (now groups)) held (now places) ⌝ }
+    ensures { λ r. ⌜ r ≡ sound (tablesOf c (now (records .entry)) (now (objects .entry)) (now (groups .entry))) ⌝ }
+{
+    let given = c.held;
+    let n = c.records as usize;
+    let m = c.objects as usize;
+    let agree = counts_agree(given, held);
+    let drawing = objects::drawing_sound(records, n, places, objects, groups, m);
+    let zero = unused_zero(records, objects, groups, n, m);
+    agree & drawing & zero
+}
+
+// Whether the tables are sound, whatever stands in them. The records are walked once, and each object is tested by what
+// two more passes count, so that no object is held against every record.
+pub fn is_sound(c: Counters, records: &[u8], objects: &[u16], groups: &[u64]) -> bool
+    ensures { λ r. ⌜ r ≡ sound (tablesOf c (now (records .entry)) (now (objects .entry)) (now (groups .entry))) ⌝ }
+{
+    if !table_drawing::lengths_right(records.len(), objects.len(), groups.len()) {
+        return false;
+    }
+    if !within_limits(c) {
+        return false;
+    }
+    // what work space holds at first does not matter; zeros would be set by memset (docs/DECISIONS.md, 24)
+    let mut places = [1u16; PLACES];
+    let w = edit_walk::walk(c.sites, records, c.records as usize, &mut places);
+    if !w.ok {
+        return false;
+    }
+    let held = w.held;
+    rest_sound(c, held, &places, records, objects, groups)
+}

@@ -1,4 +1,0 @@
-pub mod Version
-pub mod Order
-pub mod Line
-pub mod Code

@@ -1,2 +1,0 @@
-pub mod Latest
-pub mod Walking
