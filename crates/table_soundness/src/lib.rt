@@ -3,14 +3,14 @@
 mod objects;
 mod unused;
 
-use group_step::GROUPS;
-use group_step::OBJECTS;
 use edit_history::RECORDS;
 use edit_record::RECORD;
 use edit_record::SITES;
+use edit_walk::PLACES;
+use group_step::GROUPS;
+use group_step::OBJECTS;
 use table_drawing::Counters;
 use table_drawing::ENTRY;
-use edit_walk::PLACES;
 ghost use mathlib.Core.Path.{_≡_};
 ghost use mathlib.Core.Bool.{true, _&&_};
 ghost use Prim.Native.Nat.{_*_, _≤_};
@@ -29,7 +29,9 @@ ghost use Rattle.table_soundness.specs.SoundnessForms.{Passed};
 fn within_limits(c: Counters) -> bool
     ensures { λ r. ⌜ r ≡ withinLimits c ⌝ }
 {
-    table_drawing::sites_right(c.sites) & (c.records as usize <= RECORDS) & (c.objects as usize <= OBJECTS)
+    table_drawing::sites_right(c.sites)
+        & (c.records as usize <= RECORDS)
+        & (c.objects as usize <= OBJECTS)
 }
 
 // Whether two lists of counts agree.
