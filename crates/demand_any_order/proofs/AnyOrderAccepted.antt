@@ -9,6 +9,7 @@ use Rattle.edit_record.specs.declared.Edit.{Edit}
 use Rattle.edit_record.specs.Layout.{mostSites}
 use Rattle.edit_record.specs.RecordBytes.{decodeOf}
 use Rattle.edit_history.specs.EditsHeld.{bytesAt, editsOf}
+use Rattle.edit_history.proofs.FieldsInPlace.{bytes-decoded}
 use Rattle.table_replay.specs.Replay.{replayOf}
 use Rattle.demand_any_order.specs.Rearranged.{Rearranged, recordsOf}
 use Rattle.demand_any_order.specs.Settled.{AllAccepted, Causal, Settled}
@@ -16,7 +17,7 @@ use Rattle.demand_any_order.proofs.Rearranged.{turned, same-members, ma
 use Rattle.demand_any_order.proofs.AcceptedSettled.{accepted-settled, accepted-causal}
 use Rattle.demand_any_order.proofs.SettledAccepted.{settled-accepted}
 use Rattle.demand_any_order.proofs.SettledAnyOrder.{settled-in-any-order}
-use Rattle.demand_any_order.proofs.ReplayAccepted.{bytes-decoded, refuses-none-exactly}
+use Rattle.demand_any_order.proofs.ReplayAccepted.{refuses-none-exactly}
 
 -- ---- lists of edits
 

@@ -9,10 +9,8 @@ use native.Mathlib.Omega.{arith}
 use lib.ListN.{length, getD, drop}
 use lib.Dec.{eqb}
 use borrow.Author.Tests.{eqb-true, eq-eqb, le-leb}
-use Rattle.math_lists.specs.NumbersBelow.{all}
 use Rattle.math_lists.specs.SortedLists.{filter}
-use Rattle.math_lists.proofs.Booleans.{clash, both, and-on, eqb-self}
-use Rattle.math_lists.proofs.NumbersBelow.{all-on}
+use Rattle.math_lists.proofs.Booleans.{clash, both}
 use Rattle.edit_record.specs.declared.Site.{Site}
 use Rattle.edit_record.specs.declared.Seq.{Seq}
 use Rattle.edit_record.specs.declared.Edit.{Edit}
@@ -30,7 +28,7 @@ use Rattle.demand_any_order.specs.Settled.{Differ, Apart}
 use Rattle.demand_any_order.specs.EqualEdits.{fieldsOf, isEqual}
 use Rattle.demand_any_order.proofs.ListMembers.{any-on, any-at, chosen-at, chosen-on, mem-place}
 use Rattle.demand_any_order.proofs.PairsInList.{pairs-two, pairs-chosen}
-use Rattle.math_lists.proofs.ByPlaces.{list-equal}
+use Rattle.math_lists.proofs.ByPlaces.{list-equal, same-self}
 
 -- ---- identity, seen, before
 
@@ -77,10 +75,7 @@ equal-at a b h = ap made (list-equal (fieldsOf a) (fieldsOf b) h)
 
 pub equal-self : (a : Edit) → isEqual a a ≡ true
 unfolding isEqual
-equal-self a =
-    let l = fieldsOf a in
-    and-on (eqb (length l) (length l)) (all (length l) (λ i. eqb (getD l i 0) (getD l i 0))) (eqb-self (length l))
-    (all-on (length l) (λ i. eqb (getD l i 0) (getD l i 0)) (λ i k. eqb-self (getD l i 0)))
+equal-self a = same-self (fieldsOf a)
 
 pub has-on : {x : Edit} {xs : List Edit} → Mem x xs → has isEqual xs x ≡ true
 has-on {x} m = any-on (isEqual x) m (equal-self x)

@@ -14,17 +14,16 @@ use mathlib.Core.List.{
   List·Memᴰ·eq-of-singleton,
   Memᴰ·append-left,
 }
-use Prim.Native.Nat.{ℕ, zero, suc, _*_, _≤_}
+use Prim.Native.Nat.{ℕ, zero, suc, _≤_}
 use native.Mathlib.Omega.{arith}
-use lib.ListN.{length, drop, length-append}
-use lib.Seq.{getD-take}
+use lib.ListN.{length, length-append}
 use lib.Dec.{eqb}
 use borrow.Author.Tests.{eqb-true, eqb-false}
 use Rattle.edit_record.specs.declared.Edit.{Edit}
 use Rattle.edit_record.specs.Layout.{mostSites, recordLength}
 use Rattle.edit_record.specs.RecordBytes.{decodeOf}
-use Rattle.edit_record.proofs.AgreeingBytes.{decode-agree}
 use Rattle.edit_history.specs.EditsHeld.{bytesAt, recordAt, editsOf}
+use Rattle.edit_history.proofs.FieldsInPlace.{bytes-decoded}
 use Rattle.table_drawing.specs.Tables.{Tables, heldBy, emptyDrawing}
 use Rattle.table_drawing.specs.AnswerNumbers.{Outcome, outcomeOf}
 use Rattle.table_arrival.specs.Answers6and7.{answerTo}
@@ -40,25 +39,19 @@ use Rattle.demand_any_order.proofs.AnswerOverList.{answer-over-list, ta
 
 -- ---- lists that grow at their end
 
-accepted-none : (n : ℕ) → AllAccepted n []
+pub accepted-none : (n : ℕ) → AllAccepted n []
 accepted-none n xs ys e q = absurd (omega (arith, ap length q, length-append xs (e ∷ ys)))
 
 accepted-front : (n : ℕ) (us vs : List Edit) → AllAccepted n (us ++ vs) → AllAccepted n us
 accepted-front n us vs a xs ys e q =
     a xs (ys ++ vs) e (ap (λ (l : List Edit). l ++ vs) q ∙ append-assoc xs (e ∷ ys) vs)
 
-accepted-more :
+pub accepted-more :
     (n : ℕ) (us : List Edit) (x : Edit) → AllAccepted n us → listAnswer n us x ≡ 0 → AllAccepted n (us ++ (x ∷ []))
 accepted-more n us x a h xs ys e q = elim (split-snoc us xs ys x e q) [
   | inl (p, r) ↦ rw (← p, ← r) h
   | inr (zs, p) ↦ a xs zs e p
 ]
-
--- a record's own bytes give its edit
-pub bytes-decoded : (rs : List ℕ) (p : ℕ) → decodeOf (bytesAt rs p) ≡ recordAt rs p
-bytes-decoded rs p =
-    let d = drop (p * recordLength) rs in
-    decode-agree (bytesAt rs p) d (λ i l. getD-take recordLength d i 0 l)
 
 -- ---- one record more
 

@@ -1,15 +1,22 @@
--- The fields of a record, as the bytes where they stand in the table. Assumes nothing.
+-- An edit by the bytes of its record, and its fields as the bytes where they stand in the table. Assumes nothing.
 use mathlib.Core.Path.{_≡_, refl, ap, _∙_}
 use mathlib.Core.List.{List}
 use Prim.Native.Nat.{ℕ, zero, suc, _+_, _*_, _<_}
 use native.Mathlib.Omega.{arith}
 use lib.ListN.{getD, drop}
-use lib.Seq.{getD-drop}
+use lib.Seq.{getD-drop, getD-take}
 use Rattle.edit_record.specs.Layout.{mostSites, kindAt, siteAt, seqAt, vectorAt, targetAt, keyAt, targetSeqAt}
 use Rattle.edit_record.specs.Layout.{recordLength}
-use Rattle.edit_record.specs.RecordBytes.{two, counts}
+use Rattle.edit_record.specs.RecordBytes.{two, counts, decodeOf}
+use Rattle.edit_record.proofs.AgreeingBytes.{decode-agree}
 use Rattle.edit_record.proofs.NumbersInBytes.{two-drop}
-use Rattle.edit_history.specs.EditsHeld.{recordAt}
+use Rattle.edit_history.specs.EditsHeld.{bytesAt, recordAt}
+
+-- a record's own bytes give its edit
+pub bytes-decoded : (rs : List ℕ) (p : ℕ) → decodeOf (bytesAt rs p) ≡ recordAt rs p
+bytes-decoded rs p =
+    let d = drop (p * recordLength) rs in
+    decode-agree (bytesAt rs p) d (λ i l. getD-take recordLength d i 0 l)
 
 counts-at : (n : ℕ) (s : List ℕ) (i : ℕ) → i < n → getD (counts n s) i 0 ≡ two s (2 * i)
 unfolding counts

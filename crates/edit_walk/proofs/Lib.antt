@@ -1,2 +1,3 @@
 pub mod LatestDecides
+pub mod RoomInIndex
 pub mod WalkKeeps

@@ -1,6 +1,6 @@
 -- Forms that the code uses to test the records in one walk, by an index of the places of their edits. No one need
 -- believe them: `latest-decides` of proofs/LatestDecides.antt ties them to `Answers2to5`. Assumes nothing.
-use Prim.Native.Nat.{ℕ, _+_, _-_, _*_, _<_}
+use Prim.Native.Nat.{ℕ, _+_, _-_, _≤_, _<_}
 use mathlib.Core.Path.{_≡_}
 use mathlib.Core.List.{List}
 use mathlib.Core.Bool.{Bool, true, not, _&&_, _||_}
@@ -12,18 +12,37 @@ use Rattle.edit_record.specs.declared.Edit.{Edit}
 use Rattle.edit_record.specs.Layout.{mostSites}
 use Rattle.edit_record.specs.Answer1.{isCreate, isSet, entryOf, unfit}
 use Rattle.edit_walk.specs.declared.Walked.{Walked}
-use Rattle.edit_history.specs.EditsHeld.{mostRecords, recordAt, editsOf}
+use Rattle.edit_history.specs.EditsHeld.{mostRecords, recordAt, editsOf, countFrom}
 use Rattle.edit_history.specs.Answers2to5.{largerSomewhere, recordsPass}
 use Rattle.edit_history.specs.SurveyForms.{Counted, repeatedAgainst, earlyAgainst}
 
 -- ---- the index
 
--- the place of the edit s.q, in an index of so many entries
+-- the entries: a start for each site, then the places, site after site
 abbrev pub placesLength : ℕ
-placesLength = mostSites * mostRecords + 1
+placesLength = mostSites + mostRecords + 1
+
+-- where the place of the edit s.q stands, and the place
+abbrev pub slotOf : List ℕ → ℕ → ℕ → ℕ
+slotOf ps s q = getD ps s 0 + q
 
 abbrev pub placeOf : List ℕ → ℕ → ℕ → ℕ
-placeOf ps s q = getD ps (s * mostRecords + q) 0
+placeOf ps s q = getD ps (slotOf ps s q) 0
+
+-- the starts stand before all places, and each site s has room for so many edits
+pub record Spaced (room : ℕ → ℕ) (ps : List ℕ) : Type 0 where
+  pub entries : length ps ≡ placesLength
+  pub behind : (s : ℕ) → s < mostSites → mostSites ≤ getD ps s 0
+  pub apart : (s t : ℕ) → s < t → t < mostSites → getD ps s 0 + room s ≤ getD ps t 0
+  pub within : (s : ℕ) → s < mostSites → getD ps s 0 + room s < placesLength
+
+-- two indexes have the same starts
+abbrev pub SameStarts : List ℕ → List ℕ → Type 0
+SameStarts ps ps′ = (s : ℕ) → s < mostSites → getD ps′ s 0 ≡ getD ps s 0
+
+-- how many of the first n records each site has
+abbrev pub countIn : List ℕ → ℕ → ℕ → ℕ
+countIn rs n s = countFrom s (editsOf rs n)
 
 -- the edits of the first n records have their places in it
 abbrev pub Indexed : List ℕ → ℕ → List ℕ → Type 0

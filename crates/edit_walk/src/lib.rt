@@ -1,6 +1,7 @@
 // One walk that tests the records of a table: whether each passes answers 1 to 5 of document 01 after those before it,
 // with the counts of the edits and the index of their places that it keeps.
 use edit_history::RECORDS;
+use edit_record::AT_SITE;
 use edit_record::AT_TARGET;
 use edit_record::AT_TARGET_SEQ;
 use edit_record::AT_VECTOR;
@@ -13,15 +14,18 @@ use edit_record::Seq;
 use edit_record::Site;
 ghost use mathlib.Core.Path.{_≡_};
 ghost use Prim.Native.Nat.{_-_, _≤_, _<_};
-ghost use lib.ListN.{length};
+ghost use lib.ListN.{length, getD};
 ghost use Rattle.edit_record.specs.Layout.{mostSites, twoBytes};
-ghost use Rattle.edit_history.specs.EditsHeld.{mostRecords, recordAt};
+ghost use Rattle.edit_history.specs.EditsHeld.{mostRecords, recordAt, editsOf};
 ghost use Rattle.edit_history.specs.Answers2to5.{largerSomewhere};
-ghost use Rattle.edit_walk.specs.WalkForms.{placesLength, placeOf, seenBefore, tornBy, tornByLatest};
+ghost use Rattle.edit_history.specs.SurveyForms.{Counted};
+ghost use Rattle.edit_walk.specs.WalkForms.{placesLength, slotOf, placeOf, countIn, Spaced};
+ghost use Rattle.edit_walk.specs.WalkForms.{seenBefore, tornBy, tornByLatest};
 ghost use Rattle.edit_walk.specs.WalkForms.{targetHeld, passesAgainst, WalkedOver};
 
-// The entries of an index of places: the edit s.q has its place at s * RECORDS + q.
-pub const PLACES: usize = SITES * RECORDS + 1;
+// The entries of an index of places: a start for each site, then the places of the edits, site after site. The edit s.q
+// has its place q entries past the start of s.
+pub const PLACES: usize = SITES + RECORDS + 1;
 
 // Whether the records passed, and how many edits of each site they are.
 pub struct Walked {
@@ -29,12 +33,59 @@ pub struct Walked {
     pub held: [u16; SITES],
 }
 
+// How many of the first n records name each site.
+fn count_sites(recs: &[u8], n: usize) -> [u16; SITES]
+    requires { ⌜ n ≤ mostRecords ⌝ }
+    ensures { λ r. ⌜ Counted r (editsOf (now (recs .entry)) n) ⌝ }
+{
+    let mut counts = [0u16; SITES];
+    let mut i: usize = 0;
+    while i < n {
+        let site = edit_record::byte_at(recs, i * RECORD + AT_SITE) as usize;
+        if site < SITES {
+            counts[site] = counts[site] + 1;
+        }
+        i += 1;
+    }
+    counts
+}
+
+// Puts the starts of the sites, so that there is room for the edits of the first n records.
+pub fn start_places(recs: &[u8], n: usize, places: &mut [u16])
+    requires { ⌜ (n ≤ mostRecords) × (length (now places) ≡ placesLength) ⌝ }
+    ensures { λ r. ⌜ Spaced (countIn (now (recs .entry)) n) (now (places .exit)) ⌝ }
+{
+    let counts = count_sites(recs, n);
+    let mut at = SITES as u16;
+    let mut s: usize = 0;
+    while s < SITES {
+        places[s] = at;
+        at = at + counts[s];
+        s += 1;
+    }
+}
+
+// The entry i of the index, and 0 past its end.
+fn entry_at(places: &[u16], i: usize) -> u16
+    ensures { λ r. ⌜ r ≡ getD (now (places .entry)) i 0 ⌝ }
+{
+    if i < places.len() { places[i] } else { 0 }
+}
+
+// Where the index has the place of the edit s.q.
+pub fn slot_of(places: &[u16], s: Site, q: Seq) -> usize
+    ensures { λ r. ⌜ r ≡ slotOf (now (places .entry)) (s .0) (q .0) ⌝ }
+{
+    let start = entry_at(places, s.0 as usize);
+    start as usize + q.0 as usize
+}
+
 // The place of the edit s.q by the index.
 pub fn place_at(places: &[u16], s: Site, q: Seq) -> u16
     ensures { λ r. ⌜ r ≡ placeOf (now (places .entry)) (s .0) (q .0) ⌝ }
 {
-    let at = s.0 as usize * RECORDS + q.0 as usize;
-    if at < places.len() { places[at] } else { 0 }
+    let at = slot_of(places, s, q);
+    entry_at(places, at)
 }
 
 // The place, by the index, of the target of the edit in place p; that edit's bytes are read where they stand.
@@ -152,6 +203,7 @@ pub fn walk(sites: u8, recs: &[u8], n: usize, places: &mut [u16]) -> Walked
     requires { ⌜ (sites ≤ mostSites) × (n ≤ mostRecords) × (length (now places) ≡ placesLength) ⌝ }
     ensures { λ r. ⌜ WalkedOver sites (now (recs .entry)) n r (now (places .exit)) ⌝ }
 {
+    start_places(recs, n, places);
     let mut held = [0u16; SITES];
     let mut i: usize = 0;
     while i < n {
@@ -159,7 +211,8 @@ pub fn walk(sites: u8, recs: &[u8], n: usize, places: &mut [u16]) -> Walked
         if !is_passing(sites, held, recs, places, e) {
             return Walked { ok: false, held };
         }
-        places[e.site.0 as usize * RECORDS + e.seq.0 as usize] = i as u16;
+        let at = slot_of(places, e.site, e.seq);
+        places[at] = i as u16;
         let next = edit_history::bumped(held, e.site);
         held = next;
         i += 1;

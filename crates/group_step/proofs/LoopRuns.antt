@@ -18,6 +18,7 @@ use lib.Seq.{
   drop-set-lt,
   take-take,
   drop-cons,
+  drop-drop,
   set-at,
   length-take-le,
   drop-length,
@@ -40,8 +41,11 @@ pub next : (s : List ℕ) (i n : ℕ) → i < n → n ≤ length s → slice i n
 next s i n h l = rw add-one (slice-cons i n s 0 h l)
 
 -- what is left does not see what is written before it
+pub left-set-before : (s : List ℕ) (w j n z : ℕ) → w < j → w < n → slice j n (set s w z) ≡ slice j n s
+left-set-before s w j n z h l = rw (take-set-lt n s w z, drop-set-lt j (take n s) w z)
+
 pub left-set : (s : List ℕ) (i n z : ℕ) → i < n → slice (i + 1) n (set s i z) ≡ slice (i + 1) n s
-left-set s i n z h = rw (take-set-lt n s i z, drop-set-lt (i + 1) (take n s) i z (omega arith))
+left-set s i n z h = left-set-before s i (i + 1) n z (omega arith) h
 
 pub none-left : (s : List ℕ) (i n : ℕ) → i ≤ n → n ≤ i → slice i n s ≡ []
 none-left s i n h l = rw (le-antisymm h l) (slice-empty n s)
@@ -53,6 +57,18 @@ passed-and-left s i n h = rw (← take-take i n s) (take-append-drop i (take n s
 pub split :
     (s : List ℕ) (i n : ℕ) → i < n → n ≤ length s → take n s ≡ take i s ++ (getD s i 0 ∷ slice (i + 1) n s)
 split s i n h l = sym (passed-and-left s i n (omega arith)) ∙ ap (λ (r : List ℕ). take i s ++ r) (next s i n h l)
+
+-- ---- a list that is written in front of what is left, which stays as it was in s₀
+
+module _ (s₀ s : List ℕ) (i n : ℕ) (same : slice i n s ≡ slice i n s₀) where
+  pub split-before :
+      i < n → n ≤ length s → take n s₀ ≡ take i s₀ ++ (getD s i 0 ∷ slice (i + 1) n s)
+  split-before h l =
+      sym (passed-and-left s₀ i n (omega arith))
+      ∙ ap (λ (r : List ℕ). take i s₀ ++ r) (sym same ∙ next s i n h l)
+
+  pub left-same : slice (i + 1) n s ≡ slice (i + 1) n s₀
+  left-same = sym (drop-drop 1 i (take n s)) ∙ ap (drop 1) same ∙ drop-drop 1 i (take n s₀)
 
 -- ---- a copy from the front, and a list filled from the front
 

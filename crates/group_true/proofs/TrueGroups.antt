@@ -3,7 +3,7 @@
 use mathlib.Core.Path.{_≡_, refl, sym, ap, ap₂, _∙_}
 use mathlib.Core.Bool.{Bool, true, false, cond}
 use mathlib.Core.List.{List, [], _∷_, _++_, append-nil}
-use Prim.Native.Nat.{ℕ, _+_, _-_, _<_}
+use Prim.Native.Nat.{ℕ, _+_, _-_, _≤_, _<_}
 use native.Mathlib.Omega.{arith}
 use lib.ListN.{length, getD}
 use lib.Dec.{eqb}
@@ -19,7 +19,7 @@ use Rattle.math_maximal.specs.Groups.{bit, every, groups}
 use Rattle.math_maximal.specs.Step.{step}
 use Rattle.math_maximal.specs.GroupsByArrival.{rel, groupsOf}
 use Rattle.math_maximal.proofs.Groups.{no-elements}
-use Rattle.math_maximal.proofs.GroupsByArrival.{arrives}
+use Rattle.math_maximal.proofs.GroupsByArrival.{arrives, no-more-first}
 use Rattle.edit_history.specs.EditsHeld.{isSetOn, setsOn, conflictsWith}
 use Rattle.edit_history.proofs.ConflictMarks.{conflicts-bit}
 use Rattle.edit_record.specs.RecordBytes.{noEdit}
@@ -55,6 +55,13 @@ mask-bits e ms i l =
     one true = refl
     one false = refl
 
+-- the step gives the groups of the Sets with one more
+pub sets-step :
+    (ms : List Edit) (e : Edit) →
+    step (conflictsWith e ms) (length ms) (groupsOf noEdit doConflict ms) ≡ groupsOf noEdit doConflict (ms ++ (e ∷ []))
+sets-step ms e =
+    arrives noEdit doConflict conflict-symmetric conflict-irreflexive ms e (conflictsWith e ms) (mask-bits e ms)
+
 -- a Set on the object stands last among its Sets
 sets-more :
     (es : List Edit) (e : Edit) → isSet e ≡ true →
@@ -62,7 +69,7 @@ sets-more :
 unfolding setsOn
 sets-more es e k = filter-snoc (isSetOn (e .tsite) (e .tseq)) es e ∙ rw (k, same-reflexive (e .tsite) (e .tseq))
 
--- the step gives the groups of the Sets with the new one
+-- the step gives the groups of the object with the new one
 pub groups-more :
     (es : List Edit) (e : Edit) → isSet e ≡ true → (c : Edit) → c .site ≡ e .tsite → c .seq ≡ e .tseq →
     step (conflictsWith e (setsOn (e .tsite) (e .tseq) es)) (length (setsOn (e .tsite) (e .tseq) es)) (trueGroups es c)
@@ -74,8 +81,18 @@ groups-more es e k c hs hq =
     let new : setsOn (c .site) (c .seq) (es ++ (e ∷ [])) ≡ ms ++ (e ∷ [])
     = ap₂ (λ (x : Site) (y : Seq). setsOn x y (es ++ (e ∷ []))) hs hq ∙ sets-more es e k in
     ap (λ (l : List Edit). step (conflictsWith e ms) (length ms) (groupsOf noEdit doConflict l)) old
-    ∙ arrives noEdit doConflict conflict-symmetric conflict-irreflexive ms e (conflictsWith e ms) (mask-bits e ms)
+    ∙ sets-step ms e
     ∙ ap (groupsOf noEdit doConflict) (sym new)
+
+-- ---- any edit
+
+-- one more leaves no fewer groups
+pub groups-grow : (es : List Edit) (c e : Edit) → length (trueGroups es c) ≤ length (trueGroups (es ++ (e ∷ [])) c)
+unfolding trueGroups setsOn
+groups-grow es c e =
+    let f = isSetOn (c .site) (c .seq) in
+    rw (filter-snoc f es e)
+    (no-more-first noEdit doConflict conflict-symmetric conflict-irreflexive (filter f es) (cond (f e) (e ∷ []) []))
 
 -- ---- none of its Sets
 

@@ -11,10 +11,10 @@ use lib.Dec.{eqb}
 use lib.ListN.{length, getD, replicate}
 use lib.Seq.{ext-getD}
 use borrow.Author.Tests.{eqb-true}
-use Rattle.math_lists.proofs.Booleans.{clash, either, or-left, or-right, eqb-self, both}
+use Rattle.math_lists.proofs.Booleans.{clash, either, or-left, or-right, eqb-self, both, and-on}
 use Rattle.math_lists.specs.SortedLists.{any, elem, filter, Ascending}
 use Rattle.math_lists.specs.NumbersBelow.{all, sameList}
-use Rattle.math_lists.proofs.NumbersBelow.{all-at}
+use Rattle.math_lists.proofs.NumbersBelow.{all-on, all-at}
 
 -- ---- zeros
 
@@ -133,3 +133,8 @@ list-equal l m h =
     let (p, q) = both (eqb (length l) (length m)) (all (length l) (λ i. eqb (getD l i 0) (getD m i 0))) h in
     ext-getD 0 l m (eqb-true (length l) (length m) p)
     (λ i k. eqb-true (getD l i 0) (getD m i 0) (all-at (length l) (λ j. eqb (getD l j 0) (getD m j 0)) q i k))
+
+pub same-self : (l : List ℕ) → sameList l l ≡ true
+same-self l =
+    and-on (eqb (length l) (length l)) (all (length l) (λ i. eqb (getD l i 0) (getD l i 0))) (eqb-self (length l))
+    (all-on (length l) (λ i. eqb (getD l i 0) (getD l i 0)) (λ i k. eqb-self (getD l i 0)))

@@ -5,11 +5,14 @@ use mathlib.Core.Bool.{Bool, true, false, _||_, cond}
 use mathlib.Core.List.{[], _∷_}
 use Prim.Native.Nat.{ℕ, zero, suc, _+_, _*_, _≤_, _<_}
 use native.Mathlib.Omega.{arith}
-use lib.Dec.{eqb}
-use borrow.Author.Tests.{eqb-true}
+use native.Mathlib.Decide.{decLt, ℕ-discrete}
+use lib.ListN.{length}
+use lib.Dec.{eqb, ltb}
+use borrow.Author.Tests.{eqb-true, eq-eqb, ne-eqb, lt-ltb, le-ltb}
 use Rattle.math_lists.proofs.Booleans.{clash, decide, off, both, and-on, either, or-left, or-right, eqb-self}
 use Rattle.math_lists.proofs.LastBelow.{last}
 use Rattle.math_lists.proofs.Elements.{any-append}
+use Rattle.math_lists.proofs.GrownAtEnd.{length-maybe}
 use Rattle.math_lists.specs.NumbersBelow.{some, all, sum, keep}
 use Rattle.math_lists.specs.SortedLists.{any, elem}
 
@@ -99,12 +102,48 @@ sum-lt (suc n) f g h j l k = go (last l) (λ m. sum-lt n f g (λ i o. h i (omega
     go (inl m) ih = omega (arith, ih m, h n (omega arith))
     go (inr e) ih = let b : f n < g n = rw e at k in omega (arith, sum-le n f g (λ i o. h i (omega arith)))
 
+-- a sum over more numbers has the next entry in it
+pub sum-past : (i n : ℕ) (f : ℕ → ℕ) → i < n → sum i f + f i ≤ sum n f
+unfolding sum
+sum-past i zero f l = absurd (omega arith)
+sum-past i (suc n) f l = go (last l) (sum-past i n f)
+  where
+    go : (i < n) ⊎ (i ≡ n) → (i < n → sum i f + f i ≤ sum n f) → sum i f + f i ≤ sum n f + f n
+    go (inl m) ih = omega (arith, ih m)
+    go (inr e) ih = rw e (omega arith)
+
+-- one more at t is one more in a sum that comes past t
+pub sum-one-more :
+    (n t : ℕ) (f : ℕ → ℕ) → sum n (λ i. f i + cond (eqb t i) 1 0) ≡ sum n f + cond (ltb t n) 1 0
+unfolding sum
+sum-one-more zero t f = rw (le-ltb t 0 (omega arith))
+sum-one-more (suc n) t f = rw (sum-one-more n t f) (go (decLt t n) (ℕ-discrete t n))
+  where
+    go : Dec (t < n) → Dec (t ≡ n) →
+        (sum n f + cond (ltb t n) 1 0) + (f n + cond (eqb t n) 1 0) ≡ (sum n f + f n) + cond (ltb t (suc n)) 1 0
+    go (yes l) w = rw (lt-ltb t n l, ne-eqb t n (λ e. omega arith), lt-ltb t (suc n) (omega arith)) (omega arith)
+    go (no a) (yes e) =
+        rw (le-ltb t n (omega arith), eq-eqb t n e, lt-ltb t (suc n) (omega arith)) (omega arith)
+    go (no a) (no d) =
+        rw (le-ltb t n (omega arith), ne-eqb t n d, le-ltb t (suc n) (omega arith)) (omega arith)
+
 -- ---- the numbers that pass
 
 pub keep-same : (n : ℕ) (f g : ℕ → Bool) → ((i : ℕ) → i < n → f i ≡ g i) → keep n f ≡ keep n g
 unfolding keep
 keep-same zero f g h = refl
 keep-same (suc n) f g h = rw (keep-same n f g (λ i l. h i (omega arith)), h n (omega arith))
+
+pub keep-more : (f : ℕ → Bool) (n : ℕ) → length (keep (suc n) f) ≡ length (keep n f) + cond (f n) 1 0
+unfolding keep
+keep-more f n = length-maybe (keep n f) (f n) n
+
+pub keep-grow : (f : ℕ → Bool) (i n : ℕ) → i ≤ n → length (keep i f) ≤ length (keep n f)
+keep-grow f i zero l = let e : i ≡ 0 = omega arith in rw e (omega arith)
+keep-grow f i (suc n) l = elim (ℕ-discrete i (suc n)) [
+  | yes e ↦ rw e (omega arith)
+  | no d ↦ omega (arith, keep-more f n, keep-grow f i n (omega arith))
+]
 
 one : (b : Bool) → (b || false) ≡ true → b ≡ true
 one true h = refl

@@ -49,6 +49,17 @@ module _ {E : Type 0} (d : E) (conf : E → E → Bool)
   unfolding rel
   rel-irr xs i = irr (getD xs i d)
 
+  -- those that come later leave the groups of those that came first
+  first-alone :
+      (xs ys : List E) →
+      groups (rel d conf xs) (length xs) every ≡ groups (rel d conf (xs ++ ys)) (length xs) every
+  unfolding rel
+  first-alone xs ys =
+      let n = length xs in
+      let old : (i : ℕ) → i < n → getD (xs ++ ys) i d ≡ getD xs i d = λ i l. List·getD-append xs ys d i l in
+      groups-agree (rel d conf xs) (rel d conf (xs ++ ys)) n every
+      (λ i j p q. rw (old i (below-at n every i p .0), old j (below-at n every j q .0)))
+
   -- the bits of m are the elements that conflict with x
   pub arrives :
       (xs : List E) (x : E) (m : ℕ) → ((i : ℕ) → i < length xs → bit m i ≡ conf x (getD xs i d)) →
@@ -57,14 +68,21 @@ module _ {E : Type 0} (d : E) (conf : E → E → Bool)
   arrives xs x m mask =
       let ys = xs ++ (x ∷ []) in
       let k = length xs in
-      let old : (i : ℕ) → i < k → getD ys i d ≡ getD xs i d = λ i l. List·getD-append xs (x ∷ []) d i l in
-      let a : groups (rel d conf xs) k every ≡ groups (rel d conf ys) k every =
-      groups-agree (rel d conf xs) (rel d conf ys) k every
-      (λ i j p q. rw (old i (below-at k every i p .0), old j (below-at k every j q .0))) in
       let l : length ys ≡ suc k = omega (arith, length-append xs (x ∷ [])) in
-      rw (a, l)
+      rw (first-alone xs (x ∷ []), l)
       (step-keeps-maximal (rel d conf ys) (rel-sym ys) (rel-irr ys) k m
-      (λ i p. mask i p ∙ rw (getD-append-seam xs x [] d, old i p)))
+      (λ i p. mask i p ∙ rw (getD-append-seam xs x [] d, List·getD-append xs (x ∷ []) d i p)))
+
+  -- those that came first have no more groups
+  pub no-more-first : (xs ys : List E) → length (groupsOf d conf xs) ≤ length (groupsOf d conf (xs ++ ys))
+  unfolding groupsOf
+  no-more-first xs ys =
+      let n = length xs in
+      let m = length (xs ++ ys) in
+      let c = rel d conf (xs ++ ys) in
+      rw (first-alone xs ys)
+      (no-more-groups c n m every every (rel-sym (xs ++ ys)) (rel-irr (xs ++ ys))
+      (λ i h. below-on m every i (omega (arith, below-at n every i h .0, length-append xs ys)) refl))
 
 -- ---- the number of an element
 

@@ -1,1 +1,4 @@
-pub mod CheckOutcomes
+pub mod SettledByRecords
+pub mod AllTaken
+pub mod TrueExactly
+pub mod RowWorkedOut

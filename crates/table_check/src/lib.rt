@@ -1,22 +1,33 @@
-// The separate check of document 01, which holds tables against what their records give from an empty drawing.
+// The separate check of document 01: whether tables are what their records give from an empty drawing. What can be
+// untrue in sound tables is the rows of groups alone, so each row is worked out anew from the Sets of its object, and
+// held against the table's.
 use edit_history::RECORDS;
-use edit_record::RECORD;
+use edit_record::SET;
+use edit_walk::PLACES;
 use group_step::GROUPS;
-use group_step::OBJECTS;
+use group_step::SETS;
 use table_drawing::Answer;
 use table_drawing::Counters;
 use table_drawing::ENTRY;
-use table_replay::replay;
+use table_drawing::entries::at16;
 ghost use mathlib.Core.Path.{_≡_};
 ghost use mathlib.Core.Bool.{true};
+ghost use Prim.Native.Nat.{_+_, _*_, _≤_, _<_};
+ghost use lib.ListN.{length, take};
 ghost use Rattle.math_lists.specs.NumbersBelow.{sameList};
-ghost use Rattle.table_drawing.specs.Tables.{tablesOf, lengthsRight};
+ghost use Rattle.edit_record.specs.Layout.{twoBytes};
+ghost use Rattle.edit_history.specs.EditsHeld.{recordAt, mostRecords};
+ghost use Rattle.edit_walk.specs.WalkForms.{Indexed};
+ghost use Rattle.group_step.specs.GroupRows.{mostGroups, mostSets, row};
+ghost use Rattle.table_drawing.specs.Tables.{tablesOf};
 ghost use Rattle.table_drawing.specs.AnswerNumbers.{numberOf};
-ghost use Rattle.table_soundness.specs.Sound.{withinLimits};
-ghost use Rattle.table_check.specs.Check.{sameCounters, givesBack, checkOf};
+ghost use Rattle.table_soundness.specs.Sound.{sound};
+ghost use Rattle.table_check.specs.Check.{checkOf};
+ghost use Rattle.table_check.specs.CheckForms.{rowTrue, rowsTrue, aimOf, Aims, TellsSets, placesAimed};
+ghost use Rattle.table_check.specs.CheckForms.{groupsIn, WorkedOut};
 
-// Whether two tables of bytes are the same.
-fn is_same8(a: &[u8], b: &[u8]) -> bool
+// Whether two rows of groups are the same.
+fn is_same(a: &[u64], b: &[u64]) -> bool
     ensures { λ r. ⌜ r ≡ sameList (now (a .entry)) (now (b .entry)) ⌝ }
 {
     if a.len() != b.len() {
@@ -31,74 +42,136 @@ fn is_same8(a: &[u8], b: &[u8]) -> bool
     same
 }
 
-// Whether two tables of small numbers are the same.
-fn is_same16(a: &[u16], b: &[u16]) -> bool
-    ensures { λ r. ⌜ r ≡ sameList (now (a .entry)) (now (b .entry)) ⌝ }
+// Whether the g groups of object o are the r at the front of gs.
+fn is_row(groups: &[u64], o: usize, g: usize, gs: &[u64], r: usize) -> bool
+    requires { ⌜ (o * mostGroups + mostGroups ≤ length (now groups))
+        × (g ≤ mostGroups)
+        × (r ≤ length (now gs)) ⌝ }
+    ensures { λ r′. ⌜ r′ ≡ sameList (take g (row o (now (groups .entry)))) (take r (now (gs .entry))) ⌝ }
 {
-    if a.len() != b.len() {
-        return false;
+    let at = o * GROUPS;
+    let end = at + g;
+    is_same(&groups[at..end], &gs[..r])
+}
+
+// Where the Create of the Set in place q stands, by the index of places; RECORDS if no Set stands there.
+fn aim_at(recs: &[u8], places: &[u16], q: usize) -> u16
+    requires { ⌜ q < twoBytes ⌝ }
+    ensures { λ r. ⌜ r ≡ aimOf (now (places .entry)) (recordAt (now (recs .entry)) q) ⌝ }
+{
+    if edit_history::kind_at(recs, q) == SET {
+        edit_walk::target_place(recs, places, q)
+    } else {
+        RECORDS as u16
     }
-    let mut same = true;
+}
+
+// Puts down the same for each of the first n records.
+fn note_aims(recs: &[u8], n: usize, places: &[u16], aims: &mut [u16])
+    requires { ⌜ (n ≤ mostRecords) × (length (now aims) ≡ mostRecords) ⌝ }
+    ensures { λ r. ⌜ Aims (now (recs .entry)) n (now (places .entry)) (now (aims .exit)) ⌝ }
+{
     let mut i: usize = 0;
-    while i < a.len() {
-        same = same & (a[i] == b[i]);
+    while i < n {
+        aims[i] = aim_at(recs, places, i);
         i += 1;
     }
-    same
 }
 
-// Whether two tables of groups are the same.
-fn is_same64(a: &[u64], b: &[u64]) -> bool
-    ensures { λ r. ⌜ r ≡ sameList (now (a .entry)) (now (b .entry)) ⌝ }
+// Puts the places, among the first n, of the Sets on the Create in place p at the front of members; says how many they
+// are.
+fn gather(aims: &[u16], n: usize, p: u16, members: &mut [u16]) -> usize
+    requires { ⌜ (n ≤ length (now aims))
+        × (n ≤ mostRecords)
+        × (length (placesAimed (now aims) n p) ≤ length (now members)) ⌝ }
+    ensures { λ r. ⌜ (take r (now (members .exit)) ≡ placesAimed (now (aims .entry)) n p)
+        × (r ≤ length (now (members .entry))) ⌝ }
 {
-    if a.len() != b.len() {
-        return false;
-    }
-    let mut same = true;
+    let mut k: usize = 0;
     let mut i: usize = 0;
-    while i < a.len() {
-        same = same & (a[i] == b[i]);
+    while i < n {
+        if aims[i] == p {
+            members[k] = i as u16;
+            k += 1;
+        }
         i += 1;
     }
-    same
+    k
 }
 
-// Whether two sets of counters are the same.
-fn is_same_counters(c: Counters, d: Counters) -> bool
-    ensures { λ r. ⌜ r ≡ sameCounters c d ⌝ }
+// Puts the groups of the Sets in the first k places at the front of gs, by the step for one Set after another from the
+// empty group; says how many they are. Once they are more than a row holds, they stay so, and the rest is left.
+fn work_out(recs: &[u8], places: &[u16], k: usize, gs: &mut [u64]) -> usize
+    requires { ⌜ (k ≤ length (now places)) × (k ≤ mostSets) × (length (now gs) ≡ mostGroups) ⌝ }
+    ensures { λ r. ⌜ WorkedOut (groupsIn (now (recs .entry)) (now (places .entry)) k) (now (gs .exit)) r ⌝ }
 {
-    let v = c.held;
-    let w = d.held;
-    (c.sites == d.sites)
-        & (c.records == d.records)
-        & (c.objects == d.objects)
-        & table_soundness::counts_agree(v, w)
+    gs[0] = 0;
+    let mut n: usize = 1;
+    let mut i: usize = 0;
+    while i < k {
+        let e = edit_history::decode_at(recs, places[i] as usize);
+        let m = table_index::conflicts_in(recs, places, i, e);
+        n = group_step::step_row(gs, n, m, i);
+        if GROUPS < n {
+            return n;
+        }
+        i += 1;
+    }
+    n
 }
 
-// Whether no record is refused from an empty drawing, and they give these very tables.
-fn is_replayed(c: Counters, records: &[u8], objects: &[u16], groups: &[u64]) -> bool
-    requires { ⌜ (lengthsRight (now records) (now objects) (now groups) ≡ true) × (withinLimits c ≡ true) ⌝ }
-    ensures { λ r. ⌜ r ≡ givesBack (tablesOf c (now (records .entry)) (now (objects .entry)) (now (groups .entry))) ⌝ }
+// Whether the row of object o has the groups of the object's Sets.
+fn is_row_true(
+    c: Counters,
+    records: &[u8],
+    objects: &[u16],
+    groups: &[u64],
+    aims: &[u16],
+    o: usize,
+) -> bool
+    requires { ⌜ (sound (tablesOf c (now records) (now objects) (now groups)) ≡ true)
+        × (o < c .objects)
+        × (length (now aims) ≡ mostRecords)
+        × TellsSets (now records) (c .records) (now aims) ⌝ }
+    ensures { λ r. ⌜ r ≡ rowTrue (tablesOf c (now (records .entry)) (now (objects .entry)) (now (groups .entry))) o ⌝ }
 {
-    let mut rs = [0u8; RECORDS * RECORD];
-    let mut os = [0u16; OBJECTS * ENTRY];
+    let at = o * ENTRY;
+    let p = at16(objects, at);
+    let g = at16(objects, at + 2);
     // what work space holds at first does not matter; zeros would be set by memset (docs/DECISIONS.md, 24)
-    let mut gs = [1u64; OBJECTS * GROUPS];
-    let t = replay(
-        c.sites,
-        &mut rs,
-        &mut os,
-        &mut gs,
-        records,
-        c.records as usize,
-    );
-    let d = t.counters;
-    let answer = t.answer;
-    (table_drawing::number(answer) == 0)
-        & (is_same_counters(c, d)
-            & is_same8(records, &rs)
-            & is_same16(objects, &os)
-            & is_same64(groups, &gs))
+    let mut members = [1u16; SETS];
+    let mut gs = [1u64; GROUPS];
+    let k = gather(aims, c.records as usize, p, &mut members);
+    let r = work_out(records, &members, k, &mut gs);
+    if GROUPS < r {
+        return false;
+    }
+    is_row(groups, o, g as usize, &gs, r)
+}
+
+// Whether the row of each object has the groups of the object's Sets.
+fn are_rows_true(
+    c: Counters,
+    records: &[u8],
+    objects: &[u16],
+    groups: &[u64],
+    places: &[u16],
+) -> bool
+    requires { ⌜ (sound (tablesOf c (now records) (now objects) (now groups)) ≡ true)
+        × Indexed (now records) (c .records) (now places) ⌝ }
+    ensures { λ r. ⌜ r ≡ rowsTrue (tablesOf c (now (records .entry)) (now (objects .entry)) (now (groups .entry))) ⌝ }
+{
+    let n = c.records as usize;
+    let m = c.objects as usize;
+    let mut aims = [1u16; RECORDS];
+    note_aims(records, n, places, &mut aims);
+    let mut right = true;
+    let mut o: usize = 0;
+    while o < m {
+        right = right & is_row_true(c, records, objects, groups, &aims, o);
+        o += 1;
+    }
+    right
 }
 
 // The separate check: done exactly when the tables are what their records give from an empty drawing, else unsound.
@@ -106,13 +179,11 @@ pub fn check(c: Counters, records: &[u8], objects: &[u16], groups: &[u64]) -> An
     ensures { λ r. ⌜ numberOf r
         ≡ checkOf (tablesOf c (now (records .entry)) (now (objects .entry)) (now (groups .entry))) ⌝ }
 {
-    if !table_drawing::lengths_right(records.len(), objects.len(), groups.len()) {
+    let mut places = [1u16; PLACES];
+    if !table_soundness::is_sound_with(c, records, objects, groups, &mut places) {
         return Answer::Unsound;
     }
-    if !table_soundness::within_limits(c) {
-        return Answer::Unsound;
-    }
-    if is_replayed(c, records, objects, groups) {
+    if are_rows_true(c, records, objects, groups, &places) {
         Answer::Done
     } else {
         Answer::Unsound

@@ -16,14 +16,15 @@ use Rattle.math_lists.proofs.Booleans.{clash, off, both, and-on}
 use Rattle.math_lists.proofs.LastBelow.{last}
 use Rattle.math_lists.proofs.NumbersBelow.{all-at, all-on}
 use Rattle.math_lists.proofs.ByPlaces.{zero-anywhere}
+use Rattle.edit_record.specs.Layout.{mostSites}
 use Rattle.edit_record.specs.Answer1.{isCreate, isSet}
 use Rattle.edit_causal.specs.Causal.{sameEdit}
 use Rattle.edit_history.specs.EditsHeld.{mostRecords, recordAt, editsOf, creates, isSetOn, setsOn}
 use Rattle.edit_history.specs.Answers2to5.{passes, recordsPass}
-use Rattle.edit_walk.specs.WalkForms.{placesLength, placeOf, Indexed}
+use Rattle.edit_walk.specs.WalkForms.{placesLength, slotOf, placeOf, Indexed, Spaced, SameStarts, countIn}
 use Rattle.edit_history.proofs.EditsHeld.{target-parts, create-less, chosen-grow, chosen-more}
 use Rattle.edit_history.proofs.RecordsPassed.{formed-at, one-place, target-before, set-after}
-use Rattle.edit_walk.proofs.WalkKeeps.{spot, indexed-more}
+use Rattle.edit_walk.proofs.WalkKeeps.{slot-low, starts-same, indexed-more}
 use Rattle.group_step.specs.GroupRows.{mostObjects, mostSets}
 use Rattle.table_drawing.specs.declared.Counters.{Counters}
 use Rattle.table_index.specs.IndexForms.{numberAt, isOn, placesOn, membersLength, IndexOf, Holds}
@@ -54,7 +55,6 @@ none-numbered rs = refl
 
 -- ---- one record more
 
--- a Create is no Set
 module _ (c : Counters) (rs : List ℕ) (h : Holds c rs) (n : ℕ) (l : n < c .records) where
   -- a Set on the Create in place p has the identity of that Create for its target
   on-target :
@@ -105,17 +105,25 @@ module _ (c : Counters) (rs : List ℕ) (h : Holds c rs) (n : ℕ) (l : n < c .r
         h .few-sets s q,
       )
 
-  module _ (ps ns cs ms : List ℕ) (x : IndexOf rs n ps ns cs ms) where
+  module _ (ps ns cs ms : List ℕ) (x : IndexOf rs n ps ns cs ms) (spaced : Spaced (countIn rs (suc n)) ps) where
     abbrev at : ℕ
-    at = recordAt rs n .site .0 * mostRecords + recordAt rs n .seq .0
+    at = slotOf ps (recordAt rs n .site .0) (recordAt rs n .seq .0)
+
+    fits : (s : ℕ) → s < mostSites → countIn rs (suc n) s ≤ countIn rs (suc n) s
+    fits s m = omega arith
 
     placed : Indexed rs (suc n) (set ps at n)
     placed =
-        indexed-more (c .sites) (h .few-sites) rs n (pass-below (suc n) l) ps (omega (arith, h .few-records))
-        (x .places-long) (x .indexed)
+        indexed-more (c .sites) (h .few-sites) rs n (pass-below (suc n) l) (countIn rs (suc n)) fits ps spaced
+        (x .indexed)
 
     pub spot-low : at < placesLength
-    spot-low = spot (c .sites) (h .few-sites) rs n (pass-below (suc n) l) (omega (arith, h .few-records))
+    spot-low =
+        slot-low (c .sites) (h .few-sites) rs n (pass-below (suc n) l) (countIn rs (suc n)) fits ps spaced
+
+    pub starts-kept : SameStarts ps (set ps at n)
+    starts-kept =
+        starts-same (c .sites) (h .few-sites) rs n (pass-below (suc n) l) (countIn rs (suc n)) fits ps spaced
 
     -- ---- a Create
 

@@ -1,6 +1,5 @@
 // The index of a drawing's records: where each edit stands, the number of each Create's object, and for each object how
 // many Sets it has and where they stand. By it an arriving edit is surveyed without being held against every record.
-use edit_history::RECORDS;
 use edit_history::Surveyed;
 use edit_record::AT_KEY;
 use edit_record::AT_SEQ;
@@ -9,6 +8,8 @@ use edit_record::CREATE;
 use edit_record::Edit;
 use edit_record::RECORD;
 use edit_record::SITES;
+use edit_record::Seq;
+use edit_record::Site;
 use group_step::OBJECTS;
 use group_step::SETS;
 use table_drawing::Counters;
@@ -23,7 +24,7 @@ ghost use Rattle.edit_record.specs.Answer1.{unfit};
 ghost use Rattle.edit_causal.specs.Conflict.{doConflict};
 ghost use Rattle.edit_history.specs.EditsHeld.{mostRecords, recordAt, editsOf, conflictsWith};
 ghost use Rattle.edit_history.specs.SurveyForms.{surveyOf, repeatedAgainst, earlyAgainst};
-ghost use Rattle.edit_walk.specs.WalkForms.{placesLength};
+ghost use Rattle.edit_walk.specs.WalkForms.{placesLength, slotOf, Spaced, SameStarts, countIn};
 ghost use Rattle.group_step.specs.GroupRows.{mostObjects, mostSets};
 ghost use Rattle.table_drawing.specs.declared.Counters.{Counters};
 ghost use Rattle.table_index.specs.IndexForms.{numberAt, membersLength, IndexOf, Holds};
@@ -32,15 +33,15 @@ ghost use Rattle.table_index.specs.IndexForms.{numberAt, membersLength, 
 pub const MEMBERS: usize = OBJECTS * SETS;
 
 // Where the index has the edit in place p of the records.
-fn spot(recs: &[u8], p: usize) -> usize
+fn spot(recs: &[u8], places: &[u16], p: usize) -> usize
     requires { ⌜ p < mostRecords ⌝ }
-    ensures { λ r. ⌜ r ≡ recordAt (now (recs .entry)) p .site .0 * mostRecords
-        + recordAt (now (recs .entry)) p .seq .0 ⌝ }
+    ensures { λ r. ⌜ r ≡ slotOf (now (places .entry)) (recordAt (now (recs .entry)) p .site .0)
+        (recordAt (now (recs .entry)) p .seq .0) ⌝ }
 {
     let at = p * RECORD;
     let site = edit_record::byte_at(recs, at + AT_SITE);
     let seq = edit_record::two_at(recs, at + AT_SEQ);
-    site as usize * RECORDS + seq as usize
+    edit_walk::slot_of(places, Site(site), Seq(seq))
 }
 
 // Puts the place p behind those of the Sets of object o.
@@ -58,7 +59,8 @@ fn add_set(p: usize, o: usize, counts: &mut [u16], members: &mut [u16])
     counts[o] = k + 1;
 }
 
-// Puts the record in place p into the index of those before it, of which m are Creates; says how many are then.
+// Puts the record in place p into the index of those before it, of which m are Creates, and which has room for it; says
+// how many are then.
 pub fn add(
     recs: &[u8],
     p: usize,
@@ -70,12 +72,14 @@ pub fn add(
 ) -> u16
     requires { ⌜ ((c : Counters) × Holds c (now recs) × (p < c .records))
         × IndexOf (now recs) p (now places) (now numbers) (now counts) (now members)
-        × (m ≡ numberAt (now recs) p) ⌝ }
+        × (m ≡ numberAt (now recs) p)
+        × Spaced (countIn (now recs) (p + 1)) (now places) ⌝ }
     ensures { λ r. ⌜ IndexOf (now (recs .entry)) (p + 1) (now (places .exit)) (now (numbers .exit))
         (now (counts .exit)) (now (members .exit))
-        × (r ≡ numberAt (now (recs .entry)) (p + 1)) ⌝ }
+        × (r ≡ numberAt (now (recs .entry)) (p + 1))
+        × SameStarts (now (places .entry)) (now (places .exit)) ⌝ }
 {
-    let at = spot(recs, p);
+    let at = spot(recs, places, p);
     places[at] = p as u16;
     if edit_history::kind_at(recs, p) == CREATE {
         numbers[p] = m;
@@ -104,6 +108,7 @@ pub fn build(
     ensures { λ r. ⌜ IndexOf (now (recs .entry)) n (now (places .exit)) (now (numbers .exit))
         (now (counts .exit)) (now (members .exit)) ⌝ }
 {
+    edit_walk::start_places(recs, n, places);
     let mut m: u16 = 0;
     let mut i: usize = 0;
     while i < n {
@@ -124,7 +129,7 @@ pub fn is_conflict_at(recs: &[u8], p: u16, e: Edit) -> bool
 }
 
 // Which of the edits in the k first places conflict with e, bit i for the i-th.
-fn conflicts_in(recs: &[u8], places: &[u16], k: usize, e: Edit) -> u64
+pub fn conflicts_in(recs: &[u8], places: &[u16], k: usize, e: Edit) -> u64
     requires { ⌜ (k ≤ length (now places)) × (k ≤ mostSets) ⌝ }
     ensures { λ r. ⌜ r ≡ conflictsWith e (map (recordAt (now (recs .entry))) (take k (now (places .entry)))) ⌝ }
 {

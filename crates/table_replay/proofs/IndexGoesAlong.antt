@@ -1,13 +1,17 @@
 -- The index goes along with the tables: what an accepted record leaves holds what the index needs to take it in.
 -- Assumes nothing.
-use mathlib.Core.Path.{_≡_, sym, ap, _∙_}
+use mathlib.Core.Path.{_≡_, sym, ap, subst, _∙_}
 use mathlib.Core.Bool.{true}
-use mathlib.Core.List.{List}
-use Prim.Native.Nat.{ℕ, _+_, _<_}
+use mathlib.Core.List.{List, [], _∷_, _++_}
+use Prim.Native.Nat.{ℕ, suc, _+_, _<_}
 use native.Mathlib.Omega.{arith}
+use native.Mathlib.Numerals.{add-one}
 use lib.ListN.{length}
 use Rattle.edit_record.specs.Layout.{mostSites}
-use Rattle.edit_history.specs.EditsHeld.{recordAt}
+use Rattle.edit_record.specs.declared.Edit.{Edit}
+use Rattle.edit_record.specs.RecordBytes.{decodeOf}
+use Rattle.edit_history.specs.EditsHeld.{recordAt, editsOf, countFrom}
+use Rattle.edit_walk.specs.WalkForms.{Spaced, countIn}
 use Rattle.table_drawing.specs.Tables.{Tables}
 use Rattle.table_drawing.specs.AnswerNumbers.{Outcome, outcomeOf}
 use Rattle.table_soundness.specs.Sound.{sound}
@@ -16,7 +20,7 @@ use Rattle.table_index.specs.IndexForms.{numberAt, IndexOf, Holds}
 use Rattle.table_index.proofs.SameEdits.{number-same, index-same}
 use Rattle.table_arrival.specs.Arrival.{putRecord, taken, acceptanceOf}
 use Rattle.table_arrival.specs.Answers6and7.{answerTo}
-use Rattle.table_arrival.proofs.RecordsOneMore.{put-before}
+use Rattle.table_arrival.proofs.RecordsOneMore.{put-before, put-edits}
 use Rattle.table_arrival.proofs.Admitted.{accepted, was-taken, taken-records}
 use Rattle.table_arrival.proofs.ArrivalKeepsSound.{acceptance-keeps}
 use Rattle.table_arrival.proofs.CodeInHand.{holds}
@@ -52,7 +56,22 @@ module _
       (ap (λ (rs : List ℕ). recordAt rs p) grown
       ∙ put-before (t .records) (t .counters .records) b (x .whole) (omega (arith, k .records-long, x .room)) p l)
 
+  edits-on :
+      editsOf (t′ .records) (suc (t .counters .records))
+      ≡ editsOf (t .records) (t .counters .records) ++ (decodeOf b ∷ [])
+  edits-on =
+      let x = accepted t b answered .admitted in
+      let k = sound-at t s in
+      ap (λ (rs : List ℕ). editsOf rs (suc (t .counters .records))) grown
+      ∙ put-edits (t .records) (t .counters .records) b (x .whole) (omega (arith, k .records-long, x .room))
+
   -- ---- what the index needs
+
+  pub room-on :
+      (ps : List ℕ) →
+      Spaced (λ p. countFrom p (editsOf (t .records) (t .counters .records) ++ (decodeOf b ∷ []))) ps →
+      Spaced (countIn (t′ .records) (t .counters .records + 1)) ps
+  room-on ps x = rw add-one (subst (λ (es : List Edit). Spaced (λ p. countFrom p es) ps) (sym edits-on) x)
 
   pub holds-on : Holds (t′ .counters) (t′ .records)
   holds-on =

@@ -1,9 +1,9 @@
 -- A drawing made from records holds those records: its table has their bytes in their places, and replayed they give
 -- the same drawing. Assumes nothing.
-use mathlib.Core.Path.{_≡_, refl, sym, ap, ap₂, _∙_}
+use mathlib.Core.Path.{_≡_, refl, sym, ap, ap₂, subst, _∙_}
 use mathlib.Core.Logic.{inl, inr}
 use mathlib.Core.Bool.{Bool, true, false, cond}
-use mathlib.Core.List.{List, _++_}
+use mathlib.Core.List.{List, [], _∷_, _++_}
 use Prim.Native.Nat.{ℕ, zero, suc, _+_, _*_, _≤_, _<_}
 use native.Mathlib.Omega.{arith}
 use native.Mathlib.Numerals.{add-one}
@@ -13,7 +13,13 @@ use lib.Dec.{eqb}
 use borrow.Author.Tests.{eqb-true, eqb-false, eq-eqb}
 use Rattle.math_lists.proofs.LastBelow.{last}
 use Rattle.edit_record.specs.Layout.{recordLength}
-use Rattle.edit_history.specs.EditsHeld.{bytesAt}
+use Rattle.edit_record.specs.declared.Edit.{Edit}
+use Rattle.edit_record.specs.RecordBytes.{decodeOf}
+use Rattle.edit_history.specs.EditsHeld.{bytesAt, editsOf, countFrom}
+use Rattle.edit_history.proofs.EditsHeld.{edits-same}
+use Rattle.edit_history.proofs.FieldsInPlace.{bytes-decoded}
+use Rattle.edit_walk.specs.WalkForms.{Spaced, countIn}
+use Rattle.edit_walk.proofs.RoomInIndex.{spaced-before}
 use Rattle.table_drawing.specs.Tables.{Tables, emptyDrawing, sitesRight}
 use Rattle.table_drawing.specs.AnswerNumbers.{outcomeOf}
 use Rattle.table_soundness.proofs.SoundFacts.{Sound}
@@ -119,6 +125,25 @@ holds sites rs right (suc n) t g =
             | inr e ↦ rw e (put-bytes-here (u .records) n b (a .admitted .whole) room)
           ];
     }
+
+pub held-edits :
+    (sites : ℕ) (rs : List ℕ) (n : ℕ) (t : Tables) → Holds sites rs n t →
+    editsOf (t .records) (t .counters .records) ≡ editsOf rs n
+held-edits sites rs n t h =
+    ap (editsOf (t .records)) (h .count)
+    ∙ edits-same (t .records) rs n (λ p l.
+    sym (bytes-decoded (t .records) p) ∙ ap decodeOf (h .bytes p l) ∙ bytes-decoded rs p)
+
+-- an index with room for m records has room for those held and the next one
+pub next-room :
+    (sites : ℕ) (rs : List ℕ) → sitesRight sites ≡ true → (n m : ℕ) → n < m → (t : Tables) → Going sites rs n t →
+    (ps : List ℕ) → Spaced (countIn rs m) ps →
+    Spaced (λ s. countFrom s (editsOf (t .records) (t .counters .records) ++ (decodeOf (bytesAt rs n) ∷ []))) ps
+next-room sites rs right n m l t g ps x =
+    subst (λ (es : List Edit). Spaced (λ s. countFrom s es) ps)
+    (sym (ap₂ (λ (es : List Edit) (e : Edit). es ++ (e ∷ [])) (held-edits sites rs n t (holds sites rs right n t g))
+    (bytes-decoded rs n)))
+    (unfold editsOf in spaced-before rs ps (suc n) m l x)
 
 -- a drawing's own records give the drawing
 pub own-records :

@@ -10,10 +10,13 @@ use table_drawing::Counters;
 use table_index::MEMBERS;
 ghost use mathlib.Core.Path.{_≡_};
 ghost use mathlib.Core.Bool.{true};
+ghost use mathlib.Core.List.{[], _∷_, _++_};
 ghost use Prim.Native.Nat.{_*_, _≤_};
 ghost use lib.ListN.{length};
 ghost use Rattle.edit_record.specs.Layout.{mostSites, recordLength};
-ghost use Rattle.edit_history.specs.EditsHeld.{mostRecords};
+ghost use Rattle.edit_record.specs.RecordBytes.{decodeOf};
+ghost use Rattle.edit_history.specs.EditsHeld.{mostRecords, editsOf, countFrom};
+ghost use Rattle.edit_walk.specs.WalkForms.{Spaced, SameStarts, countIn};
 ghost use Rattle.table_drawing.specs.Tables.{tablesOf, emptyDrawing, lengthsRight, sitesRight};
 ghost use Rattle.table_drawing.specs.AnswerNumbers.{outcomeOf, numberOf};
 ghost use Rattle.table_soundness.specs.Sound.{sound};
@@ -29,6 +32,7 @@ pub struct Taken {
 }
 
 // Takes one record at tables that are sound, by the index of their records, and puts it into the index if it is taken.
+// The index has room for it.
 fn take_next(
     c: Counters,
     records: &mut [u8],
@@ -42,13 +46,15 @@ fn take_next(
 ) -> Arrived
     requires { ⌜ (sound (tablesOf c (now records) (now objects) (now groups)) ≡ true)
         × (length (c .held) ≡ mostSites)
-        × IndexOf (now records) (c .records) (now places) (now numbers) (now counts) (now members) ⌝ }
+        × IndexOf (now records) (c .records) (now places) (now numbers) (now counts) (now members)
+        × Spaced (λ s. countFrom s (editsOf (now records) (c .records) ++ (decodeOf (now rec) ∷ []))) (now places) ⌝ }
     ensures { λ r. ⌜ (outcomeOf (numberOf (r .answer))
         (tablesOf (r .counters) (now (records .exit)) (now (objects .exit)) (now (groups .exit)))
         ≡ acceptanceOf (tablesOf c (now (records .entry)) (now (objects .entry)) (now (groups .entry)))
         (now (rec .entry)))
         × (numberOf (r .answer) ≡ 0 → IndexOf (now (records .exit)) (r .counters .records) (now (places .exit))
-        (now (numbers .exit)) (now (counts .exit)) (now (members .exit))) ⌝ }
+        (now (numbers .exit)) (now (counts .exit)) (now (members .exit))
+        × SameStarts (now (places .entry)) (now (places .exit))) ⌝ }
 {
     let e = edit_record::decode(rec);
     let v = table_index::survey(c, records, places, numbers, counts, members, e);
@@ -68,7 +74,7 @@ fn take_next(
     a
 }
 
-// Takes the first n records of recs, one after another, into an empty drawing.
+// Takes the first n records of recs, one after another, into an empty drawing. The index has room for all of them.
 fn take_records(
     empty: Counters,
     records: &mut [u8],
@@ -83,6 +89,7 @@ fn take_records(
 ) -> Taken
     requires { ⌜ (tablesOf empty (now records) (now objects) (now groups) ≡ emptyDrawing (empty .sites))
         × IndexOf (now records) (empty .records) (now places) (now numbers) (now counts) (now members)
+        × Spaced (countIn (now recs) n) (now places)
         × (sitesRight (empty .sites) ≡ true)
         × (n ≤ mostRecords)
         × (n * recordLength ≤ length (now recs)) ⌝ }
@@ -156,6 +163,7 @@ pub fn replay(
     let mut numbers = [1u16; RECORDS];
     let mut members = [1u16; MEMBERS];
     let mut counts = [0u16; OBJECTS];
+    edit_walk::start_places(recs, n, &mut places);
     take_records(
         empty,
         records,

@@ -2,7 +2,7 @@
 use mathlib.Core.Path.{_≡_, refl, sym, _∙_}
 use mathlib.Core.Bool.{Bool, true, false, _&&_, cond, and-true, and-false}
 use mathlib.Core.List.{List}
-use Prim.Native.Nat.{ℕ, _+_, _≤_, _<_}
+use Prim.Native.Nat.{ℕ, zero, suc, _+_, _≤_, _<_}
 use native.Mathlib.Omega.{arith}
 use native.Mathlib.Numerals.{add-one}
 use native.Mathlib.Decide.{ℕ-discrete}
@@ -12,13 +12,13 @@ use lib.Seq.{getD-set-same, getD-set-other}
 use borrow.Author.Tests.{ne-eqb}
 use borrow.Author.Count.{below-more}
 use Rattle.math_lists.specs.SortedLists.{filter}
-use Rattle.math_lists.proofs.Booleans.{eqb-self}
+use Rattle.math_lists.proofs.Booleans.{off, both, eqb-self}
 use Rattle.edit_record.specs.declared.Edit.{Edit}
 use Rattle.edit_record.specs.Answer1.{isCreate, isSet}
 use Rattle.edit_history.specs.EditsHeld.{recordAt, editsOf, creates, mostRecords}
 use Rattle.edit_history.proofs.EditsHeld.{chosen-more, chosen-few}
 use Rattle.edit_walk.specs.WalkForms.{placeOf}
-use Rattle.table_soundness.specs.SoundnessForms.{aimsAt, Numbered, Aimed}
+use Rattle.table_soundness.specs.SoundnessForms.{Targeted, Numbered}
 
 -- ---- those of the first n records that pass f
 
@@ -56,13 +56,43 @@ numbered-more rs ns n k h e l =
 
 -- ---- the Sets, by the index ps of places
 
+-- e is a Set, and the index ps has its target in place p
+abbrev pub aimsAt : List ℕ → ℕ → Edit → Bool
+aimsAt ps p e = isSet e && eqb (placeOf ps (e .tsite .0) (e .tseq .0)) p
+
+-- ts has how many of the first n records are Sets that the index ps has aimed at each place
+abbrev pub Aimed : List ℕ → ℕ → List ℕ → List ℕ → Type 0
+Aimed rs n ps ts = (p : ℕ) → p < mostRecords → getD ts p 0 ≡ length (filter (aimsAt ps p) (editsOf rs n))
+
 pub aimed-none : (rs ps : List ℕ) → Aimed rs 0 ps (replicate mostRecords 0)
 unfolding editsOf filter
 aimed-none rs ps p l = getD-replicate mostRecords p 0 0 l
 
-pub aimed-le :
-    (rs ps ts : List ℕ) (n p : ℕ) → Aimed rs n ps ts → p < mostRecords → getD ts p 0 ≤ n
-aimed-le rs ps ts n p h l = omega (arith, h p l, chosen-few (aimsAt ps p) rs n)
+-- where the first record does not pass, fewer pass than there are
+chosen-fewer :
+    (f : Edit → Bool) (rs : List ℕ) (n : ℕ) → f (recordAt rs 0) ≡ false → length (filter f (editsOf rs (suc n))) ≤ n
+chosen-fewer f rs zero h =
+    rw (chosen-more f rs 0, h) (omega (arith, chosen-few f rs 0))
+chosen-fewer f rs (suc n) h = rw (chosen-more f rs (suc n)) (go (f (recordAt rs (suc n))) (chosen-fewer f rs n h))
+  where
+    go : (b : Bool) → length (filter f (editsOf rs (suc n))) ≤ n →
+        length (filter f (editsOf rs (suc n))) + cond b 1 0 ≤ suc n
+    go true h = omega arith
+    go false h = omega arith
+
+-- a tally below the last record has room for one more in a byte
+pub aimed-low :
+    (rs ps ts : List ℕ) (m n p : ℕ) → m ≤ mostRecords → n < m → Targeted rs m → Aimed rs n ps ts → p < mostRecords →
+    getD ts p 0 + 1 < mostRecords
+aimed-low rs ps ts m zero p few l targets h k =
+    omega (arith, h p k, chosen-few (aimsAt ps p) rs 0)
+aimed-low rs ps ts m (suc n) p few l targets h k =
+    omega (arith, h p k, chosen-fewer (aimsAt ps p) rs n first)
+  where
+    first : aimsAt ps p (recordAt rs 0) ≡ false
+    first =
+        off (aimsAt ps p (recordAt rs 0))
+        (λ y. let (q, o, _, _, _) = targets 0 (omega arith) (both (isSet (recordAt rs 0)) _ y .0) in omega arith)
 
 -- one more in place p, where b holds
 raise-at :

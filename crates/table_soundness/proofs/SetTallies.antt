@@ -16,7 +16,8 @@ use Rattle.edit_record.specs.declared.Edit.{Edit}
 use Rattle.edit_record.specs.Answer1.{isSet}
 use Rattle.edit_history.specs.EditsHeld.{recordAt, editsOf, isSetOn, setsOn, mostRecords}
 use Rattle.edit_causal.specs.Causal.{sameEdit}
-use Rattle.table_soundness.specs.SoundnessForms.{Targeted, aimsAt, Aimed, Tallied}
+use Rattle.table_soundness.specs.SoundnessForms.{Targeted, Tallied}
+use Rattle.table_soundness.proofs.CountingPasses.{aimsAt, Aimed}
 
 -- ---- tests of records
 
@@ -63,10 +64,15 @@ module _ (rs ps : List ℕ) (n : ℕ) (index : Indexed rs n ps) (targets : Targe
       and-on (isSet e) (eqb at q) s
       (eq-eqb at q (rw (eqb-true (e .tsite .0) (a .site .0) u, eqb-true (e .tseq .0) (a .seq .0) v) (index q l)))
 
+  pub aims-is :
+      (q p : ℕ) → q < n → p < n →
+      aimsAt ps q (recordAt rs p) ≡ isSetOn (recordAt rs q .site) (recordAt rs q .seq) (recordAt rs p)
+  aims-is q p l m = same-test _ _ (aimed-on q p m) (on-aimed q p l)
+
   pub tallied : (ts : List ℕ) → n ≤ mostRecords → Aimed rs n ps ts → Tallied rs n ts
   unfolding setsOn
   tallied ts l h q m =
       h q (omega arith)
       ∙ ap length
       (filter-agree (aimsAt ps q) (isSetOn (recordAt rs q .site) (recordAt rs q .seq)) rs n
-      (λ p o. same-test _ _ (aimed-on q p o) (on-aimed q p m)))
+      (λ p o. aims-is q p m o))

@@ -1,5 +1,5 @@
 -- The test that every entry of l from k on is zero, as a loop that starts at k makes it. Assumes nothing.
-use mathlib.Core.Path.{_≡_, sym}
+use mathlib.Core.Path.{_≡_, refl, sym}
 use mathlib.Core.Bool.{Bool, true, _&&_, _||_}
 use mathlib.Core.List.{List}
 use Prim.Native.Nat.{ℕ, _+_, _≤_, _<_}
@@ -8,9 +8,10 @@ use native.Mathlib.Numerals.{add-one}
 use native.Mathlib.Decide.{decLt}
 use lib.Dec.{eqb, ltb}
 use lib.ListN.{getD, length, List·getD-eq-default}
-use borrow.Author.Tests.{lt-ltb, le-ltb, eq-eqb}
+use lib.Bits.{bitOr, or-add-and, and-le-l, and-comm}
+use borrow.Author.Tests.{lt-ltb, le-ltb, eq-eqb, eqb-true}
 use Rattle.math_lists.specs.NumbersBelow.{all}
-use Rattle.math_lists.proofs.Booleans.{same-test, or-left, or-right}
+use Rattle.math_lists.proofs.Booleans.{same-test, both, and-on, or-left, or-right}
 use Rattle.math_lists.proofs.NumbersBelow.{all-on, all-at}
 use Rattle.table_soundness.specs.Sound.{zeroFrom}
 
@@ -38,3 +39,21 @@ zero-end l k i m =
     at j (yes o) h = all-at (length l) (zeroAt l k) h j o
     at j (no o) h =
         or-right (ltb j k) (eqb (getD l j 0) 0) (eq-eqb (getD l j 0) 0 (List·getD-eq-default l 0 (omega arith)))
+
+-- ---- by the bits of all together
+
+-- two numbers have no bit between them exactly if both are zero
+pub no-bit : (a b : ℕ) → (eqb a 0 && eqb b 0) ≡ eqb (bitOr a b) 0
+no-bit a b =
+    same-test (eqb a 0 && eqb b 0) (eqb (bitOr a b) 0)
+    (λ h.
+    let (x, y) = both (eqb a 0) (eqb b 0) h in
+    let none : bitOr a b ≡ 0 = rw (eqb-true a 0 x, eqb-true b 0 y) refl in
+    eq-eqb (bitOr a b) 0 none)
+    (λ h.
+    let none : bitOr a b ≡ 0 = eqb-true (bitOr a b) 0 h in
+    let sum = or-add-and a b in
+    let low = and-le-l a b in
+    let low′ = and-le-l b a in
+    let turned = and-comm a b in
+    and-on (eqb a 0) (eqb b 0) (eq-eqb a 0 (omega arith)) (eq-eqb b 0 (omega arith)))

@@ -1,18 +1,15 @@
 -- What the test of soundness gathers in one pass over the records rs: where each edit stands, how many Creates stand
--- before each record, and how many Sets are aimed at it. Assumes nothing.
+-- before each record, and how many Sets there are on it. Assumes nothing.
 use mathlib.Core.Path.{_≡_}
-use mathlib.Core.Bool.{Bool, true, _&&_}
+use mathlib.Core.Bool.{true}
 use mathlib.Core.List.{List}
 use Prim.Native.Nat.{ℕ, _<_}
 use lib.ListN.{getD, length}
-use lib.Dec.{eqb}
-use Rattle.math_lists.specs.SortedLists.{filter}
-use Rattle.edit_record.specs.declared.Edit.{Edit}
 use Rattle.edit_record.specs.Layout.{mostSites}
 use Rattle.edit_record.specs.Answer1.{isCreate, isSet}
-use Rattle.edit_history.specs.EditsHeld.{recordAt, editsOf, countFrom, creates, setsOn, mostRecords}
+use Rattle.edit_history.specs.EditsHeld.{recordAt, editsOf, countFrom, creates, setsOn}
 use Rattle.edit_history.specs.Answers2to5.{recordsPass}
-use Rattle.edit_walk.specs.WalkForms.{placeOf, Indexed}
+use Rattle.edit_walk.specs.WalkForms.{Indexed}
 use Rattle.table_drawing.specs.Tables.{Tables, heldBy, lengthsRight}
 use Rattle.table_soundness.specs.Sound.{withinLimits}
 
@@ -32,17 +29,9 @@ Targeted rs n =
 
 -- ---- what is counted
 
--- e is a Set, and the index ps has its target in place p
-abbrev pub aimsAt : List ℕ → ℕ → Edit → Bool
-aimsAt ps p e = isSet e && eqb (placeOf ps (e .tsite .0) (e .tseq .0)) p
-
 -- ns has how many Creates stand before each of the first n records
 abbrev pub Numbered : List ℕ → ℕ → List ℕ → Type 0
 Numbered rs n ns = (p : ℕ) → p < n → getD ns p 0 ≡ length (creates (editsOf rs p))
-
--- ts has how many of the first n records are Sets that the index ps has aimed at each place
-abbrev pub Aimed : List ℕ → ℕ → List ℕ → List ℕ → Type 0
-Aimed rs n ps ts = (p : ℕ) → p < mostRecords → getD ts p 0 ≡ length (filter (aimsAt ps p) (editsOf rs n))
 
 -- ts has how many Sets there are on each of the first n records
 abbrev pub Tallied : List ℕ → ℕ → List ℕ → Type 0

@@ -12,20 +12,21 @@ use group_step::OBJECTS;
 use table_drawing::Counters;
 use table_drawing::ENTRY;
 ghost use mathlib.Core.Path.{_≡_};
-ghost use mathlib.Core.Bool.{_&&_};
+ghost use mathlib.Core.Bool.{true, _&&_};
 ghost use Prim.Native.Nat.{_*_, _≤_};
 ghost use lib.Dec.{eqb};
-ghost use lib.ListN.{getD};
+ghost use lib.ListN.{getD, length};
 ghost use Rattle.math_lists.specs.NumbersBelow.{all};
 ghost use Rattle.group_step.specs.GroupRows.{mostObjects, mostGroups};
 ghost use Rattle.edit_record.specs.Layout.{mostSites, recordLength};
 ghost use Rattle.edit_history.specs.EditsHeld.{mostRecords};
+ghost use Rattle.edit_walk.specs.WalkForms.{placesLength, Indexed};
 ghost use Rattle.table_drawing.specs.Tables.{entryLength, tablesOf};
 ghost use Rattle.table_soundness.specs.Sound.{withinLimits, zeroFrom, sound};
 ghost use Rattle.table_soundness.specs.SoundnessForms.{Passed};
 
 // Whether the counters are within their limits.
-pub fn within_limits(c: Counters) -> bool
+fn within_limits(c: Counters) -> bool
     ensures { λ r. ⌜ r ≡ withinLimits c ⌝ }
 {
     table_drawing::sites_right(c.sites)
@@ -34,7 +35,7 @@ pub fn within_limits(c: Counters) -> bool
 }
 
 // Whether two lists of counts agree.
-pub fn counts_agree(given: [u16; SITES], counted: [u16; SITES]) -> bool
+fn counts_agree(given: [u16; SITES], counted: [u16; SITES]) -> bool
     ensures { λ r. ⌜ r ≡ all mostSites (λ s. eqb (getD given s 0) (getD counted s 0)) ⌝ }
 {
     let mut agree = true;
@@ -80,10 +81,19 @@ fn rest_sound(
     agree & drawing & zero
 }
 
-// Whether the tables are sound, whatever stands in them. The records are walked once, and each object is tested by what
-// two more passes count, so that no object is held against every record.
-pub fn is_sound(c: Counters, records: &[u8], objects: &[u16], groups: &[u64]) -> bool
-    ensures { λ r. ⌜ r ≡ sound (tablesOf c (now (records .entry)) (now (objects .entry)) (now (groups .entry))) ⌝ }
+// Whether the tables are sound, whatever stands in them; if they are, places is the index of their records. The records
+// are walked once, and each object is tested by what two more passes count, so that no object is held against every
+// record.
+pub fn is_sound_with(
+    c: Counters,
+    records: &[u8],
+    objects: &[u16],
+    groups: &[u64],
+    places: &mut [u16],
+) -> bool
+    requires { ⌜ length (now places) ≡ placesLength ⌝ }
+    ensures { λ r. ⌜ (r ≡ sound (tablesOf c (now (records .entry)) (now (objects .entry)) (now (groups .entry))))
+        × (r ≡ true → Indexed (now (records .entry)) (c .records) (now (places .exit))) ⌝ }
 {
     if !table_drawing::lengths_right(records.len(), objects.len(), groups.len()) {
         return false;
@@ -91,12 +101,19 @@ pub fn is_sound(c: Counters, records: &[u8], objects: &[u16], groups: &[u64]) ->
     if !within_limits(c) {
         return false;
     }
-    // what work space holds at first does not matter; zeros would be set by memset (docs/DECISIONS.md, 24)
-    let mut places = [1u16; PLACES];
-    let w = edit_walk::walk(c.sites, records, c.records as usize, &mut places);
+    let w = edit_walk::walk(c.sites, records, c.records as usize, places);
     if !w.ok {
         return false;
     }
     let held = w.held;
-    rest_sound(c, held, &places, records, objects, groups)
+    rest_sound(c, held, places, records, objects, groups)
+}
+
+// Whether the tables are sound, whatever stands in them.
+pub fn is_sound(c: Counters, records: &[u8], objects: &[u16], groups: &[u64]) -> bool
+    ensures { λ r. ⌜ r ≡ sound (tablesOf c (now (records .entry)) (now (objects .entry)) (now (groups .entry))) ⌝ }
+{
+    // what work space holds at first does not matter; zeros would be set by memset (docs/DECISIONS.md, 24)
+    let mut places = [1u16; PLACES];
+    is_sound_with(c, records, objects, groups, &mut places)
 }

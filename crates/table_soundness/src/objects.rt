@@ -3,6 +3,7 @@
 use edit_history::RECORDS;
 use edit_record::CREATE;
 use edit_record::SET;
+use edit_record::byte_at;
 use group_step::GROUPS;
 use group_step::SETS;
 use table_drawing::ENTRY;
@@ -12,7 +13,7 @@ ghost use mathlib.Core.Path.{_≡_};
 ghost use mathlib.Core.Bool.{_&&_, cond};
 ghost use Prim.Native.Nat.{_^_, _≤_, _<_};
 ghost use lib.Dec.{eqb, ltb};
-ghost use lib.ListN.{length};
+ghost use lib.ListN.{length, replicate};
 ghost use Rattle.math_lists.specs.NumbersBelow.{all};
 ghost use Rattle.edit_record.specs.Layout.{twoBytes};
 ghost use Rattle.group_step.specs.GroupRows.{mostObjects, mostGroups};
@@ -20,16 +21,10 @@ ghost use Rattle.edit_history.specs.EditsHeld.{mostRecords, editsOf, creates};
 ghost use Rattle.table_drawing.specs.Tables.{groupsLength};
 ghost use Rattle.table_soundness.specs.Sound.{slotSound, rowSound, entrySound, objectSound};
 ghost use Rattle.edit_walk.specs.WalkForms.{Indexed};
-ghost use Rattle.table_soundness.specs.SoundnessForms.{Targeted, Numbered, Aimed, Tallied};
-
-// How many Creates are among the records, and how many of them stand earlier than each record.
-struct Creates {
-    count: u16,
-    earlier: [u16; RECORDS],
-}
+ghost use Rattle.table_soundness.specs.SoundnessForms.{Targeted, Numbered, Tallied};
 
 // How many times b holds.
-fn one_if(b: bool) -> u16
+fn one_if(b: bool) -> u8
     ensures { λ r. ⌜ (r ≡ cond b 1 0) × (r ≤ 1) ⌝ }
 {
     if b { 1 } else { 0 }
@@ -76,30 +71,30 @@ fn row_sound(groups: &[u64], o: usize, k: u64, g: usize) -> bool
     sound
 }
 
-// The Creates among the first n records, numbered.
-fn number_creates(recs: &[u8], n: usize) -> Creates
-    requires { ⌜ n ≤ mostRecords ⌝ }
-    ensures { λ r. ⌜ (r .count ≡ length (creates (editsOf (now (recs .entry)) n)))
-        × Numbered (now (recs .entry)) n (r .earlier) ⌝ }
+// How many Creates are among the first n records; earlier gets how many of them stand before each record.
+fn number_creates(recs: &[u8], n: usize, earlier: &mut [u8]) -> u16
+    requires { ⌜ (n ≤ mostRecords) × (length (now earlier) ≡ mostRecords) ⌝ }
+    ensures { λ r. ⌜ (r ≡ length (creates (editsOf (now (recs .entry)) n)))
+        × Numbered (now (recs .entry)) n (now (earlier .exit)) ⌝ }
 {
-    let mut earlier = [0u16; RECORDS];
     let mut count: u16 = 0;
     let mut i: usize = 0;
     while i < n {
         let kind = edit_history::kind_at(recs, i);
-        earlier[i] = count;
-        count = count + one_if(kind == CREATE);
+        earlier[i] = count as u8;
+        count = count + one_if(kind == CREATE) as u16;
         i += 1;
     }
-    Creates { count, earlier }
+    count
 }
 
-// How many of the first n records are Sets on the record in each place, by the index of places.
-fn tally_sets(recs: &[u8], n: usize, places: &[u16]) -> [u16; RECORDS]
-    requires { ⌜ n ≤ mostRecords ⌝ }
-    ensures { λ r. ⌜ Aimed (now (recs .entry)) n (now (places .entry)) r ⌝ }
+// Tallies how many of the first n records are Sets on the record in each place, by the index of places. The first
+// record is no Set, so that each tally is below RECORDS and has room in a byte.
+fn tally_sets(recs: &[u8], n: usize, places: &[u16], tallies: &mut [u8])
+    requires { ⌜ (n ≤ mostRecords) × Indexed (now recs) n (now places) × Targeted (now recs) n
+        × (now tallies ≡ replicate mostRecords 0) ⌝ }
+    ensures { λ r. ⌜ Tallied (now (recs .entry)) n (now (tallies .exit)) ⌝ }
 {
-    let mut tallies = [0u16; RECORDS];
     let mut i: usize = 0;
     while i < n {
         let kind = edit_history::kind_at(recs, i);
@@ -110,15 +105,14 @@ fn tally_sets(recs: &[u8], n: usize, places: &[u16]) -> [u16; RECORDS]
         }
         i += 1;
     }
-    tallies
 }
 
 // Whether p is the place of the Create of object o, and k the number of its Sets.
 fn entry_sound(
     recs: &[u8],
     n: usize,
-    numbers: &[u16],
-    tallies: &[u16],
+    numbers: &[u8],
+    tallies: &[u8],
     o: usize,
     p: usize,
     k: usize,
@@ -127,8 +121,8 @@ fn entry_sound(
     ensures { λ r. ⌜ r ≡ entrySound (now (recs .entry)) n o p k ⌝ }
 {
     let kind = edit_history::kind_at(recs, p);
-    let number = at16(numbers, p);
-    let tally = at16(tallies, p);
+    let number = byte_at(numbers, p);
+    let tally = byte_at(tallies, p);
     (p < n) & (kind == CREATE) & (number as usize == o) & (k == tally as usize) & (k <= SETS)
 }
 
@@ -138,8 +132,8 @@ fn object_sound(
     n: usize,
     objects: &[u16],
     groups: &[u64],
-    numbers: &[u16],
-    tallies: &[u16],
+    numbers: &[u8],
+    tallies: &[u8],
     o: usize,
 ) -> bool
     requires { ⌜ (o < mostObjects) × (length (now groups) ≡ groupsLength) × Numbered (now recs) n (now numbers)
@@ -161,8 +155,8 @@ fn objects_sound(
     n: usize,
     objects: &[u16],
     groups: &[u64],
-    numbers: &[u16],
-    tallies: &[u16],
+    numbers: &[u8],
+    tallies: &[u8],
     m: usize,
 ) -> bool
     requires { ⌜ (m ≤ mostObjects) × (length (now groups) ≡ groupsLength) × Numbered (now recs) n (now numbers)
@@ -192,9 +186,10 @@ pub fn drawing_sound(
     ensures { λ r. ⌜ r ≡ (eqb m (length (creates (editsOf (now (recs .entry)) n)))
         && all m (objectSound (now (recs .entry)) n (now (objects .entry)) (now (groups .entry)))) ⌝ }
 {
-    let c = number_creates(recs, n);
-    let earlier = c.earlier;
-    let tallies = tally_sets(recs, n, places);
+    let mut earlier = [0u8; RECORDS];
+    let mut tallies = [0u8; RECORDS];
+    let count = number_creates(recs, n, &mut earlier);
+    tally_sets(recs, n, places, &mut tallies);
     let each = objects_sound(recs, n, objects, groups, &earlier, &tallies, m);
-    (m == c.count as usize) & each
+    (m == count as usize) & each
 }

@@ -28,15 +28,16 @@ pub fn is_zero_from16(s: &[u16], k: usize) -> bool
     zero
 }
 
-// Whether every group from k on is zero.
+// Whether every group from k on is zero: whether they have no bit between them, which a processor tells faster than it
+// compares each.
 pub fn is_zero_from64(s: &[u64], k: usize) -> bool
     ensures { λ r. ⌜ r ≡ zeroFrom (now (s .entry)) k ⌝ }
 {
-    let mut zero = true;
+    let mut bits: u64 = 0;
     let mut i = k;
     while i < s.len() {
-        zero = zero & (s[i] == 0);
+        bits = bits | s[i];
         i += 1;
     }
-    zero
+    bits == 0
 }

@@ -8,21 +8,27 @@ use denote.Ref.{now}
 use borrow.Author.Tests.{not-true, not-false}
 use borrow.Author.Needs.{needs}
 use Rattle.math_lists.proofs.Booleans.{clash}
-use Rattle.edit_history.specs.EditsHeld.{mostRecords}
-use Rattle.edit_walk.proofs.WalkKeeps.{Walking, walking-starts, walking-more, told, refused, held-few, spot-more}
+use Rattle.edit_walk.specs.WalkForms.{placesLength}
+use Rattle.edit_walk.proofs.WalkKeeps.{Walking, walking-starts, walking-more, told, refused, held-few, slot-more}
 use Rattle.edit_walk.proofs.walk.Statement.{statement}
 use Rattle.edit_walk.proofs.walk.Tie as tie
 
 abbrev Inv-loop : tie.InvT-loop
-Inv-loop sites recs n places₀ held₀ i₀ places held i = (i ≤ n) × Walking sites recs i held places
+Inv-loop sites recs n places₀ held₀ i₀ places held i = (i ≤ n) × Walking sites recs n i held places
 
 abbrev μ-loop : tie.MeasureT-loop
 μ-loop sites recs n places₀ held₀ i₀ places held i = n - i
 
+abbrev start-of : tie.At-loop Inv-loop μ-loop → tie.Start Inv-loop μ-loop
+start-of at = at .before .before .before .before .before .before .before
+
+start-places-requires : tie.Need-start-places-requires Inv-loop μ-loop
+start-places-requires c κs = search needs
+
 loop-holds : tie.Need-loop-holds Inv-loop μ-loop
 loop-holds c =
-    let a = c .before .before .args in
-    (omega arith, walking-starts (a .sites) (now (a .recs)) (now (a .places)) (c .before .before .pre .2))
+    let a = c .before .before .before .before .before .before .args in
+    (omega arith, walking-starts (a .sites) (now (a .recs)) _ (a .n) (c .before .before .start-places .ensures))
 
 decode-at-requires : tie.Need-decode-at-requires Inv-loop μ-loop
 decode-at-requires c κs = search needs
@@ -35,53 +41,50 @@ same-length c = search needs
 
 returns : tie.Need-returns Inv-loop μ-loop
 returns c =
-    let start = c .before .before .before .before .before .before .before .before in
-    let few = start .pre .0 in
-    let w = c .before .before .before .before .before .loop .inv .1 in
+    let at = c .before .before .before .before .before in
+    let few = start-of at .pre .0 in
+    let w = at .loop .inv .1 in
     let d = c .before .before .before .decode-at in
     let p = c .before .is-passing in
     let t = told few w (d .ensures) (p .ensures) ∙ not-true (p .result) (c .if1 .taken) in
     record {
-      ok = sym (refused few w (start .args .n) (omega arith) t);
+      ok = sym (refused few w (c .before .before .before .before .loop-test .taken) t);
       wide = w .wide;
-      entries = w .entries;
+      entries = w .spaced .entries;
       counted = λ h. clash h refl;
       indexed = λ h. clash h refl;
     }
 
+slot-of-requires : tie.Need-slot-of-requires Inv-loop μ-loop
+slot-of-requires c κs = search needs
+
 cast-places : tie.Need-cast-places Inv-loop μ-loop
 cast-places c = search needs
 
-cast-places-2 : tie.Need-cast-places-2 Inv-loop μ-loop
-cast-places-2 c = search needs
-
-mul-places : tie.Need-mul-places Inv-loop μ-loop
-mul-places c = search needs
-
-cast-places-3 : tie.Need-cast-places-3 Inv-loop μ-loop
-cast-places-3 c = search needs
-
-add-places : tie.Need-add-places Inv-loop μ-loop
-add-places c = search needs
-
-mul-places-2 : tie.Need-mul-places-2 Inv-loop μ-loop
-mul-places-2 c = search needs
-
-slice-write-places : tie.Need-slice-write-places Inv-loop μ-loop
-slice-write-places c =
-    let room : c .before .before .before .before .before .before .before .loop .i < mostRecords = omega arith in
-    let few = c .before .before .before .before .before .before .before .before .before .before .pre .0 in
-    let w = c .before .before .before .before .before .before .before .loop .inv .1 in
+slot-fits : (c : tie.After-slot-of Inv-loop μ-loop) → c .slot-of .result < placesLength
+slot-fits c =
+    let at = c .before .before .before .before .before .before .before in
+    let few = start-of at .pre .0 in
+    let w = at .loop .inv .1 in
+    let more = c .before .before .before .before .before .before .loop-test .taken in
     let d = c .before .before .before .before .before .decode-at in
     let p = c .before .before .before .is-passing in
     let t = told few w (d .ensures) (p .ensures) ∙ not-false (p .result) (c .before .before .if1 .left) in
-    rw (d .ensures, w .entries) (spot-more few w room t)
+    rw (c .slot-of .ensures, d .ensures) (slot-more few w more t)
+
+mul-places : tie.Need-mul-places Inv-loop μ-loop
+mul-places c = omega (arith, slot-fits c)
+
+slice-write-places : tie.Need-slice-write-places Inv-loop μ-loop
+slice-write-places c =
+    let at = c .before .before .before .before .before .before .before in
+    rw (at .loop .inv .1 .spaced .entries) (slot-fits c)
 
 bumped-requires : tie.Need-bumped-requires Inv-loop μ-loop
 bumped-requires c κs =
-    let few = c .before .before .before .before .before .before .before .before .before .before .pre .0 in
-    let w = c .before .before .before .before .before .before .before .loop .inv .1 in
-    omega (arith, held-few few w (c .before .before .before .before .before .decode-at .result .site .0))
+    let at = c .before .before .before .before .before .before .before in
+    let e = c .before .before .before .before .before .decode-at .result in
+    omega (arith, held-few (start-of at .pre .0) (at .loop .inv .1) (e .site .0))
 
 add-i : tie.Need-add-i Inv-loop μ-loop
 add-i c = search needs
@@ -91,13 +94,16 @@ loop-less c = search needs
 
 loop-again : tie.Need-loop-again Inv-loop μ-loop
 loop-again c =
-    let room : c .before .before .before .before .before .before .before .before .loop .i < mostRecords = omega arith in
-    let few = c .before .before .before .before .before .before .before .before .before .before .before .pre .0 in
-    let w = c .before .before .before .before .before .before .before .before .loop .inv .1 in
+    let at = c .before .before .before .before .before .before .before .before in
+    let few = start-of at .pre .0 in
+    let w = at .loop .inv .1 in
+    let more = c .before .before .before .before .before .before .before .loop-test .taken in
     let d = c .before .before .before .before .before .before .decode-at in
     let p = c .before .before .before .before .is-passing in
-    let t = told few w (d .ensures) (p .ensures) ∙ not-false (p .result) (c .before .before .before .if1 .left) in
-    (omega arith, rw (add-one, c .bumped .ensures, d .ensures) (walking-more few w room t))
+    let t = told few w (d .ensures) (p .ensures) ∙ not-false (p .result) (c .before .before .before .if1 .left) in (
+      omega arith,
+      rw (add-one, c .bumped .ensures, c .before .slot-of .ensures, d .ensures) (walking-more few w more t),
+    )
 
 same-length-2 : tie.Need-same-length-2 Inv-loop μ-loop
 same-length-2 c = search needs
@@ -105,12 +111,12 @@ same-length-2 c = search needs
 returns-2 : tie.Need-returns-2 Inv-loop μ-loop
 returns-2 c =
     let w = c .before .loop .inv .1 in
-    let k : c .before .loop .i ≡ c .before .before .before .before .args .n = omega arith in
+    let k : c .before .loop .i ≡ start-of (c .before) .args .n = omega arith in
     rw (← k)
     (record {
       ok = sym (w .pass);
       wide = w .wide;
-      entries = w .entries;
+      entries = w .spaced .entries;
       counted = λ h. w .counted;
       indexed = λ h. w .indexed;
     })
@@ -121,17 +127,15 @@ walk-spec =
     (tie.spec
     Inv-loop
     μ-loop
+    start-places-requires
     loop-holds
     decode-at-requires
     is-passing-requires
     same-length
     returns
+    slot-of-requires
     cast-places
-    cast-places-2
     mul-places
-    cast-places-3
-    add-places
-    mul-places-2
     slice-write-places
     bumped-requires
     add-i

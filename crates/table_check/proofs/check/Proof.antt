@@ -1,70 +1,60 @@
 -- `table_check::check` meets its contract. Assumes nothing.
 use mathlib.Core.Path.{sym, _∙_}
+use mathlib.Core.Bool.{true, false}
 use denote.Ref.{now}
 use borrow.Author.Tests.{not-true, not-false}
 use borrow.Author.Needs.{needs}
 use Rattle.table_drawing.specs.Tables.{tablesOf}
-use Rattle.table_check.proofs.CheckOutcomes.{wrong-lengths, past-limits, not-given-back, given-back}
+use Rattle.table_check.proofs.TrueExactly.{not-sound, rows-decide}
 use Rattle.table_check.proofs.check.Statement.{statement}
 use Rattle.table_check.proofs.check.Tie as tie
 
-lengths-right-requires : tie.Need-lengths-right-requires
-lengths-right-requires c κs = search needs
+slice-aggregate-is-sound-with : tie.Need-slice-aggregate-is-sound-with
+slice-aggregate-is-sound-with c = search needs
+
+is-sound-with-requires : tie.Need-is-sound-with-requires
+is-sound-with-requires c κs = search needs
 
 returns : tie.Need-returns
 returns c =
-    let s5 = c .before .before .before .before .before in
-    let a = s5 .args in
-    let l = c .before .lengths-right in
-    wrong-lengths (tablesOf (a .c) (now (a .records)) (now (a .objects)) (now (a .groups)))
-    (sym (l .ensures) ∙ not-true (l .result) (c .if1 .taken))
+    let a = c .before .before .before .before .before .before .before .args in
+    let s = c .before .before .is-sound-with in
+    not-sound (tablesOf (a .c) (now (a .records)) (now (a .objects)) (now (a .groups)))
+    (sym (s .ensures .0) ∙ not-true (s .result) (c .if1 .taken))
 
-within-limits-requires : tie.Need-within-limits-requires
-within-limits-requires c κs = search needs
+slice-aggregate-are-rows-true : tie.Need-slice-aggregate-are-rows-true
+slice-aggregate-are-rows-true c = search needs
+
+are-rows-true-requires : tie.Need-are-rows-true-requires
+are-rows-true-requires c κs =
+    let s = c .before .before .before .is-sound-with in
+    let yes = not-false (s .result) (c .before .if1 .left) in
+    (sym (s .ensures .0) ∙ yes, s .ensures .1 yes)
 
 returns-2 : tie.Need-returns-2
 returns-2 c =
-    let s7 = c .before .before .before .before .before .before .before in
-    let a = s7 .args in
-    let w = c .before .within-limits in
-    past-limits (tablesOf (a .c) (now (a .records)) (now (a .objects)) (now (a .groups)))
-    (sym (w .ensures) ∙ not-true (w .result) (c .if2 .taken))
-
-is-replayed-requires : tie.Need-is-replayed-requires
-is-replayed-requires c κs =
-    let l = c .before .before .before .lengths-right in
-    let w = c .before .within-limits in (
-      sym (l .ensures) ∙ not-false (l .result) (c .before .before .if1 .left),
-      sym (w .ensures) ∙ not-false (w .result) (c .if2 .left),
-    )
+    let a = c .before .before .before .before .before .before .before .before .before .before .args in
+    let s = c .before .before .before .before .before .is-sound-with in
+    rows-decide (tablesOf (a .c) (now (a .records)) (now (a .objects)) (now (a .groups))) true
+    (sym (s .ensures .0) ∙ not-false (s .result) (c .before .before .before .if1 .left))
+    (sym (c .if2 .taken) ∙ c .before .are-rows-true .ensures)
 
 returns-3 : tie.Need-returns-3
 returns-3 c =
-    let s5 = c .before .before .before .before .before in
-    let s9 = s5 .before .before .before .before in
-    let a = s9 .args in
-    let l = s5 .lengths-right in
-    let w = c .before .before .before .within-limits in
-    given-back (tablesOf (a .c) (now (a .records)) (now (a .objects)) (now (a .groups)))
-    (sym (l .ensures) ∙ not-false (l .result) (c .before .before .before .before .if1 .left))
-    (sym (w .ensures) ∙ not-false (w .result) (c .before .before .if2 .left))
-    (sym (c .before .is-replayed .ensures) ∙ c .if3 .taken)
-
-returns-4 : tie.Need-returns-4
-returns-4 c =
-    let s9 = c .before .before .before .before .before .before .before .before .before in
-    let a = s9 .args in
-    not-given-back (tablesOf (a .c) (now (a .records)) (now (a .objects)) (now (a .groups)))
-    (sym (c .before .is-replayed .ensures) ∙ c .if3 .left)
+    let a = c .before .before .before .before .before .before .before .before .before .before .args in
+    let s = c .before .before .before .before .before .is-sound-with in
+    rows-decide (tablesOf (a .c) (now (a .records)) (now (a .objects)) (now (a .groups))) false
+    (sym (s .ensures .0) ∙ not-false (s .result) (c .before .before .before .if1 .left))
+    (sym (c .if2 .left) ∙ c .before .are-rows-true .ensures)
 
 pub check-spec : {M : Type 1} → statement M
 check-spec =
     tie.close
     (tie.spec
-    lengths-right-requires
+    slice-aggregate-is-sound-with
+    is-sound-with-requires
     returns
-    within-limits-requires
+    slice-aggregate-are-rows-true
+    are-rows-true-requires
     returns-2
-    is-replayed-requires
-    returns-3
-    returns-4)
+    returns-3)

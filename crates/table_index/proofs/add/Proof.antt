@@ -11,18 +11,22 @@ use borrow.Author.Tests.{eq-eqb, ne-eqb}
 use Rattle.edit_record.specs.Layout.{createKind}
 use Rattle.edit_record.specs.Answer1.{isCreate}
 use Rattle.edit_history.specs.EditsHeld.{recordAt}
-use Rattle.edit_walk.specs.WalkForms.{placesLength}
+use Rattle.edit_walk.specs.WalkForms.{placesLength, Spaced, countIn}
 use Rattle.group_step.specs.GroupRows.{mostObjects}
 use Rattle.table_index.specs.IndexForms.{numberAt}
-use Rattle.table_index.proofs.OneRecordMore.{spot-low, number-low, number-more, create-added, target-at, room}
-use Rattle.table_index.proofs.OneRecordMore.{low, set-added}
+use Rattle.table_index.proofs.OneRecordMore.{spot-low, starts-kept, number-low, number-more, create-added}
+use Rattle.table_index.proofs.OneRecordMore.{target-at, room, low, set-added}
 use borrow.Author.Needs.{needs}
 use Rattle.table_index.proofs.add.Statement.{statement}
 use Rattle.table_index.proofs.add.Tie as tie
 
+-- the index has room for the record
+room-of : (s : tie.Start) → Spaced (countIn (now (s .args .recs)) (suc (s .args .p))) (now (s .args .places))
+room-of s = rw add-one at (s .pre .3)
+
 spot-requires : tie.Need-spot-requires
 spot-requires c κs =
-    let s = c .before .before .before .before .before in
+    let s = c .before .before .before .before .before .before in
     let (d, h, l) = s .pre .0 in
     omega (arith, h .few-records, l)
 
@@ -31,24 +35,27 @@ cast-places c = search needs
 
 mul-places : tie.Need-mul-places
 mul-places c =
-    let s = c .before .before .before .before .before .before in
+    let s = c .before .before .before .before .before .before .before in
     let a = s .args in
     let (d, h, l) = s .pre .0 in
     let x = s .pre .1 in
+    let y = room-of s in
     let low : c .spot .result < placesLength
     = rw (c .spot .ensures)
     (spot-low d (now (a .recs)) h (a .p) l (now (a .places)) (now (a .numbers)) (now (a .counts)) (now (a .members))
-    x) in
+    x y) in
     search (needs, low)
 
 slice-write-places : tie.Need-slice-write-places
 slice-write-places c =
-    let s = c .before .before .before .before .before .before in
+    let s = c .before .before .before .before .before .before .before in
     let a = s .args in
     let (d, h, l) = s .pre .0 in
     let x = s .pre .1 in
+    let y = room-of s in
     rw (c .spot .ensures, x .places-long)
-    (spot-low d (now (a .recs)) h (a .p) l (now (a .places)) (now (a .numbers)) (now (a .counts)) (now (a .members)) x)
+    (spot-low d (now (a .recs)) h (a .p) l (now (a .places)) (now (a .numbers)) (now (a .counts)) (now (a .members))
+    x y)
 
 kind-at-requires : tie.Need-kind-at-requires
 kind-at-requires c κs = search needs
@@ -61,7 +68,7 @@ slice-write-numbers c = search needs
 
 add-result : tie.Need-add-result
 add-result c =
-    let s = c .before .before .before .before .before .before .before .before in
+    let s = c .before .before .before .before .before .before .before .before .before in
     let a = s .args in
     let (d, h, l) = s .pre .0 in
     search (needs, number-low d (now (a .recs)) h (a .p) l, s .pre .2)
@@ -74,7 +81,7 @@ same-length-2 c = search needs
 
 returns : tie.Need-returns
 returns c =
-    let s = c .before .before .before .before .before .before .before .before in
+    let s = c .before .before .before .before .before .before .before .before .before in
     let a = s .args in
     let rs = now (a .recs) in
     let (d, h, l) = s .pre .0 in
@@ -84,8 +91,11 @@ returns c =
     = number-more d rs h (a .p) l ∙ ap (λ (b : Bool). numberAt rs (a .p) + cond b 1 0) is in (
       rw (add-one (a .p), c .before .before .spot .ensures, s .pre .2)
           (create-added d rs h (a .p) l (now (a .places)) (now (a .numbers)) (now (a .counts)) (now (a .members))
-          (s .pre .1) is),
+          (s .pre .1) (room-of s) is),
       rw (add-one (a .p)) (omega (arith, more, s .pre .2)),
+      rw (c .before .before .spot .ensures)
+          (starts-kept d rs h (a .p) l (now (a .places)) (now (a .numbers)) (now (a .counts)) (now (a .members))
+          (s .pre .1) (room-of s)),
     )
 
 target-place-requires : tie.Need-target-place-requires
@@ -100,37 +110,39 @@ mul-o c = search needs
 slice-read-o : tie.Need-slice-read-o
 slice-read-o c =
     let s5 = c .before .before .before .before .before in
-    let s = s5 .before .before .before .before .before .before in
+    let s = s5 .before .before .before .before .before .before .before in
     let a = s .args in
     let rs = now (a .recs) in
     let (d, h, l) = s .pre .0 in
     let x = s .pre .1 in
+    let y = room-of s in
     let f = c .before .target-place in
     let no : isCreate (recordAt rs (a .p)) ≡ false
     = ne-eqb (recordAt rs (a .p) .kind) createKind
     (λ y. c .before .before .before .if1 .left (c .before .before .before .before .kind-at .ensures ∙ y)) in
     let (q, m, create, on, at)
-    = target-at d rs h (a .p) l (now (a .places)) (now (a .numbers)) (now (a .counts)) (now (a .members)) x no in
+    = target-at d rs h (a .p) l (now (a .places)) (now (a .numbers)) (now (a .counts)) (now (a .members)) x y no in
     let is : f .result ≡ q = (rw (s5 .spot .ensures) at (f .ensures)) ∙ at in
     omega (arith, x .numbers-long, is, m, h .few-records, l)
 
 cast-add-set : tie.Need-cast-add-set
 cast-add-set c =
     let s5 = c .before .before .before .before .before in
-    let s = s5 .before .before .before .before .before .before in
+    let s = s5 .before .before .before .before .before .before .before in
     let a = s .args in
     let rs = now (a .recs) in
     let (d, h, l) = s .pre .0 in
     let x = s .pre .1 in
+    let y = room-of s in
     let f = c .before .target-place in
     let no : isCreate (recordAt rs (a .p)) ≡ false
     = ne-eqb (recordAt rs (a .p) .kind) createKind
     (λ y. c .before .before .before .if1 .left (c .before .before .before .before .kind-at .ensures ∙ y)) in
     let (q, m, create, on, at)
-    = target-at d rs h (a .p) l (now (a .places)) (now (a .numbers)) (now (a .counts)) (now (a .members)) x no in
+    = target-at d rs h (a .p) l (now (a .places)) (now (a .numbers)) (now (a .counts)) (now (a .members)) x y no in
     let is : f .result ≡ q = (rw (s5 .spot .ensures) at (f .ensures)) ∙ at in
     let o = x .numbered q m create in
-    let few = low d rs h (a .p) l (now (a .places)) (now (a .numbers)) (now (a .counts)) (now (a .members)) x q m
+    let few = low d rs h (a .p) l (now (a .places)) (now (a .numbers)) (now (a .counts)) (now (a .members)) x y q m
     create on in
     let k : getD (now (a .numbers)) (f .result) 0 < mostObjects = rw (is, o) few in
     search (needs, k)
@@ -140,21 +152,22 @@ add-set-requires c κs =
     let s5 = c .before .before .before .before .before in
     let s6 = s5 .before in
     let s7 = s6 .before in
-    let s = s7 .before .before .before .before .before .before in
+    let s = s7 .before .before .before .before .before .before .before in
     let a = s .args in
     let rs = now (a .recs) in
     let (d, h, l) = s .pre .0 in
     let x = s .pre .1 in
+    let y = room-of s in
     let f = c .before .before .before .target-place in
     let no : isCreate (recordAt rs (a .p)) ≡ false
     = ne-eqb (recordAt rs (a .p) .kind) createKind (λ y. s5 .if1 .left (s6 .kind-at .ensures ∙ y)) in
     let (q, m, create, on, at)
-    = target-at d rs h (a .p) l (now (a .places)) (now (a .numbers)) (now (a .counts)) (now (a .members)) x no in
+    = target-at d rs h (a .p) l (now (a .places)) (now (a .numbers)) (now (a .counts)) (now (a .members)) x y no in
     let is : f .result ≡ q = (rw (s7 .spot .ensures) at (f .ensures)) ∙ at in
     let o : getD (now (a .numbers)) (f .result) 0 ≡ numberAt rs q = rw is (x .numbered q m create) in
-    let few = low d rs h (a .p) l (now (a .places)) (now (a .numbers)) (now (a .counts)) (now (a .members)) x q m
+    let few = low d rs h (a .p) l (now (a .places)) (now (a .numbers)) (now (a .counts)) (now (a .members)) x y q m
     create on in
-    let left = room d rs h (a .p) l (now (a .places)) (now (a .numbers)) (now (a .counts)) (now (a .members)) x q m
+    let left = room d rs h (a .p) l (now (a .places)) (now (a .numbers)) (now (a .counts)) (now (a .members)) x y q m
     create on in
     (omega (arith, h .few-records, l), rw o few, x .counts-long, x .members-long, rw o left)
 
@@ -173,25 +186,28 @@ returns-2 c =
     let s10 = s8 .before .before in
     let s11 = s10 .before in
     let s12 = s11 .before in
-    let s = s12 .before .before .before .before .before .before in
+    let s = s12 .before .before .before .before .before .before .before in
     let a = s .args in
     let rs = now (a .recs) in
     let (d, h, l) = s .pre .0 in
     let x = s .pre .1 in
+    let y = room-of s in
     let f = s8 .target-place in
     let no : isCreate (recordAt rs (a .p)) ≡ false
     = ne-eqb (recordAt rs (a .p) .kind) createKind (λ y. s10 .if1 .left (s11 .kind-at .ensures ∙ y)) in
     let (q, m, create, on, at)
-    = target-at d rs h (a .p) l (now (a .places)) (now (a .numbers)) (now (a .counts)) (now (a .members)) x no in
+    = target-at d rs h (a .p) l (now (a .places)) (now (a .numbers)) (now (a .counts)) (now (a .members)) x y no in
     let is : f .result ≡ q = (rw (s12 .spot .ensures) at (f .ensures)) ∙ at in
     let o : getD (now (a .numbers)) (f .result) 0 ≡ numberAt rs q = rw is (x .numbered q m create) in
     let added = c .before .before .before .before .add-set .ensures in
     let more : numberAt rs (suc (a .p)) ≡ numberAt rs (a .p) + 0
     = number-more d rs h (a .p) l ∙ ap (λ (b : Bool). numberAt rs (a .p) + cond b 1 0) no in (
       rw (add-one (a .p), added .0, added .1, o, s12 .spot .ensures)
-          (set-added d rs h (a .p) l (now (a .places)) (now (a .numbers)) (now (a .counts)) (now (a .members)) x q m
+          (set-added d rs h (a .p) l (now (a .places)) (now (a .numbers)) (now (a .counts)) (now (a .members)) x y q m
           create on),
       rw (add-one (a .p)) (omega (arith, more, s .pre .2)),
+      rw (s12 .spot .ensures)
+          (starts-kept d rs h (a .p) l (now (a .places)) (now (a .numbers)) (now (a .counts)) (now (a .members)) x y),
     )
 
 pub add-spec : {M : Type 1} → statement M

@@ -1,8 +1,10 @@
 -- `table_index::build` meets its contract: after i records, the index is that of the first i. Assumes nothing.
 use mathlib.Core.Path.{_≡_, refl, sym, _∙_}
-use Prim.Native.Nat.{_≤_, _-_}
+use Prim.Native.Nat.{_+_, _≤_, _-_}
 use native.Mathlib.Omega.{arith}
 use denote.Ref.{now}
+use Rattle.edit_walk.specs.WalkForms.{Spaced, countIn}
+use Rattle.edit_walk.proofs.RoomInIndex.{spaced-before, spaced-same}
 use Rattle.table_index.specs.IndexForms.{numberAt, IndexOf}
 use Rattle.table_index.proofs.OneRecordMore.{index-starts, none-numbered}
 use borrow.Author.Needs.{needs}
@@ -11,29 +13,43 @@ use Rattle.table_index.proofs.build.Tie as tie
 
 abbrev Inv-loop : tie.InvT-loop
 Inv-loop recs n places₀ numbers₀ counts₀ members₀ m₀ i₀ places numbers counts members m i =
-    (i ≤ n) × IndexOf recs i places numbers counts members × (m ≡ numberAt recs i)
+    (i ≤ n) × IndexOf recs i places numbers counts members × (m ≡ numberAt recs i) × Spaced (countIn recs n) places
 
 abbrev μ-loop : tie.MeasureT-loop
 μ-loop recs n places₀ numbers₀ counts₀ members₀ m₀ i₀ places numbers counts members m i = n - i
 
+abbrev start-of : tie.At-loop Inv-loop μ-loop → tie.Start Inv-loop μ-loop
+start-of at = at .before .before .before .before .before .before .before .before .before .before
+
+start-places-requires : tie.Need-start-places-requires Inv-loop μ-loop
+start-places-requires c κs =
+    let s = c .before .before .before .before .before .before in
+    let (d, h, e) = s .pre .0 in
+    (omega (arith, h .few-records, e), s .pre .1)
+
 loop-holds : tie.Need-loop-holds Inv-loop μ-loop
 loop-holds c =
-    let s = c .before .before .before .before .before in
-    let a = s .args in (
+    let s = c .before .before .before .before .before .before .before .before .before in
+    let spaced = c .before .before .start-places .ensures in (
       omega arith,
       rw (s .pre .3)
-          (index-starts (now (a .recs)) (now (a .places)) (now (a .numbers)) (now (a .members)) (s .pre .1) (s .pre .2)
-          (s .pre .4)),
-      none-numbered (now (a .recs)),
+          (index-starts (now (s .args .recs)) _ (now (s .args .numbers)) (now (s .args .members)) (spaced .entries)
+          (s .pre .2) (s .pre .4)),
+      none-numbered (now (s .args .recs)),
+      spaced,
     )
 
 add-requires : tie.Need-add-requires Inv-loop μ-loop
 add-requires c κs =
-    let s5 = c .before .before .before .before .before in
-    let s = s5 .before .before .before .before .before .before in
-    let l = s5 .loop in
-    let (d, h, e) = s .pre .0 in
-    ((d, h, omega (arith, e)), l .inv .1, l .inv .2)
+    let at = c .before .before .before .before .before in
+    let l = at .loop in
+    let s = start-of at in
+    let (d, h, e) = s .pre .0 in (
+      (d, h, omega (arith, e)),
+      l .inv .1,
+      l .inv .2,
+      spaced-before (now (s .args .recs)) (l .places) (l .i + 1) (s .args .n) (omega arith) (l .inv .3),
+    )
 
 add-i : tie.Need-add-i Inv-loop μ-loop
 add-i c = search needs
@@ -45,32 +61,38 @@ loop-again : tie.Need-loop-again Inv-loop μ-loop
 loop-again c =
     let s8 = c .before .before .before .before .before .before .before .before in
     let m = s8 .add .ensures in
-    (omega arith, m .0, m .1)
+    let at = s8 .before .before .before .before .before .before in
+    let s = start-of at in (
+      omega arith,
+      m .0,
+      m .1,
+      spaced-same (countIn (now (s .args .recs)) (s .args .n)) _ _ (m .2) (m .0 .places-long) (at .loop .inv .3),
+    )
 
 same-length : tie.Need-same-length Inv-loop μ-loop
 same-length c =
-    let s7 = c .before .before .before .before .before .before .before in
-    c .before .loop .inv .1 .places-long ∙ sym (s7 .pre .1)
+    let s = start-of (c .before) in
+    c .before .loop .inv .1 .places-long ∙ sym (s .pre .1)
 
 same-length-2 : tie.Need-same-length-2 Inv-loop μ-loop
 same-length-2 c =
-    let s7 = c .before .before .before .before .before .before .before in
-    c .before .loop .inv .1 .numbers-long ∙ sym (s7 .pre .2)
+    let s = start-of (c .before) in
+    c .before .loop .inv .1 .numbers-long ∙ sym (s .pre .2)
 
 same-length-3 : tie.Need-same-length-3 Inv-loop μ-loop
 same-length-3 c =
-    let s7 = c .before .before .before .before .before .before .before in
-    c .before .loop .inv .1 .counts-long ∙ sym (rw (s7 .pre .3) refl)
+    let s = start-of (c .before) in
+    c .before .loop .inv .1 .counts-long ∙ sym (rw (s .pre .3) refl)
 
 same-length-4 : tie.Need-same-length-4 Inv-loop μ-loop
 same-length-4 c =
-    let s7 = c .before .before .before .before .before .before .before in
-    c .before .loop .inv .1 .members-long ∙ sym (s7 .pre .4)
+    let s = start-of (c .before) in
+    c .before .loop .inv .1 .members-long ∙ sym (s .pre .4)
 
 returns : tie.Need-returns Inv-loop μ-loop
 returns c =
-    let s7 = c .before .before .before .before .before .before .before in
-    let k : c .before .loop .i ≡ s7 .args .n = omega arith in
+    let s = start-of (c .before) in
+    let k : c .before .loop .i ≡ s .args .n = omega arith in
     rw (← k) (c .before .loop .inv .1)
 
 pub build-spec : {M : Type 1} → statement M
@@ -79,6 +101,7 @@ build-spec =
     (tie.spec
     Inv-loop
     μ-loop
+    start-places-requires
     loop-holds
     add-requires
     add-i

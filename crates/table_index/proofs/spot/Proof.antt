@@ -21,23 +21,20 @@ add-two-at c = search needs
 two-at-requires : tie.Need-two-at-requires
 two-at-requires c κs = search needs
 
-cast-result : tie.Need-cast-result
-cast-result c = search needs
-
-mul-result : tie.Need-mul-result
-mul-result c = search needs
-
-cast-result-2 : tie.Need-cast-result-2
-cast-result-2 c = search needs
-
-add-result : tie.Need-add-result
-add-result c = search needs
+slot-of-requires : tie.Need-slot-of-requires
+slot-of-requires c κs = search needs
 
 returns : tie.Need-returns
 returns c =
-    let a = c .before .before .before .args in
+    let a = c .before .before .before .before .before .args in
     let rs = now (a .recs) in
-    rw (c .two-at .ensures, c .before .byte-at .ensures, site-in-place rs (a .p), seq-in-place rs (a .p))
+    rw (
+      c .slot-of .ensures,
+      c .before .two-at .ensures,
+      c .before .before .byte-at .ensures,
+      site-in-place rs (a .p),
+      seq-in-place rs (a .p),
+    )
 
 pub spot-spec : {M : Type 1} → statement M
 spot-spec =
@@ -48,8 +45,5 @@ spot-spec =
     byte-at-requires
     add-two-at
     two-at-requires
-    cast-result
-    mul-result
-    cast-result-2
-    add-result
+    slot-of-requires
     returns)

@@ -13,6 +13,12 @@ use Rattle.table_replay.proofs.replay.Tie as tie
 open-requires : tie.Need-open-requires
 open-requires c κs = search needs
 
+slice-aggregate-start-places : tie.Need-slice-aggregate-start-places
+slice-aggregate-start-places c = search needs
+
+start-places-requires : tie.Need-start-places-requires
+start-places-requires c κs = search needs
+
 slice-aggregate-take-records : tie.Need-slice-aggregate-take-records
 slice-aggregate-take-records c = search needs
 
@@ -27,17 +33,19 @@ slice-aggregate-take-records-4 c = search needs
 
 take-records-requires : tie.Need-take-records-requires
 take-records-requires c κs =
-    let s10 = c .before .before .before .before .before .before .before .before .before .before in
-    let s14 = s10 .before .before .before .before in
-    let s = s14 .before .before .before .before .before .before .before .before in
+    let s8 = c .before .before .before .before .before .before .before .before in
+    let s17 = s8 .before .before .before .before .before .before .before .before .before in
+    let s = s17 .before .before .before .before .before .before .before .before in
     let a = s .args in
-    let o = s14 .«open» in
+    let o = s17 .«open» in
+    let spaced = s8 .start-places .ensures in
     let e = opened (tablesOf _ (now (a .records)) (now (a .objects)) (now (a .groups))) _ _ (a .sites) (s .pre .0)
     (s .pre .1)
     (o .ensures) in
     let n = opened-sites _ (a .sites) e in (
       e ∙ ap emptyDrawing (sym n),
-      rw (opened-records _ (a .sites) e) (index-starts _ _ _ _ refl refl refl),
+      rw (opened-records _ (a .sites) e) (index-starts _ _ _ _ (spaced .entries) refl refl),
+      spaced,
       rw n (s .pre .1),
       s .pre .2,
       s .pre .3,
@@ -56,10 +64,10 @@ returns : tie.Need-returns
 returns c =
     let s10 = c .before .before .before .before .before .before .before .before .before .before in
     let s20 = s10 .before .before .before .before .before .before .before .before .before .before in
-    let s25 = s20 .before .before .before .before .before in
-    let s = s25 .before .before .before .before .before .before .before .before in
+    let s28 = s20 .before .before .before .before .before .before .before .before in
+    let s = s28 .before .before .before .before .before .before .before .before in
     let a = s .args in
-    let o = s25 .«open» in
+    let o = s28 .«open» in
     let e = opened (tablesOf _ (now (a .records)) (now (a .objects)) (now (a .groups))) _ _ (a .sites) (s .pre .0)
     (s .pre .1)
     (o .ensures) in
@@ -71,6 +79,8 @@ replay-spec =
     tie.close
     (tie.spec
     open-requires
+    slice-aggregate-start-places
+    start-places-requires
     slice-aggregate-take-records
     slice-aggregate-take-records-2
     slice-aggregate-take-records-3

@@ -6,7 +6,7 @@ use denote.Ref.{now}
 use Rattle.table_drawing.specs.Tables.{tablesOf}
 use Rattle.table_drawing.specs.AnswerNumbers.{numberOf}
 use Rattle.table_arrival.proofs.CodeInHand.{holds}
-use Rattle.table_replay.proofs.IndexGoesAlong.{counted-on, holds-on, index-on, numbered-on}
+use Rattle.table_replay.proofs.IndexGoesAlong.{counted-on, room-on, holds-on, index-on, numbered-on}
 use borrow.Author.Needs.{needs}
 use Rattle.table_replay.proofs.take_next.Statement.{statement}
 use Rattle.table_replay.proofs.take_next.Tie as tie
@@ -56,6 +56,7 @@ add-requires c κs =
           (now (a .members))
           (s .pre .2),
       numbered-on t (s .pre .0) (s .pre .1) b _ ok,
+      room-on t (s .pre .0) (s .pre .1) b _ ok (now (a .places)) (s .pre .3),
     )
 
 same-length : tie.Need-same-length
@@ -92,8 +93,10 @@ returns c =
     let b = now (a .rec) in
     let m = s23 .accept in
     let z : numberOf (m .result .answer) ≡ 0 = sym (s16 .number .ensures) ∙ s15 .if1 .taken in
-    let ok = rw z at (m .ensures) in
-    (m .ensures, λ y. rw (counted-on t (s .pre .0) (s .pre .1) b _ ok) (s8 .add .ensures .0))
+    let ok = rw z at (m .ensures) in (
+      m .ensures,
+      λ y. (rw (counted-on t (s .pre .0) (s .pre .1) b _ ok) (s8 .add .ensures .0), s8 .add .ensures .2),
+    )
 
 same-length-8 : tie.Need-same-length-8
 same-length-8 c = search needs

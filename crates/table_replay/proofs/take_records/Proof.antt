@@ -10,10 +10,13 @@ use borrow.Author.Needs.{needs}
 use Rattle.edit_history.specs.EditsHeld.{bytesAt}
 use Rattle.table_drawing.specs.Tables.{Tables, tablesOf}
 use Rattle.table_drawing.specs.AnswerNumbers.{outcomeOf, numberOf}
+use Rattle.edit_walk.specs.WalkForms.{Spaced, countIn}
+use Rattle.edit_walk.proofs.RoomInIndex.{spaced-same}
 use Rattle.table_index.specs.IndexForms.{IndexOf}
 use Rattle.table_arrival.specs.Arrival.{acceptanceOf}
 use Rattle.table_replay.proofs.ReplayGoes.{Going, RightlyLong, going-start, going-faithful, going-sound}
 use Rattle.table_replay.proofs.ReplayGoes.{going-on, going-ends, going-long, next-long, lent-is}
+use Rattle.table_replay.proofs.OwnRecords.{next-room}
 use Rattle.table_replay.proofs.take_records.Statement.{statement}
 use Rattle.table_replay.proofs.take_records.Tie as tie
 
@@ -23,6 +26,7 @@ Inv-loop records₀ objects₀ groups₀ places₀ numbers₀ counts₀ members�
     (i ≤ n)
     × Going (c₀ .sites) recs i (tablesOf c records objects groups)
     × IndexOf records (c .records) places numbers counts members
+    × Spaced (countIn recs n) places
 
 abbrev μ-loop : tie.MeasureT-loop
 μ-loop records₀ objects₀ groups₀ places₀ numbers₀ counts₀ members₀ recs n c₀ i₀ records objects groups places
@@ -66,7 +70,7 @@ AsLong s t =
 
 as-long : (s : tie.Start Inv-loop μ-loop) (t : Tables) → RightlyLong t → AsLong s t
 as-long s t (x, y, z) =
-    let (u, v, w) = going-long (s .args .empty .sites) (now (s .args .recs)) (s .pre .2) 0 (empty-of s) (started s) in
+    let (u, v, w) = going-long (s .args .empty .sites) (now (s .args .recs)) (s .pre .3) 0 (empty-of s) (started s) in
     (x ∙ sym u, y ∙ sym v, z ∙ sym w)
 
 -- where the loop stands, and after a call there
@@ -74,7 +78,7 @@ loop-long : (b : tie.At-loop Inv-loop μ-loop) → AsLong (start-of b) (tables-o
 loop-long b =
     let s = start-of b in
     as-long s (tables-of b)
-    (going-long (s .args .empty .sites) (recs-of b) (s .pre .2) (b .loop .i) (tables-of b) (b .loop .inv .1))
+    (going-long (s .args .empty .sites) (recs-of b) (s .pre .3) (b .loop .i) (tables-of b) (b .loop .inv .1))
 
 call-long :
     (b : tie.At-loop Inv-loop μ-loop) (a : ℕ) (t : Tables) →
@@ -82,14 +86,14 @@ call-long :
 call-long b a t h =
     let s = start-of b in
     as-long s t
-    (next-long (s .args .empty .sites) (recs-of b) (s .pre .2) (b .loop .i) (tables-of b) (b .loop .inv .1) a t h)
+    (next-long (s .args .empty .sites) (recs-of b) (s .pre .3) (b .loop .i) (tables-of b) (b .loop .inv .1) a t h)
 
 -- ---- the needs
 
 loop-holds : tie.Need-loop-holds Inv-loop μ-loop
 loop-holds c =
     let s = c .before .before .before .before .before .before .before .before in
-    (omega arith, started s, s .pre .1)
+    (omega arith, started s, s .pre .1, s .pre .2)
 
 mul-at : tie.Need-mul-at Inv-loop μ-loop
 mul-at c = search needs
@@ -108,12 +112,16 @@ part-take-next-end c = search needs
 
 take-next-requires : tie.Need-take-next-requires Inv-loop μ-loop
 take-next-requires c κs =
-    let b = c .before .before .before .before .before .before .before .before .before in
+    let r = c .before .before .before .before .before .before .before .before in
+    let b = r .before in
     let s = start-of b in
     let l = b .loop in (
-      going-sound (s .args .empty .sites) (recs-of b) (s .pre .2) (l .i) _ (l .inv .1),
-      going-faithful (s .args .empty .sites) (recs-of b) (s .pre .2) (l .i) _ (l .inv .1) .kept .wide,
+      going-sound (s .args .empty .sites) (recs-of b) (s .pre .3) (l .i) _ (l .inv .1),
+      going-faithful (s .args .empty .sites) (recs-of b) (s .pre .3) (l .i) _ (l .inv .1) .kept .wide,
       l .inv .2,
+      rw (lent-is (recs-of b) (l .i))
+          (next-room (s .args .empty .sites) (recs-of b) (s .pre .3) (l .i) (s .args .n) (r .loop-test .taken)
+          (tables-of b) (l .inv .1) (l .places) (l .inv .3)),
     )
 
 number-requires : tie.Need-number-requires Inv-loop μ-loop
@@ -167,7 +175,7 @@ returns c =
     let b = round-of m .before in
     let s = start-of b in
     let l = b .loop in
-    going-ends (s .args .empty .sites) (recs-of b) (s .pre .2) (l .i) _ (l .inv .1)
+    going-ends (s .args .empty .sites) (recs-of b) (s .pre .3) (l .i) _ (l .inv .1)
     (numberOf (m .take-next .result .answer)) _
     (rw (lent-is (recs-of b) (l .i)) at (m .take-next .ensures .0))
     (λ z. c .if1 .taken (c .before .number .ensures ∙ z))
@@ -177,7 +185,7 @@ returns c =
 add-i : tie.Need-add-i Inv-loop μ-loop
 add-i c =
     let r = round-of (call-of (c .before)) in
-    omega (arith, r .loop-test .taken, start-of (r .before) .pre .3)
+    omega (arith, r .loop-test .taken, start-of (r .before) .pre .4)
 
 loop-less : tie.Need-loop-less Inv-loop μ-loop
 loop-less c = omega (arith, round-of (call-of (c .before)) .loop-test .taken)
@@ -191,9 +199,11 @@ loop-again c =
     let z : numberOf (m .take-next .result .answer) ≡ 0 = sym (c .before .number .ensures) ∙ c .if1 .left in (
       omega (arith, round-of m .loop-test .taken),
       rw (add-one (l .i))
-          (going-on (s .args .empty .sites) (recs-of b) (s .pre .2) (l .i) _ (l .inv .1) _
+          (going-on (s .args .empty .sites) (recs-of b) (s .pre .3) (l .i) _ (l .inv .1) _
           (rw (z, lent-is (recs-of b) (l .i)) at (m .take-next .ensures .0))),
-      m .take-next .ensures .1 z,
+      m .take-next .ensures .1 z .0,
+      spaced-same (countIn (recs-of b) (s .args .n)) _ _ (m .take-next .ensures .1 z .1)
+          (m .take-next .ensures .1 z .0 .places-long) (l .inv .3),
     )
 
 same-length-8 : tie.Need-same-length-8 Inv-loop μ-loop

@@ -1,6 +1,6 @@
--- `table_soundness::objects::tally_sets` meets its contract: the tallies are those of the records below i. Assumes
--- nothing.
-use mathlib.Core.Path.{_≡_, sym, _∙_}
+-- `table_soundness::objects::tally_sets` meets its contract: the tallies are those of the records below i, by the
+-- index. Assumes nothing.
+use mathlib.Core.Path.{_≡_, refl, sym, _∙_}
 use mathlib.Core.Logic.{⊎-elim}
 use Prim.Native.Nat.{_+_, _-_, _≤_}
 use native.Mathlib.Omega.{arith}
@@ -9,8 +9,8 @@ use lib.ListN.{getD, set, length, length-set}
 use denote.Ref.{now}
 use borrow.Author.Needs.{needs}
 use Rattle.edit_history.specs.EditsHeld.{mostRecords}
-use Rattle.table_soundness.specs.SoundnessForms.{Aimed}
-use Rattle.table_soundness.proofs.CountingPasses.{aimed-none, aimed-le, aimed-more}
+use Rattle.table_soundness.proofs.SetTallies.{tallied}
+use Rattle.table_soundness.proofs.CountingPasses.{Aimed, aimed-none, aimed-low, aimed-more}
 use Rattle.table_soundness.proofs.objects.tally_sets.Statement.{statement}
 use Rattle.table_soundness.proofs.objects.tally_sets.Tie as tie
 
@@ -23,8 +23,9 @@ abbrev μ-loop : tie.MeasureT-loop
 
 loop-holds : tie.Need-loop-holds Inv-loop μ-loop
 loop-holds c =
-    let a = c .before .before .args in
-    (omega arith, search needs, aimed-none (now (a .recs)) (now (a .places)))
+    let s = c .before .before .before in
+    let a = s .args in
+    (omega arith, rw (s .pre .3) refl, rw (s .pre .3) (aimed-none (now (a .recs)) (now (a .places))))
 
 kind-at-requires : tie.Need-kind-at-requires Inv-loop μ-loop
 kind-at-requires c κs = search needs
@@ -38,26 +39,23 @@ cast-p c = search needs
 one-if-requires : tie.Need-one-if-requires Inv-loop μ-loop
 one-if-requires c κs = search needs
 
-mul-tallies : tie.Need-mul-tallies Inv-loop μ-loop
-mul-tallies c = search needs
-
-array-read-tallies : tie.Need-array-read-tallies Inv-loop μ-loop
-array-read-tallies c = search needs
+slice-read-tallies : tie.Need-slice-read-tallies Inv-loop μ-loop
+slice-read-tallies c = search needs
 
 add-tallies : tie.Need-add-tallies Inv-loop μ-loop
 add-tallies c =
-    let s = c .before .before in
-    let l = s .before .before .before .loop in
-    let a = s .before .before .before .before .before .before .args in
-    let p = s .target-place .result in
-    let h = aimed-le (now (a .recs)) (now (a .places)) (l .tallies) (l .i) p (l .inv .2) (omega arith) in
-    omega (arith, c .before .one-if .ensures .1)
+    let l = c .before .before .before .before .before .before .loop in
+    let s = c .before .before .before .before .before .before .before .before .before .before in
+    let p = c .before .before .before .target-place .result in
+    omega (
+      arith,
+      aimed-low (now (s .args .recs)) (now (s .args .places)) (l .tallies) (s .args .n) (l .i) p (s .pre .0)
+          (c .before .before .before .before .before .loop-test .taken) (s .pre .2) (l .inv .2) (c .before .if1 .taken),
+      c .before .before .one-if .ensures .1,
+    )
 
-mul-tallies-2 : tie.Need-mul-tallies-2 Inv-loop μ-loop
-mul-tallies-2 c = search needs
-
-array-write-tallies : tie.Need-array-write-tallies Inv-loop μ-loop
-array-write-tallies c = search needs
+slice-write-tallies : tie.Need-slice-write-tallies Inv-loop μ-loop
+slice-write-tallies c = search needs
 
 add-i : tie.Need-add-i Inv-loop μ-loop
 add-i c = search needs
@@ -69,21 +67,32 @@ loop-again : tie.Need-loop-again Inv-loop μ-loop
 loop-again c =
     let s = c .before .before in
     let l = s .before .before .before .loop in
-    let a = s .before .before .before .before .before .before .args in
+    let a = s .before .before .before .before .before .before .before .args in
+    let kind = s .before .kind-at .ensures in
     let p = s .target-place .result in
     let t = getD (l .tallies) p 0 + c .before .one-if .result in
     let e : c .if1 .tallies ≡ set (l .tallies) p t
-    = ⊎-elim (λ w. w .1) (λ w. w .1 ∙ sym (set-out (l .tallies) p t (omega arith))) (c .if1 .came) in (
+    = ⊎-elim (λ w. w .2) (λ w. w .1 ∙ sym (set-out (l .tallies) p t (omega arith))) (c .if1 .came) in (
       omega arith,
       rw e (simp length-set (l .inv .1)),
-      rw (e, c .before .one-if .ensures .0, s .target-place .ensures, s .before .kind-at .ensures)
+      rw (e, c .before .one-if .ensures .0, s .target-place .ensures, kind)
           (aimed-more (now (a .recs)) (now (a .places)) (l .tallies) (l .i) (l .inv .1) (l .inv .2)),
     )
 
+same-length : tie.Need-same-length Inv-loop μ-loop
+same-length c =
+    let s = c .before .before .before .before .before in
+    let long : length (now (s .args .tallies)) ≡ mostRecords = rw (s .pre .3) refl in
+    search (needs, c .before .loop .inv .1, long)
+
 returns : tie.Need-returns Inv-loop μ-loop
 returns c =
-    let k : c .before .loop .i ≡ c .before .before .before .before .args .n = omega arith in
-    rw (← k) (c .before .loop .inv .2)
+    let l = c .before .loop in
+    let s = c .before .before .before .before .before in
+    let a = s .args in
+    let k : l .i ≡ a .n = omega arith in
+    tallied (now (a .recs)) (now (a .places)) (a .n) (s .pre .1) (s .pre .2) (l .tallies) (s .pre .0)
+    (rw k at (l .inv .2))
 
 pub tally-sets-spec : {M : Type 1} → statement M
 tally-sets-spec =
@@ -96,12 +105,11 @@ tally-sets-spec =
     target-place-requires
     cast-p
     one-if-requires
-    mul-tallies
-    array-read-tallies
+    slice-read-tallies
     add-tallies
-    mul-tallies-2
-    array-write-tallies
+    slice-write-tallies
     add-i
     loop-less
     loop-again
+    same-length
     returns)

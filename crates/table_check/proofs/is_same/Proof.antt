@@ -1,4 +1,4 @@
--- `table_check::is_same16` meets its contract. Assumes nothing.
+-- `table_check::is_same` meets its contract. Assumes nothing.
 use mathlib.Core.Path.{_≡_}
 use Prim.Native.Nat.{_≤_, _-_}
 use native.Mathlib.Numerals.{add-one}
@@ -9,8 +9,8 @@ use denote.Ref.{now}
 use borrow.Author.Tests.{eq-eqb, ne-eqb}
 use borrow.Author.Needs.{needs}
 use Rattle.math_lists.specs.NumbersBelow.{all}
-use Rattle.table_check.proofs.is_same16.Statement.{statement}
-use Rattle.table_check.proofs.is_same16.Tie as tie
+use Rattle.table_check.proofs.is_same.Statement.{statement}
+use Rattle.table_check.proofs.is_same.Tie as tie
 
 abbrev Inv-loop : tie.InvT-loop
 Inv-loop a b same₀ i₀ same i = (i ≤ length a) × (same ≡ all i (λ j. eqb (getD a j 0) (getD b j 0)))
@@ -54,8 +54,8 @@ returns-2 c =
     rw (eq-eqb (length (now (a .a))) (length (now (a .b))) (c .before .before .if1 .left))
     (rw k at (c .before .loop .inv .1))
 
-pub is-same16-spec : {M : Type 1} → statement M
-is-same16-spec =
+pub is-same-spec : {M : Type 1} → statement M
+is-same-spec =
     tie.close
     (tie.spec
     Inv-loop

@@ -1,0 +1,212 @@
+-- The tables that are what their records give from an empty drawing are the sound ones whose rows are true: no other
+-- entry of sound tables can be untrue. Then the answers of the check. Assumes nothing.
+use mathlib.Core.Path.{_≡_, sym, ap, ap₂, subst, _∙_}
+use mathlib.Core.Bool.{Bool, true, false, _&&_, cond}
+use mathlib.Core.List.{List}
+use Prim.Native.Nat.{ℕ, _*_, _<_}
+use lib.ListN.{length, getD}
+use lib.Seq.{getD-take}
+use lib.Dec.{eqb, leb}
+use borrow.Author.Tests.{eqb-true, eq-eqb, leb-true, le-leb}
+use Rattle.math_lists.specs.NumbersBelow.{all, sameList}
+use Rattle.math_lists.proofs.Booleans.{same-test, both, and-on}
+use Rattle.math_lists.proofs.NumbersBelow.{all-on, all-at}
+use Rattle.math_lists.proofs.ByPlaces.{list-equal, same-self}
+use Rattle.edit_record.specs.Layout.{mostSites, recordLength}
+use Rattle.edit_history.specs.EditsHeld.{recordAt, mostRecords}
+use Rattle.group_step.specs.GroupRows.{mostObjects}
+use Rattle.table_drawing.specs.declared.Counters.{Counters}
+use Rattle.table_drawing.specs.Tables.{Tables, tablesOf, heldBy, placeAt, recordsLength, objectsLength, groupsLength}
+use Rattle.table_drawing.specs.Tables.{lengthsRight, sitesRight}
+use Rattle.table_soundness.specs.Sound.{withinLimits, sound}
+use Rattle.table_soundness.proofs.SoundFacts.{Sound, sound-at, sound-on}
+use Rattle.table_arrival.specs.Answers6and7.{rowOf}
+use Rattle.group_true.specs.TrueGroups.{trueGroups}
+use Rattle.table_arrival.proofs.Faithful.{RowsTrue, Faithful}
+use Rattle.table_replay.specs.Replay.{Replayed, replayOf}
+use Rattle.table_replay.proofs.ReplayFaithful.{replay-faithful}
+use Rattle.table_replay.proofs.OwnRecords.{Holds, records-same, going-of, holds}
+use Rattle.table_check.specs.Check.{sameCounters, sameTables, givesBack, isTrue, checkOf}
+use Rattle.table_check.specs.CheckForms.{rowTrue, rowsTrue}
+use Rattle.table_check.proofs.SettledByRecords.{same-records, same-number, same-counts, same-groups, same-objects}
+use Rattle.table_check.proofs.AllTaken.{all-taken}
+
+-- ---- the rows
+
+equal-same : (l m : List ℕ) → l ≡ m → sameList l m ≡ true
+equal-same l m e = rw e (same-self m)
+
+module _ (t : Tables) where
+  abbrev groupsOver : ℕ → List ℕ
+  groupsOver o = trueGroups (heldBy t) (recordAt (t .records) (placeAt (t .objects) o))
+
+  rows-at : rowsTrue t ≡ true → RowsTrue t
+  unfolding rowsTrue
+  rows-at h o l = list-equal (rowOf t o) (groupsOver o) (all-at (t .counters .objects) (rowTrue t) h o l)
+
+  rows-on : RowsTrue t → rowsTrue t ≡ true
+  unfolding rowsTrue
+  rows-on h = all-on (t .counters .objects) (rowTrue t) (λ o l. equal-same (rowOf t o) (groupsOver o) (h o l))
+
+  abbrev c : Counters
+  c = t .counters
+
+  abbrev r : Replayed
+  r = replayOf (c .sites) (t .records) (c .records)
+
+  abbrev u : Tables
+  u = r .after
+
+  abbrev d : Counters
+  d = u .counters
+
+  abbrev held? : ℕ → Bool
+  held? x = eqb (getD (c .held) x 0) (getD (d .held) x 0)
+
+  -- ---- tables that are given back
+
+  -- t with the counts of u
+  abbrev counted : Tables
+  counted =
+      tablesOf (record { sites = c .sites; records = c .records; objects = c .objects; held = d .held }) (t .records)
+      (t .objects) (t .groups)
+
+  abbrev made : ℕ → ℕ → ℕ → List ℕ → List ℕ → List ℕ → Tables
+  made x n m rs os gs = tablesOf (record { sites = x; records = n; objects = m; held = d .held }) rs os gs
+
+  same-at : sameTables t u ≡ true → (counted ≡ u) × ((x : ℕ) → x < mostSites → getD (c .held) x 0 ≡ getD (d .held) x 0)
+  same-at h =
+      let rs? = sameList (t .records) (u .records) in
+      let os? = sameList (t .objects) (u .objects) in
+      let (h2, gs) = both (sameCounters c d && rs? && os?) (sameList (t .groups) (u .groups)) h in
+      let (h1, os) = both (sameCounters c d && rs?) os? h2 in
+      let (hc, rs) = both (sameCounters c d) rs? h1 in
+      let x? = eqb (c .sites) (d .sites) in
+      let n? = eqb (c .records) (d .records) in
+      let m? = eqb (c .objects) (d .objects) in
+      let (c2, held) = both (x? && n? && m?) (all mostSites held?) hc in
+      let (c1, m) = both (x? && n?) m? c2 in
+      let (x, n) = both x? n? c1 in (
+        ap₂ (λ (a b : ℕ). made a b (c .objects) (t .records) (t .objects) (t .groups))
+            (eqb-true (c .sites) (d .sites) x) (eqb-true (c .records) (d .records) n)
+            ∙ ap₂ (λ (a : ℕ) (b : List ℕ). made (d .sites) (d .records) a b (t .objects) (t .groups))
+            (eqb-true (c .objects) (d .objects) m) (list-equal (t .records) (u .records) rs)
+            ∙ ap₂ (made (d .sites) (d .records) (d .objects) (u .records))
+            (list-equal (t .objects) (u .objects) os) (list-equal (t .groups) (u .groups) gs),
+        λ i l. eqb-true (getD (c .held) i 0) (getD (d .held) i 0) (all-at mostSites held? held i l),
+      )
+
+  given-back-sound : isTrue t ≡ true → Sound t × RowsTrue t
+  unfolding isTrue givesBack
+  given-back-sound h =
+      let lengths? = lengthsRight (t .records) (t .objects) (t .groups) in
+      let (lw, g) = both (lengths? && withinLimits c) (eqb (r .answer) 0 && sameTables t u) h in
+      let limits = both lengths? (withinLimits c) lw .1 in
+      let n? = leb (c .records) mostRecords in
+      let (sr, _) = both (sitesRight (c .sites) && n?) (leb (c .objects) mostObjects) limits in
+      let (right, _) = both (sitesRight (c .sites)) n? sr in
+      let (some, few) = both (leb 1 (c .sites)) (leb (c .sites) mostSites) right in
+      let (e, held) = same-at (both (eqb (r .answer) 0) (sameTables t u) g .1) in
+      let f : Faithful counted
+      = subst Faithful (sym e)
+      (replay-faithful (c .sites) (leb-true 1 (c .sites) some) (leb-true (c .sites) mostSites few) (t .records)
+      (c .records)) in
+      let s = f .kept .isSound in (
+        record {
+          records-long = s .records-long;
+          objects-long = s .objects-long;
+          groups-long = s .groups-long;
+          some-sites = s .some-sites;
+          few-sites = s .few-sites;
+          few-records = s .few-records;
+          few-objects = s .few-objects;
+          held = λ x l. held x l ∙ s .held x l;
+          objects = s .objects;
+          pass = s .pass;
+          object = s .object;
+          records-zero = s .records-zero;
+          objects-zero = s .objects-zero;
+          groups-zero = s .groups-zero;
+        },
+        f .rows,
+      )
+
+  -- ---- sound tables whose rows are true
+
+  module _ (s : Sound t) (rows : RowsTrue t) where
+    right-sites : sitesRight (c .sites) ≡ true
+    right-sites =
+        and-on (leb 1 (c .sites)) (leb (c .sites) mostSites) (le-leb 1 (c .sites) (s .some-sites))
+        (le-leb (c .sites) mostSites (s .few-sites))
+
+    taken : r .answer ≡ 0
+    taken = all-taken t s rows
+
+    faithful : Faithful u
+    faithful = replay-faithful (c .sites) (s .some-sites) (s .few-sites) (t .records) (c .records)
+
+    its : Holds (c .sites) (t .records) (c .records) u
+    its =
+        holds (c .sites) (t .records) right-sites (c .records) u (going-of (c .sites) (t .records) (c .records) taken)
+
+    bytes : (i : ℕ) → i < c .records * recordLength → getD (t .records) i 0 ≡ getD (u .records) i 0
+    bytes i l =
+        let k = c .records * recordLength in
+        sym (getD-take k (t .records) i 0 l)
+        ∙ ap (λ (x : List ℕ). getD x i 0) (sym (records-same (u .records) (t .records) (c .records) (its .bytes)))
+        ∙ getD-take k (u .records) i 0 l
+
+    count : c .records ≡ d .records
+    count = sym (its .count)
+
+    same-counters : sameCounters c d ≡ true
+    same-counters =
+        let w = faithful .kept .isSound in
+        let number = same-number t u s w rows (faithful .rows) count bytes in
+        rw (
+          eq-eqb (c .sites) (d .sites) (sym (its .sites-are)),
+          eq-eqb (c .records) (d .records) count,
+          eq-eqb (c .objects) (d .objects) number,
+        )
+        (all-on mostSites held? (λ x l.
+        eq-eqb (getD (c .held) x 0) (getD (d .held) x 0) (same-counts t u s w rows (faithful .rows) count bytes x l)))
+
+    same-on : sameTables t u ≡ true
+    same-on =
+        let w = faithful .kept .isSound in
+        rw (
+          same-counters,
+          equal-same (t .records) (u .records) (same-records t u s w rows (faithful .rows) count bytes),
+          equal-same (t .objects) (u .objects) (same-objects t u s w rows (faithful .rows) count bytes),
+          equal-same (t .groups) (u .groups) (same-groups t u s w rows (faithful .rows) count bytes),
+        )
+
+    given-back : isTrue t ≡ true
+    unfolding isTrue givesBack
+    given-back =
+        rw (
+          eq-eqb (length (t .records)) recordsLength (s .records-long),
+          eq-eqb (length (t .objects)) objectsLength (s .objects-long),
+          eq-eqb (length (t .groups)) groupsLength (s .groups-long),
+          right-sites,
+          le-leb (c .records) mostRecords (s .few-records),
+          le-leb (c .objects) mostObjects (s .few-objects),
+          taken,
+          same-on,
+        )
+
+  pub true-exactly : isTrue t ≡ (sound t && rowsTrue t)
+  true-exactly =
+      same-test (isTrue t) (sound t && rowsTrue t)
+      (λ h. let (s, rows) = given-back-sound h in and-on (sound t) (rowsTrue t) (sound-on t s) (rows-on rows))
+      (λ h. let (s, rows) = both (sound t) (rowsTrue t) h in given-back (sound-at t s) (rows-at rows))
+
+  -- ---- the answers
+
+  pub not-sound : sound t ≡ false → 8 ≡ checkOf t
+  unfolding checkOf
+  not-sound h = rw (true-exactly, h)
+
+  pub rows-decide : (b : Bool) → sound t ≡ true → b ≡ rowsTrue t → cond b 0 8 ≡ checkOf t
+  unfolding checkOf
+  rows-decide b s h = rw (true-exactly, s, h)
