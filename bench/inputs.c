@@ -103,6 +103,6 @@ void make_disputed(struct file *f) {
     file_open(f, "64 Sets in dispute", SITES);
     file_create(f, 0);
     file_sync_all(f);
-    for (unsigned i = 0; i < SETS; i++) file_set(f, 1 + i % 2, 0, 1, i / 2 % DISPUTED_KEYS, 1000000 + i % 2);
+    for (unsigned i = 0; i < SETS; i++) file_set(f, 1 + i % 2, 0, 1, i / 2 % DISPUTED_KEYS, 1000000 * (1 + i % 2));
     file_close(f);
 }

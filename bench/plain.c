@@ -11,7 +11,8 @@ static uint64_t conflicts_of(const struct index *x, unsigned o, const struct edi
     uint64_t mask = 0;
     for (unsigned i = 0; i < x->sets[o]; i++) {
         const struct edit *a = &x->edits[x->set[o][i]];
-        if (a->key == e->key && a->value != e->value && e->vector[a->site] < a->seq) mask |= UINT64_C(1) << i;
+        if (a->key == e->key && shown_value(a) != shown_value(e) && e->vector[a->site] < a->seq)
+            mask |= UINT64_C(1) << i;
     }
     return mask;
 }

@@ -6,6 +6,7 @@
 #include "spireslate.h"
 
 enum { CREATE = 1, SET = 2, SITES = 8, RECORDS = 256, OBJECTS = 64, SETS = 64, GROUPS = 32, KEYS = 16, ENTRY = 3 };
+enum { SQUARE = 8, SQUARE_KEYS = 2 };
 
 /* An edit as its record lays it out, so that copying the 28 bytes decodes it on a little-endian processor. */
 struct edit {
@@ -21,6 +22,11 @@ _Static_assert(sizeof(struct edit) == SPIRESLATE_RECORD, "an edit is laid out as
 #if __BYTE_ORDER__ != __ORDER_LITTLE_ENDIAN__
 #error "records are little-endian, and are copied into edits as they are"
 #endif
+
+/* An edit's value as it is compared and shown: for keys 0 and 1 the multiple of 8 below it. */
+static inline uint32_t shown_value(const struct edit *e) {
+    return e->key < SQUARE_KEYS ? e->value / SQUARE * SQUARE : e->value;
+}
 
 struct index {
     unsigned sites, records, objects;

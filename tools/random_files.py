@@ -33,7 +33,9 @@ def edited(rng, sites, steps, keys, values):
         elif rng.random() < 0.3:
             edits.merge(site, rng.randrange(sites))
         else:
-            edits.make(site, SET, rng.choice(edits.boxes[site]), rng.randrange(keys), rng.randrange(values))
+            # near values too, some of them in one square of the grid
+            value = rng.randrange(values) * rng.choice((1, 5, 8)) % (1 << 32)
+            edits.make(site, SET, rng.choice(edits.boxes[site]), rng.randrange(keys), value)
     return edits.made
 
 

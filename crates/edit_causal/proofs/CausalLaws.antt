@@ -10,6 +10,7 @@ use Rattle.edit_record.specs.declared.Edit.{Edit}
 use Rattle.edit_record.specs.Answer1.{isSet}
 use Rattle.edit_causal.specs.Causal.{sameEdit, comesBefore, areConcurrent}
 use Rattle.edit_causal.specs.Conflict.{doConflict}
+use Rattle.edit_causal.specs.ShownValue.{shownValue}
 
 -- ---- identity
 
@@ -39,11 +40,11 @@ conflict-symmetric a b =
       concurrent-symmetric a b,
       same-symmetric (a .tsite) (a .tseq) (b .tsite) (b .tseq),
       eqb-comm (a .key) (b .key),
-      eqb-comm (a .value) (b .value),
+      eqb-comm (shownValue (a .key) (a .value)) (shownValue (b .key) (b .value)),
     )
 
 pub conflict-irreflexive : (a : Edit) → doConflict a a ≡ false
-conflict-irreflexive a = rw (eqb-self (a .value)) (simp and-false)
+conflict-irreflexive a = rw (eqb-self (shownValue (a .key) (a .value))) (simp and-false)
 
 -- what a conflict is made of
 pub record Conflict (a b : Edit) : Type 0 where
@@ -51,14 +52,15 @@ pub record Conflict (a b : Edit) : Type 0 where
   pub concurrent : areConcurrent a b ≡ true
   pub object : sameEdit (a .tsite) (a .tseq) (b .tsite) (b .tseq) ≡ true
   pub key : eqb (a .key) (b .key) ≡ true
-  pub values : not (eqb (a .value) (b .value)) ≡ true
+  pub values : not (eqb (shownValue (a .key) (a .value)) (shownValue (b .key) (b .value))) ≡ true
 
 pub conflict-parts : (a b : Edit) → doConflict a b ≡ true → Conflict a b
 conflict-parts a b h =
     let two = isSet a && isSet b in
     let object = sameEdit (a .tsite) (a .tseq) (b .tsite) (b .tseq) in
     let key = eqb (a .key) (b .key) in
-    let (h3, values) = both (two && areConcurrent a b && object && key) (not (eqb (a .value) (b .value))) h in
+    let same = eqb (shownValue (a .key) (a .value)) (shownValue (b .key) (b .value)) in
+    let (h3, values) = both (two && areConcurrent a b && object && key) (not same) h in
     let (h2, key-on) = both (two && areConcurrent a b && object) key h3 in
     let (h1, object-on) = both (two && areConcurrent a b) object h2 in
     let (two-on, concurrent-on) = both two (areConcurrent a b) h1 in

@@ -1,3 +1,4 @@
 pub mod Causal
 pub mod Conflict
 pub mod TotalOrder
+pub mod ShownValue

@@ -1,5 +1,5 @@
-// The causal tests of document 01: before, concurrent, conflict; and the sum by which the total order goes first. Each
-// answers what the definition says for every edit, well formed or not.
+// The causal tests of document 01: before, concurrent, conflict; the values that conflict compares; and the sum by which
+// the total order goes first. Each answers what the definition says for every edit, well formed or not.
 use edit_record::Edit;
 use edit_record::SET;
 use edit_record::SITES;
@@ -8,6 +8,7 @@ use edit_record::Site;
 ghost use mathlib.Core.Path.{_≡_};
 ghost use Rattle.edit_causal.specs.Causal.{sameEdit, hasSeen, comesBefore, areConcurrent};
 ghost use Rattle.edit_causal.specs.Conflict.{doConflict};
+ghost use Rattle.edit_causal.specs.ShownValue.{shownValue};
 ghost use Rattle.edit_causal.specs.TotalOrder.{vectorSum};
 
 // Whether s.q and t.p are one edit.
@@ -39,6 +40,22 @@ pub fn is_concurrent(a: Edit, b: Edit) -> bool
     !is_same(a.site, a.seq, b.site, b.seq) & !is_before(a, b) & !is_before(b, a)
 }
 
+// The side of a square of the grid, on which the keys 0 and 1 place a box.
+const SQUARE: u32 = 8;
+
+// The keys that are squares are the numbers below this one.
+const SQUARE_KEYS: u8 = 2;
+
+// The value of a key as it is compared and shown.
+pub fn shown(key: u8, value: u32) -> u32
+    ensures { λ r. ⌜ r ≡ shownValue key value ⌝ }
+{
+    if key < SQUARE_KEYS {
+        return value / SQUARE * SQUARE;
+    }
+    value
+}
+
 // Whether a and b are two Sets that conflict.
 pub fn is_conflict(a: Edit, b: Edit) -> bool
     ensures { λ r. ⌜ r ≡ doConflict a b ⌝ }
@@ -48,7 +65,7 @@ pub fn is_conflict(a: Edit, b: Edit) -> bool
         & is_concurrent(a, b)
         & is_same(a.tsite, a.tseq, b.tsite, b.tseq)
         & (a.key == b.key)
-        & (a.value != b.value)
+        & (shown(a.key, a.value) != shown(b.key, b.value))
 }
 
 // The sum of a vector's entries. A sum of entries of two bytes does not wrap.

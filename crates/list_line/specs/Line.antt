@@ -4,6 +4,7 @@ use mathlib.Core.List.{List, [], _∷_, _++_, map, flatMap}
 use Prim.Native.Nat.{ℕ, zero, suc, _+_, _-_, _*_}
 use Rattle.edit_record.specs.declared.Edit.{Edit}
 use Rattle.edit_record.specs.Layout.{keys}
+use Rattle.edit_causal.specs.ShownValue.{shownValue}
 use Rattle.group_step.specs.GroupRows.{mostSets}
 use Rattle.list_text.specs.Pieces.{space, plus, minus, newline, dotted, equated, dottedLength, equatedLength}
 use Rattle.list_version.specs.Identifier.{siteIn, seqIn, identifierOf}
@@ -22,7 +23,7 @@ identifierText (x ∷ xs) = nameText x ++ flatMap (λ y. plus ∷ nameText y) xs
 -- ` key=value` for the last member with the key, if there is one
 unfoldable pub settingText : ℕ → List Edit → List ℕ
 settingText k [] = []
-settingText k (e ∷ es) = space ∷ equated k (e .value)
+settingText k (e ∷ es) = space ∷ equated k (shownValue k (e .value))
 
 -- for the keys below k, ascending
 unfoldable pub settingsText : List Edit → ℕ → ℕ → List ℕ

@@ -6,13 +6,14 @@ use Prim.Native.Nat.{ℕ, zero, suc, _-_, _%_}
 use lib.Dec.{eqb}
 use Rattle.edit_record.specs.declared.Edit.{Edit}
 use Rattle.edit_record.specs.Layout.{keys}
+use Rattle.edit_causal.specs.ShownValue.{shownValue}
 use Rattle.list_text.specs.Pieces.{space, newline, dotted, equated}
 use Rattle.list_line.specs.Line.{identifierText}
 use Rattle.list_version.specs.VersionForms.{identifierBy, largestBy, values}
 
 -- ` key=value` by a stamp
 abbrev pub stampText : ℕ → ℕ → List ℕ
-stampText k s = cond (eqb s 0) [] (space ∷ equated k ((s - 1) % values))
+stampText k s = cond (eqb s 0) [] (space ∷ equated k (shownValue k ((s - 1) % values)))
 
 -- for the keys below k, ascending
 unfoldable pub settingsBy : List ℕ → ℕ → ℕ → List ℕ

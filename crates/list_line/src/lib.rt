@@ -1,5 +1,6 @@
 // The line of a version. The Sets of the object are given by their tags and their stamps, in the order of arrival: bit
 // i of a group stands for the i-th Set.
+use edit_causal::shown;
 use edit_record::Edit;
 use edit_record::KEYS;
 use group_step::SETS;
@@ -100,7 +101,7 @@ fn put_setting(out: &mut [u8], n: usize, key: u8, s: u64) -> usize
         return n;
     }
     let w = put_byte(out, n, SPACE);
-    put_equated(out, w, key, ((s - 1) % VALUES) as u32)
+    put_equated(out, w, key, shown(key, ((s - 1) % VALUES) as u32))
 }
 
 // Puts ` key=value` for each key set in the group g, ascending, by the t stamps of the object's Sets.

@@ -15,6 +15,7 @@ use Rattle.math_lists.proofs.Booleans.{clash}
 use Rattle.math_lists.proofs.LastBelow.{last}
 use Rattle.edit_record.specs.declared.Edit.{Edit}
 use Rattle.edit_causal.specs.TotalOrder.{ranksBefore}
+use Rattle.edit_causal.specs.ShownValue.{shownValue}
 use Rattle.math_maximal.specs.Groups.{bit}
 use Rattle.edit_history.specs.EditsHeld.{setsOn}
 use Rattle.table_drawing.specs.Tables.{Tables, heldBy}
@@ -125,10 +126,11 @@ module _ (t : Tables) (s : Sound t) (c : Edit) (g : ℕ) (e : elem g (trueGroups
   -- the value shown is that of each member of the key that no other one comes after
   pub shown-value :
       (k : ℕ) (x : Edit) (xs : List Edit) → lastWith ms g k ≡ x ∷ xs → (j : ℕ) → Member t s c g e k j →
-      Undone t s c g e k j → getD ms j noEdit .value ≡ x .value
+      Undone t s c g e k j → shownValue k (getD ms j noEdit .value) ≡ shownValue k (x .value)
   shown-value k x xs some j mj uj =
       let f : Top ms g k (length ms) x = rw some at (found ms g k) in
       let i = f .place in
       let mi : Member t s c g e k i = record { low = f .low; held = f .holds .0; key = f .holds .1 } in
       let top : Last t s c g e k i = λ j mj. rw (f .same) (f .top j (mj .low) (mj .held, mj .key)) in
-      one-value t s c g e k j i mj mi uj (last-undone t s c g e k i mi top) ∙ ap (λ (a : Edit). a .value) (f .same)
+      one-value t s c g e k j i mj mi uj (last-undone t s c g e k i mi top)
+      ∙ ap (λ (a : Edit). shownValue k (a .value)) (f .same)

@@ -20,6 +20,7 @@ use Rattle.edit_record.specs.declared.Edit.{Edit}
 use Rattle.edit_record.specs.Answer1.{isSet}
 use Rattle.edit_causal.proofs.CausalLaws.{same-reflexive}
 use Rattle.edit_causal.specs.Causal.{sameEdit, comesBefore, areConcurrent}
+use Rattle.edit_causal.specs.ShownValue.{shownValue}
 use Rattle.edit_causal.specs.Conflict.{doConflict}
 use Rattle.edit_causal.specs.TotalOrder.{ranksBefore}
 use Rattle.math_maximal.specs.Groups.{bit, every, groups}
@@ -122,7 +123,8 @@ module _ (t : Tables) (s : Sound t) (c : Edit) (g : ℕ) (e : elem g (trueGroups
     -- two Sets of the object with one key, neither before the other, conflict if their values differ
     conflict-if :
         sameEdit (at i .site) (at i .seq) (at j .site) (at j .seq) ≡ false → comesBefore (at i) (at j) ≡ false →
-        comesBefore (at j) (at i) ≡ false → eqb (at i .value) (at j .value) ≡ false → doConflict (at i) (at j) ≡ true
+        comesBefore (at j) (at i) ≡ false → eqb (shownValue k (at i .value)) (shownValue k (at j .value)) ≡ false →
+        doConflict (at i) (at j) ≡ true
     conflict-if d ab ba v =
         let (si, oi) = both (isSet (at i)) (sameEdit (at i .tsite) (at i .tseq) (c .site) (c .seq)) (x .on) in
         let (sj, oj) = both (isSet (at j)) (sameEdit (at j .tsite) (at j .tseq) (c .site) (c .seq)) (y .on) in
@@ -137,15 +139,15 @@ module _ (t : Tables) (s : Sound t) (c : Edit) (g : ℕ) (e : elem g (trueGroups
         let concurrent : areConcurrent (at i) (at j) ≡ true
         = and-on (not same && not (comesBefore (at i) (at j))) (not (comesBefore (at j) (at i)))
         (and-on (not same) (not (comesBefore (at i) (at j))) (ap not d) (ap not ab)) (ap not ba) in
-        rw (si, sj, concurrent, object, keys, v)
+        rw (si, sj, concurrent, object, keys, mi .key, mj .key, v)
 
-    pub one-value : Undone k i → Undone k j → at i .value ≡ at j .value
+    pub one-value : Undone k i → Undone k j → shownValue k (at i .value) ≡ shownValue k (at j .value)
     one-value ui uj =
         elim (decide (sameEdit (at i .site) (at i .seq) (at j .site) (at j .seq))) [
-          | inl h ↦ same-value h
+          | inl h ↦ ap (shownValue k) (same-value h)
           | inr d ↦
-              elim (decide (eqb (at i .value) (at j .value))) [
-                | inl v ↦ eqb-true (at i .value) (at j .value) v
+              elim (decide (eqb (shownValue k (at i .value)) (shownValue k (at j .value)))) [
+                | inl v ↦ eqb-true (shownValue k (at i .value)) (shownValue k (at j .value)) v
                 | inr v ↦ clash (conflict-if d (ui j mj) (uj i mi) v) no-conflict
               ]
         ]

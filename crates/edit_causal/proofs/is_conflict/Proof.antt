@@ -9,8 +9,15 @@ is-concurrent-requires c κs = search needs
 is-same-requires : tie.Need-is-same-requires
 is-same-requires c κs = search needs
 
+shown-requires : tie.Need-shown-requires
+shown-requires c κs = search needs
+
+shown-requires-2 : tie.Need-shown-requires-2
+shown-requires-2 c κs = search needs
+
 returns : tie.Need-returns
 returns c = cc
 
 pub is-conflict-spec : {M : Type 1} → statement M
-is-conflict-spec = tie.close (tie.spec is-concurrent-requires is-same-requires returns)
+is-conflict-spec =
+    tie.close (tie.spec is-concurrent-requires is-same-requires shown-requires shown-requires-2 returns)
