@@ -1,42 +1,29 @@
 -- Demand 2, identifiers: two versions of a faithful drawing never share one. Assumes nothing.
-use mathlib.Core.Path.{_≡_, sym}
-use mathlib.Core.Bool.{Bool, true, _&&_}
-use mathlib.Core.List.{List}
-use Prim.Native.Nat.{ℕ, _<_}
+use mathlib.Core.Path.{_≡_, ap, _∙_}
+use mathlib.Core.Bool.{true, _&&_}
+use mathlib.Core.List.{List, [], append-nil}
+use Prim.Native.Nat.{ℕ}
 use lib.ListN.{length, getD}
-use Rattle.math_lists.specs.NumbersBelow.{keep}
-use Rattle.math_lists.specs.SortedLists.{any, elem}
-use Rattle.math_lists.proofs.Booleans.{same-test, both, and-on}
-use Rattle.math_lists.proofs.NumbersBelow.{keep-at, keep-on}
-use Rattle.math_lists.proofs.ByPlaces.{any-place-on}
+use Rattle.math_lists.specs.SortedLists.{elem}
+use Rattle.math_lists.proofs.Booleans.{both}
+use Rattle.math_lists.proofs.NumbersBelow.{keep-at}
 use Rattle.edit_record.specs.declared.Edit.{Edit}
 use Rattle.edit_causal.specs.Conflict.{doConflict}
-use Rattle.math_maximal.specs.Groups.{bit, every}
-use Rattle.math_maximal.specs.GroupsByArrival.{rel, groupsOf}
-use Rattle.math_maximal.proofs.Groups.{below-at}
-use Rattle.math_maximal.proofs.MoreElements.{told-apart}
+use Rattle.math_maximal.specs.Groups.{bit}
+use Rattle.math_maximal.specs.GroupsByArrival.{groupsOf}
 use Rattle.edit_record.specs.RecordBytes.{noEdit}
 use Rattle.group_true.specs.Disputed.{isDisputed, disputedOf}
+use Rattle.group_true.proofs.DisputesGrow.{versions-never-in-one}
 
+-- else both would be found in one, with no Set more
 pub identifiers-differ :
     (ms : List Edit) (g h : ℕ) → elem g (groupsOf noEdit doConflict ms) ≡ true →
     elem h (groupsOf noEdit doConflict ms) ≡ true → disputedOf ms g ≡ disputedOf ms h → g ≡ h
-unfolding groupsOf rel disputedOf isDisputed
 identifiers-differ ms g h eg eh same =
-    told-apart (rel noEdit doConflict ms) (length ms) every g h eg eh (λ i j bi bj c.
-    let l : i < length ms = below-at (length ms) every i bi .0 in
-    let m : j < length ms = below-at (length ms) every j bj .0 in
-    let hot : any (doConflict (getD ms i noEdit)) ms ≡ true
-    = any-place-on (doConflict (getD ms i noEdit)) noEdit ms j m c in
-    same-test (bit g i) (bit h i) (over g h same i l hot) (over h g (sym same) i l hot))
+    versions-never-in-one ms [] g h h eg eh
+    (ap (λ (l : List Edit). elem h (groupsOf noEdit doConflict l)) (append-nil ms) ∙ eh)
+    (λ i e. member i (rw same at e)) member
   where
-    over :
-        (g h : ℕ) → keep (length ms) (λ i. bit g i && any (doConflict (getD ms i noEdit)) ms)
-        ≡ keep (length ms) (λ i. bit h i && any (doConflict (getD ms i noEdit)) ms) →
-        (i : ℕ) → i < length ms → any (doConflict (getD ms i noEdit)) ms ≡ true → bit g i ≡ true → bit h i ≡ true
-    over g h e i l hot b =
-        let f : ℕ → Bool = λ i. bit g i && any (doConflict (getD ms i noEdit)) ms in
-        let f′ : ℕ → Bool = λ i. bit h i && any (doConflict (getD ms i noEdit)) ms in
-        let in-g : elem i (keep (length ms) f) ≡ true = keep-on (length ms) f i l (and-on (bit g i) _ b hot) in
-        both (bit h i) (any (doConflict (getD ms i noEdit)) ms)
-        (keep-at (length ms) f′ i (rw e at in-g) .1) .0
+    member : (i : ℕ) → elem i (disputedOf ms h) ≡ true → bit h i ≡ true
+    member i e = unfold disputedOf in
+        both (bit h i) _ (keep-at (length ms) (λ i. bit h i && isDisputed ms (getD ms i noEdit)) i e .1) .0

@@ -1,2 +1,3 @@
 pub mod TrueGroups
+pub mod DisputesGrow
 pub mod IdentifiersDiffer
