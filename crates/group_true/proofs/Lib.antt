@@ -1,3 +1,2 @@
 pub mod TrueGroups
 pub mod DisputesGrow
-pub mod IdentifiersDiffer
