@@ -1,5 +1,5 @@
--- Tables u that are those of a later moment than t: the objects of t keep their numbers and their Creates, and the Sets
--- of each only grow at the end, so that they keep their numbers too. Arrivals lead to such tables, and so does a replay
+-- Tables u of a later moment than t: the objects of t keep their numbers and their Creates, and the list of the Sets of
+-- each only grows at its end, so that they keep their numbers too. Arrivals lead to such tables, and so does a replay
 -- that goes on. Assumes that t is faithful.
 use mathlib.Core.Path.{_≡_, refl, sym, ap, subst, _∙_}
 use mathlib.Core.Bool.{Bool, true, false, cond}
@@ -8,8 +8,6 @@ use Prim.Native.Nat.{ℕ, zero, suc, _≤_, _<_}
 use native.Mathlib.Omega.{arith}
 use native.Mathlib.Decide.{decLt}
 use lib.Dec.{eqb}
-use borrow.Author.Tests.{eqb-true}
-use Rattle.math_lists.specs.SortedLists.{filter}
 use Rattle.math_lists.proofs.GrownAtEnd.{filter-snoc}
 use Rattle.edit_record.specs.declared.Edit.{Edit}
 use Rattle.edit_record.specs.Layout.{mostSites}
@@ -17,12 +15,11 @@ use Rattle.edit_record.specs.RecordBytes.{decodeOf}
 use Rattle.edit_history.specs.EditsHeld.{bytesAt, isSetOn, setsOn}
 use Rattle.table_drawing.specs.Tables.{Tables, heldBy}
 use Rattle.table_drawing.specs.AnswerNumbers.{Outcome, outcomeOf}
-use Rattle.table_soundness.specs.Sound.{sound}
 use Rattle.table_soundness.proofs.SoundFacts.{sound-on}
 use Rattle.table_arrival.specs.Answers6and7.{answerTo}
 use Rattle.table_arrival.specs.Arrival.{taken, acceptanceOf, arrivalOf}
 use Rattle.table_arrival.proofs.Faithful.{Faithful, acceptance-faithful}
-use Rattle.table_replay.specs.Replay.{Replayed, oneMore, replayOf}
+use Rattle.table_replay.specs.Replay.{oneMore, replayOf}
 use Rattle.table_replay.proofs.ReplayFaithful.{replay-faithful}
 use Rattle.list_objects.specs.Objects.{createOf, setsFor}
 use Rattle.demand_list.specs.OtherBoxes.{ownOf}
@@ -70,25 +67,16 @@ left-later t u own e l = record {
 
 -- accepted or refused
 acceptance-later : (t : Tables) (b : List ℕ) → Faithful t → Later t (acceptanceOf t b .after)
-acceptance-later t b f = go (eqb (acceptanceOf t b .answer) 0) refl
+acceptance-later t b f = unfold acceptanceOf in go (eqb (answerTo t b) 0) refl
   where
-    go : (x : Bool) → eqb (acceptanceOf t b .answer) 0 ≡ x → Later t (acceptanceOf t b .after)
+    go : (x : Bool) → eqb (answerTo t b) 0 ≡ x →
+        Later t (cond x (outcomeOf 0 (taken t b)) (outcomeOf (answerTo t b) t) .after)
     go true h =
-        left-later t (acceptanceOf t b .after) (ownOf t b) (decodeOf b)
-        (leaves t (f .kept) b (eqb-true (acceptanceOf t b .answer) 0 h))
-    go false h = subst (Later t) (refused h) (later-self t)
-      where
-        refused : eqb (acceptanceOf t b .answer) 0 ≡ false → t ≡ acceptanceOf t b .after
-        refused = unfold acceptanceOf in kinds (eqb (answerTo t b) 0) refl
-          where
-            kinds : (x : Bool) → eqb (answerTo t b) 0 ≡ x →
-                eqb (cond x (outcomeOf 0 (taken t b)) (outcomeOf (answerTo t b) t) .answer) 0 ≡ false →
-                t ≡ cond x (outcomeOf 0 (taken t b)) (outcomeOf (answerTo t b) t) .after
-            kinds true e h = absurd (clash-zero h)
-              where
-                clash-zero : eqb 0 0 ≡ false → ⊥
-                clash-zero h = let z : _≡_ {A = ℕ} 0 1 = cc in omega arith
-            kinds false e h = refl
+        let e : acceptanceOf t b ≡ outcomeOf 0 (taken t b) = unfold acceptanceOf in rw h in
+        subst (λ (a : Outcome). Later t (a .after)) e
+        (left-later t (acceptanceOf t b .after) (ownOf t b) (decodeOf b)
+        (leaves t (f .kept) b (ap (λ (a : Outcome). a .answer) e)))
+    go false h = later-self t
 
 -- at faithful tables an arrival is an acceptance
 arrival-accepts : (t : Tables) (b : List ℕ) → Faithful t → arrivalOf t b ≡ acceptanceOf t b

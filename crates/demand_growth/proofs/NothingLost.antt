@@ -1,11 +1,10 @@
--- Req 10: a version that was shown is not lost when more records arrive, accepted or refused. Assumes that the tables at
--- the earlier moment are faithful; those that arrivals or a file's records give from an empty drawing are.
+-- Req 10: a version that was shown is not lost when more records arrive, accepted or refused. Assumes that the tables
+-- at the earlier moment are faithful; those that arrivals or a file's records give from an empty drawing are.
 use mathlib.Core.Path.{_≡_, ap, _∙_}
 use mathlib.Core.Bool.{true}
 use mathlib.Core.List.{List, _++_}
 use Prim.Native.Nat.{ℕ, _≤_, _<_}
 use native.Mathlib.Omega.{arith}
-use lib.ListN.{length}
 use Rattle.math_lists.specs.SortedLists.{elem}
 use Rattle.math_lists.proofs.Elements.{elem→mem, mem→elem}
 use Rattle.edit_record.specs.declared.Edit.{Edit}
@@ -21,14 +20,13 @@ use Rattle.table_arrival.specs.Answers6and7.{rowOf}
 use Rattle.table_arrival.proofs.Faithful.{Faithful, empty-faithful}
 use Rattle.table_replay.specs.Replay.{replayOf}
 use Rattle.table_replay.proofs.ReplayFaithful.{replay-faithful}
-use Rattle.list_version.specs.Members.{membersOf}
 use Rattle.list_version.specs.Identifier.{identifierOf}
 use Rattle.list_version.proofs.IdentifiersGrow.{NamesDiffer, members-grow, identifier-grows}
 use Rattle.list_version.proofs.IdentifiersGrow.{members-never-in-one, identifiers-never-in-one}
 use Rattle.list_version.proofs.NeverShared.{held-names-differ}
 use Rattle.list_objects.specs.Objects.{createOf, setsFor}
-use Rattle.demand_growth.specs.Versions.{arrivals, IsVersion, versions, groupAt, identifierAt, Within}
-use Rattle.demand_growth.specs.NothingLost.{Holds, NothingLost}
+use Rattle.demand_growth.specs.Versions.{arrivals, IsVersion, versions, identifierAt, Within}
+use Rattle.demand_growth.specs.NothingLost.{Contains, NothingLost}
 use Rattle.demand_growth.proofs.Later.{Later, arrivals-lead, replay-leads}
 
 -- ---- between two moments
@@ -64,9 +62,10 @@ module _ (t u : Tables) (f : Faithful t) (w : Faithful u) (r : Later t u) (o : �
   differ : NamesDiffer (ms ++ more)
   differ = rw grown at (held-names-differ u (w .kept .isSound) (createOf u o))
 
-  holder : (g : ℕ) → IsVersion t o g → (k : ℕ) × IsVersion u o k × Holds t u o g k
-  holder g e =
-      let (k, i, sub) = lies-in-later noEdit doConflict conflict-symmetric conflict-irreflexive ms more g (before g e) in (
+  container : (g : ℕ) → IsVersion t o g → (k : ℕ) × IsVersion u o k × Contains t u o g k
+  container g e =
+      let (k, i, sub) =
+      lies-in-later noEdit doConflict conflict-symmetric conflict-irreflexive ms more g (before g e) in (
         k,
         rw row-grown i,
         record {
@@ -79,7 +78,7 @@ module _ (t u : Tables) (f : Faithful t) (w : Faithful u) (r : Later t u) (o : �
   nothing-lost-between : NothingLost t u o
   nothing-lost-between = record {
     sameObject = (still, r .creates o l);
-    held = holder;
+    laterVersion = container;
     apartByGroup = λ g h k eg eh ek p q.
         members-never-in-one ms more differ g h k (before g eg) (before h eh) (after k ek)
         (λ x m. rw grown at (p x m)) (λ x m. rw grown at (q x m));

@@ -1,6 +1,6 @@
 -- The Sets of an object, ms, and more that arrive after them: what is in dispute stays so, and two versions are never
--- found in one later version, not even by the members in dispute alone. Of conflict this takes only that it is symmetric
--- and irreflexive. Assumes nothing.
+-- found in one later version, not even by their members in dispute alone. Of conflict nothing enters but that it is
+-- symmetric and irreflexive. Assumes nothing.
 use mathlib.Core.Path.{_≡_, _∙_}
 use mathlib.Core.Bool.{Bool, true, _&&_}
 use mathlib.Core.List.{List, _++_}
@@ -19,9 +19,7 @@ use Rattle.edit_causal.proofs.CausalLaws.{conflict-symmetric, conflict-irreflex
 use Rattle.math_maximal.specs.MaximalSets.{_∈_, _⊆_}
 use Rattle.math_maximal.specs.Groups.{bit}
 use Rattle.math_maximal.specs.GroupsByArrival.{rel, groupsOf}
-use Rattle.math_maximal.proofs.Bits.{bit-below}
-use Rattle.math_maximal.proofs.Groups.{groups-at}
-use Rattle.math_maximal.proofs.GroupsGrow.{never-in-one-later}
+use Rattle.math_maximal.proofs.GroupsGrow.{members-arrived, never-in-one-later}
 use Rattle.edit_record.specs.RecordBytes.{noEdit}
 use Rattle.group_true.specs.Disputed.{isDisputed, disputedOf}
 
@@ -59,9 +57,9 @@ module _ (ms more : List Edit) where
       disputed :
           (g : ℕ) → elem g (groupsOf noEdit doConflict ms) ≡ true → (i j : ℕ) → bit g i ≡ true → j < length ms →
           rel noEdit doConflict (ms ++ more) i j ≡ true → elem i (disputedOf ms g) ≡ true
-      disputed g e i j b l r = unfold disputedOf isDisputed groupsOf rel in
+      disputed g e i j b l r = unfold disputedOf isDisputed rel in
           let k = length ms in
-          let m : i < k = bit-below k g (groups-at (rel noEdit doConflict ms) k _ g e .0) i b in
+          let m : i < k = members-arrived noEdit doConflict ms g e i b in
           keep-on k (λ i. bit g i && any (doConflict (getD ms i noEdit)) ms) i m
           (and-on (bit g i) _ b
           (any-place-on (doConflict (getD ms i noEdit)) noEdit ms j l

@@ -1,7 +1,7 @@
--- The Sets of an object, ms, and more that arrive after them: a version whose group lies in a later one keeps its members
--- and the names in its identifier; and two versions are never found in one later version, neither by their members nor
--- by their identifiers. The last two assume that different Sets have different names.
-use mathlib.Core.Path.{_≡_, refl, sym, ap, _∙_}
+-- The Sets of an object, ms, and more that arrive after them: a version whose group lies in a later one keeps its
+-- members and the names in its identifier; and two versions are never found in one later version, neither by their
+-- members nor by their identifiers. The last two assume that different Sets have different names.
+use mathlib.Core.Path.{_≡_, sym, ap, _∙_}
 use mathlib.Core.Bool.{true, _&&_}
 use mathlib.Core.List.{List, _++_, map, map-map, Memᴰ·map, Memᴰ·of-map}
 use Prim.Native.Nat.{ℕ, _<_}
@@ -20,11 +20,9 @@ use Rattle.edit_record.specs.RecordBytes.{noEdit}
 use Rattle.edit_causal.specs.Conflict.{doConflict}
 use Rattle.edit_causal.proofs.CausalLaws.{conflict-symmetric, conflict-irreflexive}
 use Rattle.math_maximal.specs.MaximalSets.{_⊆_}
-use Rattle.math_maximal.specs.Groups.{bit, every}
-use Rattle.math_maximal.specs.GroupsByArrival.{rel, groupsOf}
-use Rattle.math_maximal.proofs.Bits.{bit-below}
-use Rattle.math_maximal.proofs.Groups.{groups-at}
-use Rattle.math_maximal.proofs.GroupsGrow.{never-in-one-later}
+use Rattle.math_maximal.specs.Groups.{bit}
+use Rattle.math_maximal.specs.GroupsByArrival.{groupsOf}
+use Rattle.math_maximal.proofs.GroupsGrow.{members-arrived, never-in-one-later}
 use Rattle.group_true.specs.Disputed.{isDisputed, disputedOf}
 use Rattle.group_true.proofs.DisputesGrow.{dispute-grows, versions-never-in-one}
 use Rattle.demand_any_order.specs.Rearranged.{Mem}
@@ -32,7 +30,7 @@ use Rattle.list_version.specs.Identifier.{nameOf, identifierOf}
 use Rattle.list_version.specs.Members.{membersOf}
 use Rattle.list_version.proofs.MembersByTest.{filter-keep}
 
-abbrev pub nameAt : List Edit → ℕ → ℕ
+abbrev nameAt : List Edit → ℕ → ℕ
 nameAt ms i = nameOf (getD ms i noEdit)
 
 -- different Sets have different names
@@ -44,9 +42,13 @@ NamesDiffer ms = (i j : ℕ) → i < length ms → j < length ms → nameAt ms i
 module _ (ms : List Edit) (g : ℕ) where
   member-on : (i : ℕ) → i < length ms → bit g i ≡ true → Mem (getD ms i noEdit) (membersOf ms g)
   unfolding membersOf
-  member-on i l b = Memᴰ·map (λ i. getD ms i noEdit) (elem→mem i (keep (length ms) (bit g)) (keep-on (length ms) (bit g) i l b))
+  member-on i l b =
+      let n = length ms in
+      Memᴰ·map (λ i. getD ms i noEdit) (elem→mem i (keep n (bit g)) (keep-on n (bit g) i l b))
 
-  member-at : (e : Edit) → Mem e (membersOf ms g) → (i : ℕ) × (i < length ms) × (bit g i ≡ true) × (getD ms i noEdit ≡ e)
+  member-at :
+      (e : Edit) → Mem e (membersOf ms g) →
+      (i : ℕ) × (i < length ms) × (bit g i ≡ true) × (getD ms i noEdit ≡ e)
   unfolding membersOf
   member-at e m =
       let (i, n, q) = Memᴰ·of-map (λ i. getD ms i noEdit) (keep (length ms) (bit g)) m in
@@ -72,12 +74,14 @@ module _ (ms : List Edit) (g : ℕ) where
       ap (elem x) identifier-places ∙ any-ascending (eqb x) (map (nameAt ms) (disputedOf ms g))
       ∙ any-map (eqb x) (nameAt ms) (disputedOf ms g)
 
-  pub name-on : (i : ℕ) → elem i (disputedOf ms g) ≡ true → elem (nameAt ms i) (identifierOf ms g) ≡ true
+  name-on : (i : ℕ) → elem i (disputedOf ms g) ≡ true → elem (nameAt ms i) (identifierOf ms g) ≡ true
   name-on i e =
       named (nameAt ms i)
       ∙ any-on (λ j. eqb (nameAt ms i) (nameAt ms j)) (disputedOf ms g) i e (eqb-self (nameAt ms i))
 
-  pub name-at : (x : ℕ) → elem x (identifierOf ms g) ≡ true → (i : ℕ) × (elem i (disputedOf ms g) ≡ true) × (x ≡ nameAt ms i)
+  name-at :
+      (x : ℕ) → elem x (identifierOf ms g) ≡ true →
+      (i : ℕ) × (elem i (disputedOf ms g) ≡ true) × (x ≡ nameAt ms i)
   name-at x h =
       let (i, e, q) = any-at (λ i. eqb x (nameAt ms i)) (disputedOf ms g) (sym (named x) ∙ h) in
       (i, e, eqb-true x (nameAt ms i) q)
@@ -122,8 +126,7 @@ module _ (ms more : List Edit) where
             (g : ℕ) → elem g (groupsOf noEdit doConflict ms) ≡ true →
             ((e : Edit) → Mem e (membersOf ms g) → Mem e (membersOf ns k)) → bit g ⊆ bit k
         over g e into i b =
-            let l : i < length ms
-            = unfold groupsOf in bit-below (length ms) g (groups-at (rel noEdit doConflict ms) (length ms) every g e .0) i b in
+            let l : i < length ms = members-arrived noEdit doConflict ms g e i b in
             let (j, m, c, q) = member-at ns k (getD ms i noEdit) (into (getD ms i noEdit) (member-on ms g i l b)) in
             let one : j ≡ i = differ j i m (further i l) (ap nameOf (q ∙ sym (same-there i l))) in
             rw (← one) c

@@ -1,5 +1,5 @@
--- In sound tables the Sets of an object have different names, so two versions of true tables never share an identifier.
--- Assumes nothing.
+-- In sound tables the Sets of an object have different names, so that two versions of true tables never share an
+-- identifier. Assumes nothing.
 use mathlib.Core.Path.{_≡_}
 use mathlib.Core.Logic.{inl, inr}
 use mathlib.Core.Bool.{true}

@@ -15,6 +15,16 @@ use Rattle.math_maximal.proofs.Groups.{below-at, below-on, groups-at}
 use Rattle.math_maximal.proofs.MoreElements.{kept, no-more-groups, never-in-one}
 use Rattle.math_maximal.proofs.GroupsByArrival.{rel-sym, rel-irr, earlier-groups}
 
+-- the members of a group have arrived
+pub members-arrived :
+    {E : Type 0} (d : E) (conf : E → E → Bool) (xs : List E) (g : ℕ) → elem g (groupsOf d conf xs) ≡ true →
+    (i : ℕ) → i ∈ bit g → i < length xs
+unfolding groupsOf
+members-arrived d conf xs g e i b =
+    below-at (length xs) every i (groups-at (rel d conf xs) (length xs) every g e .1 .isFree .within i b) .0
+
+-- ---- more arrive
+
 module _ {E : Type 0} (d : E) (conf : E → E → Bool)
     (sm : (x y : E) → conf x y ≡ conf y x) (irr : (x : E) → conf x x ≡ false) (xs more : List E) where
   abbrev ys : List E
