@@ -2,7 +2,7 @@
 -- members and the names in its identifier; and two versions are never found in one later version, neither by their
 -- members nor by their identifiers. The last two assume that different Sets have different names.
 use mathlib.Core.Path.{_≡_, sym, ap, _∙_}
-use mathlib.Core.Bool.{true, _&&_}
+use mathlib.Core.Bool.{true}
 use mathlib.Core.List.{List, _++_, map, map-map, Memᴰ·map, Memᴰ·of-map}
 use Prim.Native.Nat.{ℕ, _<_}
 use native.Mathlib.Omega.{arith}
@@ -11,7 +11,7 @@ use lib.Dec.{eqb}
 use borrow.Author.Tests.{eqb-true}
 use Rattle.math_lists.specs.NumbersBelow.{keep}
 use Rattle.math_lists.specs.SortedLists.{any, elem, ascending}
-use Rattle.math_lists.proofs.Booleans.{both, eqb-self}
+use Rattle.math_lists.proofs.Booleans.{eqb-self}
 use Rattle.math_lists.proofs.NumbersBelow.{keep-at, keep-on}
 use Rattle.math_lists.proofs.Elements.{any-map, any-on, any-at, elem→mem, mem→elem}
 use Rattle.math_lists.proofs.SortedLists.{any-ascending}
@@ -24,7 +24,7 @@ use Rattle.math_maximal.specs.Groups.{bit}
 use Rattle.math_maximal.specs.GroupsByArrival.{groupsOf}
 use Rattle.math_maximal.proofs.GroupsGrow.{members-arrived, never-in-one-later}
 use Rattle.group_true.specs.Disputed.{isDisputed, disputedOf}
-use Rattle.group_true.proofs.DisputesGrow.{dispute-grows, versions-never-in-one}
+use Rattle.group_true.proofs.DisputesGrow.{disputed-at, dispute-grows, versions-never-in-one}
 use Rattle.demand_any_order.specs.Rearranged.{Mem}
 use Rattle.list_version.specs.Identifier.{nameOf, identifierOf}
 use Rattle.list_version.specs.Members.{membersOf}
@@ -54,12 +54,6 @@ module _ (ms : List Edit) (g : ℕ) where
       let (i, n, q) = Memᴰ·of-map (λ i. getD ms i noEdit) (keep (length ms) (bit g)) m in
       let (l, b) = keep-at (length ms) (bit g) i (mem→elem n) in
       (i, l, b, q)
-
-  disputed-at : (i : ℕ) → elem i (disputedOf ms g) ≡ true → (i < length ms) × (bit g i ≡ true)
-  unfolding disputedOf
-  disputed-at i e =
-      let (l, p) = keep-at (length ms) (λ i. bit g i && isDisputed ms (getD ms i noEdit)) i e in
-      (l, both (bit g i) (isDisputed ms (getD ms i noEdit)) p .0)
 
   identifier-places : identifierOf ms g ≡ ascending (map (nameAt ms) (disputedOf ms g))
   unfolding identifierOf membersOf disputedOf
@@ -143,6 +137,6 @@ module _ (ms more : List Edit) where
         over g into i d =
             let l = disputed-at ms g i d .0 in
             let (j, e, q) = name-at ns k (nameAt ms i) (into (nameAt ms i) (name-on ms g i d)) in
-            let (m, b) = disputed-at ns k j e in
+            let (m, b, c) = disputed-at ns k j e in
             let one : j ≡ i = differ j i m (further i l) (sym q ∙ ap nameOf (sym (same-there i l))) in
             rw (← one) b

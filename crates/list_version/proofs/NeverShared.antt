@@ -7,7 +7,7 @@ use mathlib.Core.List.{List, [], _++_, append-nil}
 use mathlib.Core.List.{List·Memᴰ·not-nil, List·Memᴰ·append-cases, List·Memᴰ·eq-of-singleton}
 use Prim.Native.Nat.{ℕ, zero, suc, _<_}
 use native.Mathlib.Omega.{arith}
-use lib.ListN.{length, getD}
+use lib.ListN.{getD}
 use Rattle.math_lists.specs.SortedLists.{elem, filter, Asc}
 use Rattle.math_lists.proofs.Booleans.{off}
 use Rattle.edit_record.specs.declared.Edit.{Edit}

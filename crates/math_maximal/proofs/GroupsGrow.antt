@@ -9,7 +9,7 @@ use native.Mathlib.Omega.{arith}
 use lib.ListN.{length, length-append}
 use Rattle.math_lists.specs.SortedLists.{elem}
 use Rattle.math_maximal.specs.MaximalSets.{_∈_, _⊆_}
-use Rattle.math_maximal.specs.Groups.{bit, below, every, groups}
+use Rattle.math_maximal.specs.Groups.{bit, below, every}
 use Rattle.math_maximal.specs.GroupsByArrival.{rel, groupsOf}
 use Rattle.math_maximal.proofs.Groups.{below-at, below-on, groups-at}
 use Rattle.math_maximal.proofs.MoreElements.{kept, no-more-groups, never-in-one}
