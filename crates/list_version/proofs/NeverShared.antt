@@ -114,9 +114,10 @@ module _ (t : Tables) (s : Sound t) where
   pub held-names-differ : (c : Edit) → NamesDiffer (setsOn (c .site) (c .seq) (heldBy t))
   held-names-differ = names-apart (heldBy t) held-apart held-numbered
 
-  pub versions-never-share :
-      (c : Edit) (g h : ℕ) → elem g (trueGroups (heldBy t) c) ≡ true → elem h (trueGroups (heldBy t) c) ≡ true →
-      identifierOf (setsOn (c .site) (c .seq) (heldBy t)) g ≡ identifierOf (setsOn (c .site) (c .seq) (heldBy t)) h →
-      g ≡ h
-  unfolding trueGroups
-  versions-never-share c = never-shared (setsOn (c .site) (c .seq) (heldBy t)) (held-names-differ c)
+pub versions-never-share :
+    (t : Tables) → Sound t → (c : Edit) (g h : ℕ) → elem g (trueGroups (heldBy t) c) ≡ true →
+    elem h (trueGroups (heldBy t) c) ≡ true →
+    identifierOf (setsOn (c .site) (c .seq) (heldBy t)) g ≡ identifierOf (setsOn (c .site) (c .seq) (heldBy t)) h →
+    g ≡ h
+unfolding trueGroups
+versions-never-share t s c g h = never-shared (setsOn (c .site) (c .seq) (heldBy t)) (held-names-differ t s c) g h
