@@ -93,6 +93,12 @@ module _ (t u : Tables) (f : Faithful t) (w : Faithful u) (r : Later t u) (o : �
 
 -- ---- records that arrive
 
+-- the Sets of an object keep their numbers: their list only grows, at its end
+pub sets-keep-their-numbers :
+    (t : Tables) → Faithful t → (bs : List (List ℕ)) (o : ℕ) → o < t .counters .objects →
+    (more : List Edit) × (setsFor (arrivals t bs) o ≡ setsFor t o ++ more)
+sets-keep-their-numbers t f bs = arrivals-lead t f bs .1 .sets
+
 pub nothing-lost :
     (t : Tables) → Faithful t → (bs : List (List ℕ)) (o : ℕ) → o < t .counters .objects →
     NothingLost t (arrivals t bs) o
@@ -122,9 +128,3 @@ nothing-lost-in-a-file sites some few rs k n m =
 
 pub dispute-stays : {t u : Tables} {o : ℕ} → NothingLost t u o → 1 < versions t o → 1 < versions u o
 dispute-stays n l = omega (arith, n .neverFewer)
-
--- the Sets of an object keep their numbers: their list only grows, at its end
-pub sets-keep-their-numbers :
-    (t : Tables) → Faithful t → (bs : List (List ℕ)) (o : ℕ) → o < t .counters .objects →
-    (more : List Edit) × (setsFor (arrivals t bs) o ≡ setsFor t o ++ more)
-sets-keep-their-numbers t f bs = arrivals-lead t f bs .1 .sets
