@@ -124,7 +124,15 @@ nothing-lost-in-a-file sites some few rs k n m =
     nothing-lost-between (replayOf sites rs k .after) (replayOf sites rs n .after)
     (replay-faithful sites some few rs k) (replay-faithful sites some few rs n) (replay-leads sites some few rs k n m)
 
--- ---- a box that is in dispute stays so
+-- ---- what follows of the versions of an object
 
-pub dispute-stays : {t u : Tables} {o : ℕ} → NothingLost t u o → 1 < versions t o → 1 < versions u o
-dispute-stays n l = omega (arith, n .neverFewer)
+module _ {t u : Tables} {o : ℕ} (n : NothingLost t u o) where
+  -- the later versions that contain two different versions are different
+  pub differ-later :
+      (g h k m : ℕ) → IsVersion t o g → IsVersion t o h → IsVersion u o k → Contains t u o g k → Contains t u o h m →
+      (g ≡ h → ⊥) → k ≡ m → ⊥
+  differ-later g h k m eg eh ek p q d same = d (n .apartByGroup g h k eg eh ek (p .group) (rw same (q .group)))
+
+  -- a box that is in dispute stays so
+  pub dispute-stays : 1 < versions t o → 1 < versions u o
+  dispute-stays l = omega (arith, n .neverFewer)
