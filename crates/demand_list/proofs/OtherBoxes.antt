@@ -3,7 +3,7 @@
 use mathlib.Core.Path.{_≡_, refl, sym, ap, ap₂, subst, _∙_}
 use mathlib.Core.Bool.{Bool, true, false, not, cond}
 use mathlib.Core.List.{List, [], _∷_, _++_, flatMap, List·Memᴰ·not-nil}
-use Prim.Native.Nat.{ℕ, _+_, _<_}
+use Prim.Native.Nat.{ℕ, _+_, _≤_, _<_}
 use native.Mathlib.Omega.{arith}
 use native.Mathlib.Numerals.{add-one}
 use native.Mathlib.Decide.{ℕ-discrete}
@@ -48,7 +48,8 @@ use Rattle.demand_list.proofs.ObjectsInOrder.{numbers, number-below, ob
 
 -- ---- what an edit e about the object own leaves of the tables t, where they are u after it
 
-record Leaves (t u : Tables) (own : ℕ) (e : Edit) : Type 0 where
+pub record Leaves (t u : Tables) (own : ℕ) (e : Edit) : Type 0 where
+  pub objects : t .counters .objects ≤ u .counters .objects
   pub creates : (o : ℕ) → o < t .counters .objects → createOf u o ≡ createOf t o
   pub held : heldBy u ≡ heldBy t ++ (e ∷ [])
   pub none :
@@ -144,6 +145,7 @@ module _ (t : Tables) (b : List ℕ) (k : Kept t) (a : Accepted t b) where
     create-leaves : Leaves t (withCreate t b) m e
     unfolding withCreate
     create-leaves = record {
+      objects = omega arith;
       creates = create-same;
       held = held-after t b s (k .wide) (a .admitted);
       none = λ o l d. rw (create-not-set e c);
@@ -183,6 +185,7 @@ module _ (t : Tables) (b : List ℕ) (k : Kept t) (a : Accepted t b) where
     set-leaves : Leaves t (withSet t b) x e
     unfolding withSet
     set-leaves = record {
+      objects = omega arith;
       creates = set-same;
       held = held-after t b s (k .wide) (a .admitted);
       none = λ o l d. not-on t b s a c (k .wide) o l d;
@@ -200,7 +203,7 @@ module _ (t : Tables) (k : Kept t) (b : List ℕ) (h : acceptanceOf t b .answer 
   abbrev t′ : Tables
   t′ = acceptanceOf t b .after
 
-  leaves : Leaves t t′ (ownOf t b) (decodeOf b)
+  pub leaves : Leaves t t′ (ownOf t b) (decodeOf b)
   leaves =
       let (z, q) = was-taken t t′ b (ap (λ (n : ℕ). outcomeOf n t′) (sym h)) in
       subst (λ (u : Tables). Leaves t u (ownOf t b) (decodeOf b)) (sym q) (go (accepted t b z))

@@ -1,5 +1,5 @@
-// The causal tests of document 01: before, concurrent, conflict; the values that conflict compares; and the sum by which
-// the total order goes first. Each answers what the definition says for every edit, well formed or not.
+// The causal tests of document 01: before, concurrent, conflict; the values that conflict compares; and the sum by
+// which the total order goes first. Each answers what the definition says for every edit, well formed or not.
 use edit_record::Edit;
 use edit_record::SET;
 use edit_record::SITES;

@@ -1,2 +1,2 @@
 pub mod TrueGroups
-pub mod IdentifiersDiffer
+pub mod DisputesGrow

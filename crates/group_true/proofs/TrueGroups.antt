@@ -19,7 +19,8 @@ use Rattle.math_maximal.specs.Groups.{bit, every, groups}
 use Rattle.math_maximal.specs.Step.{step}
 use Rattle.math_maximal.specs.GroupsByArrival.{rel, groupsOf}
 use Rattle.math_maximal.proofs.Groups.{no-elements}
-use Rattle.math_maximal.proofs.GroupsByArrival.{arrives, no-more-first}
+use Rattle.math_maximal.proofs.GroupsByArrival.{arrives}
+use Rattle.math_maximal.proofs.GroupsGrow.{never-fewer-groups}
 use Rattle.edit_history.specs.EditsHeld.{isSetOn, setsOn, conflictsWith}
 use Rattle.edit_history.proofs.ConflictMarks.{conflicts-bit}
 use Rattle.edit_record.specs.RecordBytes.{noEdit}
@@ -92,7 +93,7 @@ unfolding trueGroups setsOn
 groups-grow es c e =
     let f = isSetOn (c .site) (c .seq) in
     rw (filter-snoc f es e)
-    (no-more-first noEdit doConflict conflict-symmetric conflict-irreflexive (filter f es) (cond (f e) (e ∷ []) []))
+    (never-fewer-groups noEdit doConflict conflict-symmetric conflict-irreflexive (filter f es) (cond (f e) (e ∷ []) []))
 
 -- ---- none of its Sets
 

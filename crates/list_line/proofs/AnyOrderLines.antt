@@ -34,7 +34,8 @@ use Rattle.list_version.specs.VersionOrder.{isAhead, versionsOf}
 use Rattle.list_line.specs.Line.{versionLine, objectLines}
 use Rattle.list_version.proofs.ListsCompared.{Before, lex-told, before-through, lex-irreflexive}
 use Rattle.list_version.proofs.VersionsSorted.{same-versions, versions-sorted}
-use Rattle.list_version.proofs.NeverShared.{NamesDiffer, never-shared, names-apart}
+use Rattle.list_version.proofs.IdentifiersGrow.{NamesDiffer}
+use Rattle.list_version.proofs.NeverShared.{never-shared, names-apart}
 use Rattle.list_line.proofs.LineFromMembers.{namesFrom, lineFrom, identifier-from, line-from, names-any-order}
 use Rattle.list_line.proofs.LineFromMembers.{line-any-order, members-chosen}
 

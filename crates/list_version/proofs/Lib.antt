@@ -5,6 +5,7 @@ pub mod ValuesByStamps
 pub mod IdentifiersByTags
 pub mod IdentifierRows
 pub mod Names
+pub mod IdentifiersGrow
 pub mod NeverShared
 pub mod ListsCompared
 pub mod VersionsSorted

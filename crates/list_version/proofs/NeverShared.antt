@@ -1,91 +1,43 @@
--- The identifier as printed has the names of the members that `disputedOf` gives by their places; in sound tables the
--- Sets of an object have different names, so two versions of true tables never share an identifier. Assumes nothing.
-use mathlib.Core.Path.{_≡_, refl, sym, ap, _∙_}
+-- In sound tables the Sets of an object have different names, so that two versions of true tables never share an
+-- identifier. Assumes nothing.
+use mathlib.Core.Path.{_≡_}
 use mathlib.Core.Logic.{inl, inr}
-use mathlib.Core.Bool.{true, _&&_}
-use mathlib.Core.List.{List, map, map-map, List·Memᴰ·not-nil, List·Memᴰ·append-cases, List·Memᴰ·eq-of-singleton}
+use mathlib.Core.Bool.{true}
+use mathlib.Core.List.{List, [], _++_, append-nil}
+use mathlib.Core.List.{List·Memᴰ·not-nil, List·Memᴰ·append-cases, List·Memᴰ·eq-of-singleton}
 use Prim.Native.Nat.{ℕ, zero, suc, _<_}
 use native.Mathlib.Omega.{arith}
-use borrow.Author.Tests.{eqb-true, eq-eqb}
-use lib.Dec.{eqb}
-use lib.ListN.{length, getD}
-use Rattle.math_lists.specs.SortedLists.{elem, filter, Asc, Ascending, ascending}
+use lib.ListN.{getD}
+use Rattle.math_lists.specs.SortedLists.{elem, filter, Asc}
 use Rattle.math_lists.proofs.Booleans.{off}
-use Rattle.math_lists.proofs.NumbersBelow.{keep-at}
-use Rattle.math_lists.proofs.Elements.{any-map, any-on, any-at}
-use Rattle.math_lists.proofs.SortedLists.{ascending-unique, keep-ascending, any-ascending}
 use Rattle.edit_record.specs.declared.Edit.{Edit}
 use Rattle.edit_causal.specs.Causal.{sameEdit}
 use Rattle.edit_causal.specs.Conflict.{doConflict}
 use Rattle.edit_history.specs.EditsHeld.{recordAt, editsOf, isSetOn, setsOn}
 use Rattle.edit_history.proofs.EditsHeld.{count-few}
 use Rattle.edit_history.proofs.RecordsPassed.{next-at, one-place}
-use Rattle.math_maximal.specs.Groups.{bit}
 use Rattle.math_maximal.specs.GroupsByArrival.{groupsOf}
 use Rattle.table_drawing.specs.Tables.{Tables, heldBy}
 use Rattle.table_soundness.proofs.SoundFacts.{Sound}
 use Rattle.edit_record.specs.RecordBytes.{noEdit}
 use Rattle.group_true.specs.TrueGroups.{trueGroups}
-use Rattle.group_true.specs.Disputed.{isDisputed, disputedOf}
-use Rattle.group_true.proofs.IdentifiersDiffer.{identifiers-differ}
 use Rattle.demand_any_order.specs.Rearranged.{Mem}
 use Rattle.demand_any_order.specs.Settled.{Differ, Apart}
 use Rattle.demand_any_order.proofs.ListMembers.{chosen-at, mem-place}
 use Rattle.demand_any_order.proofs.PairsInList.{pairs-snoc}
 use Rattle.demand_any_order.proofs.Identities.{same-on, same-at, one-edit, sets-distinct}
-use Rattle.list_version.specs.Identifier.{seqNumbers, nameOf, identifierOf}
-use Rattle.list_version.specs.Members.{membersOf}
-use Rattle.list_version.proofs.MembersByTest.{filter-keep}
-
--- ---- by places
-
-identifier-places :
-    (ms : List Edit) (g : ℕ) →
-    identifierOf ms g ≡ ascending (map (λ i. nameOf (getD ms i noEdit)) (disputedOf ms g))
-unfolding identifierOf membersOf disputedOf
-identifier-places ms g =
-    let at : ℕ → Edit = λ i. getD ms i noEdit in
-    ap (λ (l : List Edit). ascending (map nameOf l)) (filter-keep (isDisputed ms) at (bit g) (length ms))
-    ∙ ap ascending (map-map nameOf at (disputedOf ms g))
-
--- different Sets have different names
-abbrev pub NamesDiffer : List Edit → Type 0
-NamesDiffer ms =
-    (i j : ℕ) → i < length ms → j < length ms → nameOf (getD ms i noEdit) ≡ nameOf (getD ms j noEdit) → i ≡ j
+use Rattle.list_version.specs.Identifier.{seqNumbers, identifierOf}
+use Rattle.list_version.proofs.IdentifiersGrow.{NamesDiffer, identifiers-never-in-one}
 
 module _ (ms : List Edit) (differ : NamesDiffer ms) where
-  abbrev name : ℕ → ℕ
-  name i = nameOf (getD ms i noEdit)
-
-  low : (g i : ℕ) → elem i (disputedOf ms g) ≡ true → i < length ms
-  unfolding disputedOf
-  low g i h = keep-at (length ms) (λ j. bit g j && isDisputed ms (getD ms j noEdit)) i h .0
-
-  rising : (g : ℕ) → Ascending (disputedOf ms g)
-  unfolding disputedOf
-  rising g = keep-ascending (length ms) (λ j. bit g j && isDisputed ms (getD ms j noEdit))
-
-  over :
-      (g h : ℕ) → identifierOf ms g ≡ identifierOf ms h → (i : ℕ) → elem i (disputedOf ms g) ≡ true →
-      elem i (disputedOf ms h) ≡ true
-  over g h same i e =
-      let into : elem (name i) (ascending (map name (disputedOf ms g))) ≡ true
-      = any-ascending (eqb (name i)) (map name (disputedOf ms g)) ∙ any-map (eqb (name i)) name (disputedOf ms g)
-      ∙ any-on (λ j. eqb (name i) (name j)) (disputedOf ms g) i e (eq-eqb (name i) (name i) refl) in
-      let there : elem (name i) (ascending (map name (disputedOf ms h))) ≡ true
-      = ap (elem (name i)) (sym (identifier-places ms h) ∙ sym same ∙ identifier-places ms g) ∙ into in
-      let (j, m, q) = any-at (λ j. eqb (name i) (name j)) (disputedOf ms h)
-      (sym (any-map (eqb (name i)) name (disputedOf ms h))
-      ∙ sym (any-ascending (eqb (name i)) (map name (disputedOf ms h))) ∙ there) in
-      let one : i ≡ j = differ i j (low g i e) (low h j m) (eqb-true (name i) (name j) q) in
-      rw one m
-
+  -- else both would be found in one, with no Set more
   pub never-shared :
       (g h : ℕ) → elem g (groupsOf noEdit doConflict ms) ≡ true → elem h (groupsOf noEdit doConflict ms) ≡ true →
       identifierOf ms g ≡ identifierOf ms h → g ≡ h
   never-shared g h eg eh same =
-      identifiers-differ ms g h eg eh
-      (ascending-unique (disputedOf ms g) (disputedOf ms h) (rising g) (rising h) (over g h same) (over h g (sym same)))
+      let whole : ms ++ [] ≡ ms = append-nil ms in
+      identifiers-never-in-one ms [] (rw whole differ) g h h eg eh (rw whole eh)
+      (λ x e. rw (whole, ← same) e) (λ x e. rw whole e)
 
 -- where no identity stands twice and every sequence number fits two bytes, the Sets of an object have different names
 pub names-apart :
@@ -159,12 +111,13 @@ module _ (t : Tables) (s : Sound t) where
       let (e, f) = same-at a b h in
       omega (arith, one-place sites rs n (s .pass) p q (omega arith) m e f)))
 
+  pub held-names-differ : (c : Edit) → NamesDiffer (setsOn (c .site) (c .seq) (heldBy t))
+  held-names-differ = names-apart (heldBy t) held-apart held-numbered
+
 pub versions-never-share :
     (t : Tables) → Sound t → (c : Edit) (g h : ℕ) → elem g (trueGroups (heldBy t) c) ≡ true →
     elem h (trueGroups (heldBy t) c) ≡ true →
     identifierOf (setsOn (c .site) (c .seq) (heldBy t)) g ≡ identifierOf (setsOn (c .site) (c .seq) (heldBy t)) h →
     g ≡ h
 unfolding trueGroups
-versions-never-share t s c g h =
-    let differ = names-apart (heldBy t) (held-apart t s) (held-numbered t s) c in
-    never-shared (setsOn (c .site) (c .seq) (heldBy t)) differ g h
+versions-never-share t s c g h = never-shared (setsOn (c .site) (c .seq) (heldBy t)) (held-names-differ t s c) g h

@@ -37,28 +37,28 @@ module _ {E : Type 0} (eq : E → E → Bool) where
 abbrev pub Distinct : {E : Type 0} → E → List E → Type 0
 Distinct d xs = (i j : ℕ) → i < length xs → j < length xs → getD xs i d ≡ getD xs j d → i ≡ j
 
--- ---- one more arrives
+-- ---- more arrive
+
+-- the groups of those that came first, among all: they keep their numbers
+pub earlier-groups :
+    {E : Type 0} (d : E) (conf : E → E → Bool) (xs more : List E) →
+    groupsOf d conf xs ≡ groups (rel d conf (xs ++ more)) (length xs) every
+unfolding rel groupsOf
+earlier-groups {E} d conf xs more =
+    let ys = xs ++ more in
+    let old : (i : ℕ) → i ∈ below (length xs) every → getD ys i d ≡ getD xs i d
+    = λ i p. List·getD-append xs more d i (below-at (length xs) every i p .0) in
+    groups-agree (rel d conf xs) (rel d conf ys) (length xs) every (λ i j p q. rw (old i p, old j q))
 
 module _ {E : Type 0} (d : E) (conf : E → E → Bool)
     (sm : (x y : E) → conf x y ≡ conf y x) (irr : (x : E) → conf x x ≡ false) where
-  rel-sym : (xs : List E) (i j : ℕ) → rel d conf xs i j ≡ rel d conf xs j i
+  pub rel-sym : (xs : List E) (i j : ℕ) → rel d conf xs i j ≡ rel d conf xs j i
   unfolding rel
   rel-sym xs i j = sm (getD xs i d) (getD xs j d)
 
-  rel-irr : (xs : List E) (i : ℕ) → rel d conf xs i i ≡ false
+  pub rel-irr : (xs : List E) (i : ℕ) → rel d conf xs i i ≡ false
   unfolding rel
   rel-irr xs i = irr (getD xs i d)
-
-  -- those that come later leave the groups of those that came first
-  first-alone :
-      (xs ys : List E) →
-      groups (rel d conf xs) (length xs) every ≡ groups (rel d conf (xs ++ ys)) (length xs) every
-  unfolding rel
-  first-alone xs ys =
-      let n = length xs in
-      let old : (i : ℕ) → i < n → getD (xs ++ ys) i d ≡ getD xs i d = λ i l. List·getD-append xs ys d i l in
-      groups-agree (rel d conf xs) (rel d conf (xs ++ ys)) n every
-      (λ i j p q. rw (old i (below-at n every i p .0), old j (below-at n every j q .0)))
 
   -- the bits of m are the elements that conflict with x
   pub arrives :
@@ -69,20 +69,9 @@ module _ {E : Type 0} (d : E) (conf : E → E → Bool)
       let ys = xs ++ (x ∷ []) in
       let k = length xs in
       let l : length ys ≡ suc k = omega (arith, length-append xs (x ∷ [])) in
-      rw (first-alone xs (x ∷ []), l)
+      rw (earlier-groups d conf xs (x ∷ []), l)
       (step-keeps-maximal (rel d conf ys) (rel-sym ys) (rel-irr ys) k m
       (λ i p. mask i p ∙ rw (getD-append-seam xs x [] d, List·getD-append xs (x ∷ []) d i p)))
-
-  -- those that came first have no more groups
-  pub no-more-first : (xs ys : List E) → length (groupsOf d conf xs) ≤ length (groupsOf d conf (xs ++ ys))
-  unfolding groupsOf
-  no-more-first xs ys =
-      let n = length xs in
-      let m = length (xs ++ ys) in
-      let c = rel d conf (xs ++ ys) in
-      rw (first-alone xs ys)
-      (no-more-groups c n m every every (rel-sym (xs ++ ys)) (rel-irr (xs ++ ys))
-      (λ i h. below-on m every i (omega (arith, below-at n every i h .0, length-append xs ys)) refl))
 
 -- ---- the number of an element
 

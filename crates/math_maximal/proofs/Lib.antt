@@ -7,3 +7,4 @@ pub mod StepKeepsMaximal
 pub mod MoreElements
 pub mod Renumbered
 pub mod GroupsByArrival
+pub mod GroupsGrow

@@ -1,27 +1,25 @@
 -- More elements never lose a group: each group lies in a group of the larger set, which gives it back, and so the
--- groups never become fewer; this assumes that the relation is symmetric and irreflexive. Last, what tells two groups
--- apart; this assumes nothing of it.
-use mathlib.Core.Path.{_≡_, sym, _∙_}
-use mathlib.Core.Logic.{inl, inr}
+-- groups never become fewer; and two groups never lie in one. Assumes that the relation is symmetric and, but for the
+-- last law, irreflexive.
+use mathlib.Core.Path.{_≡_, _∙_}
 use mathlib.Core.Bool.{Bool, true, false, _&&_}
 use Prim.Native.Nat.{ℕ, _≤_}
 use lib.ListN.{length}
 use Rattle.math_lists.specs.SortedLists.{elem}
-use Rattle.math_lists.proofs.Booleans.{both, and-on}
-use Rattle.math_lists.proofs.NumbersBelow.{find}
+use Rattle.math_lists.proofs.Booleans.{clash, off, both, and-on}
 use Rattle.math_lists.proofs.SortedLists.{not-longer}
 use Rattle.math_maximal.specs.MaximalSets.{_∈_, _⊆_, Free}
 use Rattle.math_maximal.specs.Groups.{bit, below, groups}
 use Rattle.math_maximal.proofs.MaximalSets.{same-set, top, within-maximal}
 use Rattle.math_maximal.proofs.Bits.{pack, pack-below, packed, same-bits}
-use Rattle.math_maximal.proofs.Groups.{below-at, below-on, groups-at, has-number, groups-ascending}
+use Rattle.math_maximal.proofs.Groups.{below-at, groups-at, has-number, groups-ascending}
 
 -- ---- S below n is part of U below m
 
 module _ (c : ℕ → ℕ → Bool) (n m : ℕ) (S U : ℕ → Bool) (sm : (i j : ℕ) → c i j ≡ c j i)
     (irr : (i : ℕ) → c i i ≡ false) (sub : below n S ⊆ below m U) where
   -- each group lies in one of the larger set
-  kept : (g : ℕ) → elem g (groups c n S) ≡ true → (h : ℕ) × (elem h (groups c m U) ≡ true) × (bit g ⊆ bit h)
+  pub kept : (g : ℕ) → elem g (groups c n S) ≡ true → (h : ℕ) × (elem h (groups c m U) ≡ true) × (bit g ⊆ bit h)
   kept g e =
       let w = groups-at c n S g e .1 in
       let inside : bit g ⊆ below m U = λ i b. sub i (w .isFree .within i b) in
@@ -52,28 +50,26 @@ module _ (c : ℕ → ℕ → Bool) (n m : ℕ) (S U : ℕ → Bool) (sm : (i j 
       not-longer cut (groups c n S) (groups c m U) (groups-ascending c n S)
       (λ g e. let (h, f, s) = kept g e in (h, f, cut-back g h e f s))
 
--- ---- what tells two groups apart
+-- ---- two groups are never found in one
 
--- groups that agree on every element that conflicts with some element are one
-pub told-apart :
-    (c : ℕ → ℕ → Bool) (n : ℕ) (S : ℕ → Bool) (g h : ℕ) →
-    elem g (groups c n S) ≡ true → elem h (groups c n S) ≡ true →
-    ((i j : ℕ) → i ∈ below n S → j ∈ below n S → c i j ≡ true → bit g i ≡ bit h i) → g ≡ h
-told-apart c n S g h e f same =
+-- groups whose members in conflict all lie in one conflict-free set are one
+pub never-in-one :
+    (c : ℕ → ℕ → Bool) → ((i j : ℕ) → c i j ≡ c j i) → (n : ℕ) (S : ℕ → Bool) (g h : ℕ) →
+    elem g (groups c n S) ≡ true → elem h (groups c n S) ≡ true → {U Q : ℕ → Bool} → Free c U Q →
+    ((i j : ℕ) → i ∈ bit g → j ∈ below n S → c i j ≡ true → i ∈ Q) →
+    ((i j : ℕ) → i ∈ bit h → j ∈ below n S → c i j ≡ true → i ∈ Q) → g ≡ h
+never-in-one c sm n S g h e f {Q = Q} free into into′ =
     same-bits n g h (groups-at c n S g e .0) (groups-at c n S h f .0)
-    (same-set (half g h e f same) (half h g f e (λ i j s t r. sym (same i j s t r))))
+    (same-set (half g h e f into into′) (half h g f e into′ into))
   where
     half :
         (g h : ℕ) → elem g (groups c n S) ≡ true → elem h (groups c n S) ≡ true →
-        ((i j : ℕ) → i ∈ below n S → j ∈ below n S → c i j ≡ true → bit g i ≡ bit h i) → bit g ⊆ bit h
-    half g h e f same i b =
+        ((i j : ℕ) → i ∈ bit g → j ∈ below n S → c i j ≡ true → i ∈ Q) →
+        ((i j : ℕ) → i ∈ bit h → j ∈ below n S → c i j ≡ true → i ∈ Q) → bit g ⊆ bit h
+    half g h e f into into′ i b =
         let p = groups-at c n S g e .1 in
         let q = groups-at c n S h f .1 in
         let s = p .isFree .within i b in
-        elim (find n (λ j. S j && c i j)) [
-          | inl w ↦
-              (let (j, l, r) = w in
-              let (t, z) = both (S j) (c i j) r in
-              sym (same i j s (below-on n S j l t) z) ∙ b)
-          | inr a ↦ q .full i s (λ j x. let (l, t) = below-at n S j (q .isFree .within j x) in rw t at (a j l))
-        ]
+        q .full i s (λ j x. off (c i j) (λ r.
+        let t = q .isFree .within j x in
+        clash r (free .free i (into i j b t r) j (into′ j i x s (sm j i ∙ r)))))

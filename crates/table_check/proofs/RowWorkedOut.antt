@@ -24,7 +24,7 @@ use Rattle.math_maximal.specs.Groups.{every}
 use Rattle.math_maximal.specs.Step.{step}
 use Rattle.math_maximal.specs.GroupsByArrival.{rel, groupsOf}
 use Rattle.math_maximal.proofs.Groups.{groups-at, groups-ascending, no-elements}
-use Rattle.math_maximal.proofs.GroupsByArrival.{no-more-first}
+use Rattle.math_maximal.proofs.GroupsGrow.{never-fewer-groups}
 use Rattle.group_step.specs.GroupRows.{mostSets, mostGroups, row, settled}
 use Rattle.table_drawing.specs.Tables.{Tables, heldBy, placeAt, groupsAt}
 use Rattle.table_soundness.specs.SoundnessForms.{Targeted}
@@ -132,7 +132,7 @@ module _ (rs ms : List ℕ) where
       let parts : setsIn (i + j) ≡ setsIn i ++ map (recordAt rs) rest
       = rw (take-add i j ms) (map-append (recordAt rs) (take i ms) rest) in
       rw parts
-      (no-more-first noEdit doConflict conflict-symmetric conflict-irreflexive (setsIn i) (map (recordAt rs) rest))
+      (never-fewer-groups noEdit doConflict conflict-symmetric conflict-irreflexive (setsIn i) (map (recordAt rs) rest))
 
   -- once they are many they stay so
   pub in-more : (i k : ℕ) → i ≤ k → length (groupsIn rs ms i) ≤ length (groupsIn rs ms k)
