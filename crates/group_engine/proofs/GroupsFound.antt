@@ -12,7 +12,7 @@ use Rattle.math_lists.specs.NumbersBelow.{keep}
 use Rattle.math_lists.proofs.NumbersBelow.{keep-grow}
 use Rattle.math_lists.proofs.GrownAtEnd.{length-maybe}
 use Rattle.group_step.specs.GroupRows.{mostGroups}
-use Rattle.group_engine.specs.SearchForms.{isGroup, groupsBelow, answer, Found}
+use Rattle.group_engine.specs.SearchForms.{isGroup, groupsBelow, countTold, Found}
 
 -- ---- the numbers that pass, further on
 
@@ -46,7 +46,7 @@ module _ (ms : List ℕ) (n t r : ℕ) (out : List ℕ) (h : Found ms n t r out)
     unfolding keep
     more = rw (add-one t, g)
 
-    count-more : r + 1 ≡ answer (groupsBelow ms n (t + 1))
+    count-more : r + 1 ≡ countTold (groupsBelow ms n (t + 1))
     count-more =
         rw more
         (omega (arith, h .count, length-maybe (groupsBelow ms n t) true t))

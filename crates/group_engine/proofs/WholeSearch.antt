@@ -9,7 +9,7 @@ use borrow.Author.Tests.{lt-ltb, le-ltb}
 use Rattle.math_lists.specs.NumbersBelow.{keep}
 use Rattle.math_maximal.specs.Groups.{groups}
 use Rattle.group_step.specs.GroupRows.{mostGroups, settled}
-use Rattle.group_engine.specs.SearchForms.{byMasks, groupsBelow, answer, Partial, Found}
+use Rattle.group_engine.specs.SearchForms.{byMasks, groupsBelow, countTold, Partial, Found}
 use Rattle.group_engine.proofs.PartlyDecided.{at-start}
 
 module _ (ms : List ℕ) (n : ℕ) where
@@ -25,8 +25,8 @@ module _ (ms : List ℕ) (n : ℕ) where
   all-found = let e : 0 + 2 ^ n ≡ 2 ^ n = omega arith in rw e
 
   module _ (r : ℕ) (out : List ℕ) (f : Found ms n (0 + 2 ^ n) r out) where
-    pub told : r ≡ answer (byMasks ms n)
-    told = f .count ∙ ap answer all-found
+    pub told : r ≡ countTold (byMasks ms n)
+    told = f .count ∙ ap countTold all-found
 
     pub unchanged : (before : List ℕ) → mostGroups < r → before ≡ settled (byMasks ms n) before
     unfolding settled

@@ -27,8 +27,8 @@ pub record Conflicts (ms : List ℕ) (n : ℕ) : Type 0 where
   pub notItself : (i : ℕ) → i < n → conflict ms i i ≡ false
 
 -- how many groups there are, told as far as one more than a row holds
-abbrev pub answer : List ℕ → ℕ
-answer l = min (suc mostGroups) (length l)
+abbrev pub countTold : List ℕ → ℕ
+countTold l = min (suc mostGroups) (length l)
 
 -- g is a group of the n first Sets; the groups below x
 abbrev pub isGroup : List ℕ → ℕ → ℕ → Bool
@@ -52,5 +52,5 @@ pub record Partial (ms : List ℕ) (n u taken may : ℕ) : Type 0 where
 
 -- the groups below x have been found: r is how many, and they stand at the front of out unless they are too many
 pub record Found (ms : List ℕ) (n x r : ℕ) (out : List ℕ) : Type 0 where
-  pub count : r ≡ answer (groupsBelow ms n x)
+  pub count : r ≡ countTold (groupsBelow ms n x)
   pub front : r ≤ mostGroups → take r out ≡ groupsBelow ms n x

@@ -1,13 +1,14 @@
 // The second engine: the groups of an object worked out with no arrival order, from the conflicts of its Sets alone.
 // The Sets are decided one after another, the last first, each left out before it is taken in, so that the groups come
 // in ascending order. `conflicts` has a number for each Set, whose bits are the Sets that it conflicts with.
+use group_step::GROUPS;
 ghost use mathlib.Core.Path.{_≡_};
 ghost use Prim.Native.Nat.{_+_, _-_, _^_, _≤_, _<_};
 ghost use lib.ListN.{length};
 ghost use lib.Bits.{bitAnd};
 ghost use Rattle.math_maximal.specs.Groups.{bit};
 ghost use Rattle.group_step.specs.GroupRows.{mostGroups, mostSets, settled};
-ghost use Rattle.group_engine.specs.SearchForms.{Conflicts, byMasks, lost, Partial, Found, answer};
+ghost use Rattle.group_engine.specs.SearchForms.{Conflicts, byMasks, lost, Partial, Found, countTold};
 
 // Whether Set i is a member of g.
 fn has(g: u64, i: usize) -> bool
@@ -69,14 +70,14 @@ fn decide_rest(
         × Found (now conflicts) n taken found (now out) ⌝ }
     ensures { λ r. ⌜ Found (now (conflicts .entry)) n (taken + 2 ^ undecided) r (now (out .exit)) ⌝ }
 {
-    if group_step::GROUPS < found {
+    if GROUPS < found {
         return found;
     }
     if is_lost(conflicts, n, undecided, taken, taken | may) {
         return found;
     }
     if undecided == 0 {
-        if found < group_step::GROUPS {
+        if found < GROUPS {
             out[found] = taken;
         }
         return found + 1;
@@ -106,12 +107,12 @@ pub fn enumerate(conflicts: &[u64], n: usize, out: &mut [u64]) -> usize
         × (length (now out) ≡ mostGroups)
         × Conflicts (now conflicts) n ⌝ }
     ensures { λ r.
-        ⌜ (r ≡ answer (byMasks (now (conflicts .entry)) n))
+        ⌜ (r ≡ countTold (byMasks (now (conflicts .entry)) n))
         × (now (out .exit) ≡ settled (byMasks (now (conflicts .entry)) n) (now (out .entry))) ⌝ }
 {
-    let mut row = [0u64; group_step::GROUPS];
+    let mut row = [0u64; GROUPS];
     let r = decide_rest(conflicts, n, n, 0, only(n) - 1, 0, &mut row);
-    if group_step::GROUPS < r {
+    if GROUPS < r {
         return r;
     }
     group_step::store(out, &row, r);
