@@ -1,1 +1,2 @@
 pub mod MasksOfSets
+pub mod EnumerationOutcomes

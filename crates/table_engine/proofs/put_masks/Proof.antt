@@ -1,6 +1,6 @@
 -- `table_engine::put_masks` meets its contract: after i Sets, their masks stand in front. Assumes nothing.
-use mathlib.Core.Path.{_≡_}
-use Prim.Native.Nat.{_-_, _≤_}
+use mathlib.Core.Path.{_≡_, subst}
+use Prim.Native.Nat.{ℕ, _-_, _≤_}
 use native.Mathlib.Omega.{arith}
 use lib.ListN.{length, length-set}
 use denote.Ref.{now}
@@ -48,7 +48,16 @@ loop-less : tie.Need-loop-less Inv-loop μ-loop
 loop-less c = search needs
 
 loop-again : tie.Need-loop-again Inv-loop μ-loop
-loop-again c = ?
+loop-again c =
+    let l = c .before .before .before .before .loop in
+    let a = c .before .before .before .before .before .before .before .before .args in
+    let e = c .before .decode-at in
+    let m = c .conflicts-in in (
+      omega arith,
+      simp length-set (l .inv .1),
+      masked-more (now (a .recs)) (now (a .places)) (a .k) (omega arith) (l .masks) (l .i) (m .result) (e .result)
+          (l .inv .2) (omega arith) (omega arith) (e .ensures) (m .ensures),
+    )
 
 same-length : tie.Need-same-length Inv-loop μ-loop
 same-length c = search needs
@@ -56,8 +65,9 @@ same-length c = search needs
 returns : tie.Need-returns Inv-loop μ-loop
 returns c =
     let l = c .before .loop in
-    let k : l .i ≡ c .before .before .before .before .args .k = omega arith in
-    ?
+    let a = c .before .before .before .before .before .args in
+    let k : l .i ≡ a .k = omega arith in
+    subst (λ (i : ℕ). MaskedTo i (setsIn (now (a .recs)) (now (a .places)) (a .k)) (l .masks)) k (l .inv .2)
 
 pub put-masks-spec : {M : Type 1} → statement M
 put-masks-spec =
