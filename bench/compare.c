@@ -251,9 +251,9 @@ static void compare_drawing(unsigned sites, unsigned arrivals) {
     must_same(&d, &e, "a drawing and its block");
 }
 
-void compare_boxes(const struct drawing *d, unsigned answer) {
+void compare_box(const struct drawing *d, unsigned answer) {
     compare_views(d);
-    must(compare_groups(d, 0, 1, SPIRESLATE_ROW) == (int)answer, "the groups of a box are refused otherwise");
+    must(compare_groups(d, 0, 1, SPIRESLATE_ROW) == (int)answer, "the answer for a box of the benchmark");
 }
 
 void compare_objects(void) {

@@ -26,11 +26,11 @@ static void find_conflicts(struct search *s, const struct index *x, unsigned o) 
     }
 }
 
-/* Decides the first Sets, so many, where the members of `taken` are in, and of the undecided those in `may` fit all that
-   is in. A Set left out needs one that conflicts with it and is in or may come in. */
+/* Decides the first Sets, so many, where the members of `taken` are in, and of the undecided those in `may` fit all
+   that is in. A Set left out needs one that conflicts with it and is in or may come in. */
 static void decide(struct search *s, unsigned undecided, uint64_t taken, uint64_t may) {
     if (s->found > GROUPS) return;
-    uint64_t out = (UINT64_C(1) << s->n) - (UINT64_C(1) << undecided) & ~taken, reach = taken | may;
+    uint64_t decided = (UINT64_C(1) << s->n) - (UINT64_C(1) << undecided), out = decided & ~taken, reach = taken | may;
     for (; out != 0; out &= out - 1)
         if ((s->conflicts[__builtin_ctzll(out)] & reach) == 0) return;
     if (undecided == 0) {
