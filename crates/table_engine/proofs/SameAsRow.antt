@@ -1,17 +1,17 @@
 -- What the enumeration gives is what the arriving step left: in true tables, for a box of at most 20 Sets, it is done, and
 -- its count and its output are the box's own count and row of groups, entry for entry; so 7 is not given there. In any
 -- tables, where it is done it gives the groups of the definition. Assumes nothing.
-use mathlib.Core.Path.{_≡_, refl, sym, ap, ap₂, subst, _∙_}
+use mathlib.Core.Path.{_≡_, refl, sym, ap, ap₂, _∙_}
 use mathlib.Core.Logic.{inl, inr}
 use mathlib.Core.Bool.{Bool, true, false, not, cond}
 use mathlib.Core.List.{List, _++_}
 use Prim.Native.Nat.{ℕ, _+_, _-_, _*_, _≤_, _<_}
 use native.Mathlib.Omega.{arith}
 use native.Mathlib.Decide.{decLt}
-use lib.ListN.{length, getD, take, drop, replicate, length-drop, length-replicate, take-append-drop}
+use lib.ListN.{length, take, drop, replicate, length-drop, length-replicate, take-append-drop}
 use lib.Seq.{ext-getD, getD-take, getD-drop, length-take-le}
 use lib.Dec.{eqb, ltb}
-use borrow.Author.Tests.{eq-eqb, le-ltb, lt-ltb}
+use borrow.Author.Tests.{le-ltb}
 use Rattle.math_lists.proofs.Booleans.{decide, both, and-on}
 use Rattle.math_lists.proofs.ByPlaces.{zero-anywhere}
 use Rattle.edit_record.specs.declared.Site.{Site}
@@ -33,7 +33,7 @@ use Rattle.table_arrival.specs.Answers6and7.{rowOf}
 use Rattle.table_arrival.proofs.ObjectsByNumber.{object-at-place}
 use Rattle.table_arrival.proofs.Faithful.{Faithful}
 use Rattle.table_engine.specs.Enumeration.{mostDecided, Enumeration, enumeration, enumerationIn, enumerationOf}
-use Rattle.table_engine.proofs.EnumerationOutcomes.{no-create, too-many-sets, wrong-length, right-length}
+use Rattle.table_engine.proofs.EnumerationOutcomes.{no-create, too-many-sets, right-length}
 
 module _ (t : Tables) (s : Sound t) where
   abbrev rs : List ℕ
@@ -48,7 +48,7 @@ module _ (t : Tables) (s : Sound t) where
 
   -- ---- the Creates held are those of the objects
 
-  pub create-held : (o : ℕ) → o < t .counters .objects → isHeld (heldBy t) (createIn o .site) (createIn o .seq) ≡ true
+  create-held : (o : ℕ) → o < t .counters .objects → isHeld (heldBy t) (createIn o .site) (createIn o .seq) ≡ true
   unfolding isHeld
   create-held o l =
       let x = s .object o l .entry in
@@ -57,7 +57,7 @@ module _ (t : Tables) (s : Sound t) where
       (and-on (isCreate c) (sameEdit (c .site) (c .seq) (c .site) (c .seq)) (x .create)
       (same-reflexive (c .site) (c .seq)))
 
-  pub held-object :
+  held-object :
       (x : Site) (y : Seq) → isHeld (heldBy t) x y ≡ true →
       (o : ℕ) × (o < t .counters .objects) × (createIn o .site ≡ x) × (createIn o .seq ≡ y)
   unfolding isHeld
@@ -87,10 +87,10 @@ module _ (t : Tables) (s : Sound t) where
         length-take-le mostGroups (drop (o * mostGroups) (t .groups))
         (omega (arith, length-drop (o * mostGroups) (t .groups), s .groups-long, s .few-objects))
 
-    pub used-many : length (rowOf t o) ≡ g
+    used-many : length (rowOf t o) ≡ g
     used-many = length-take-le g its (omega (arith, its-long, s .object o l .row .few))
 
-    pub row-filled : rowOf t o ++ replicate (mostGroups - g) 0 ≡ its
+    row-filled : rowOf t o ++ replicate (mostGroups - g) 0 ≡ its
     row-filled =
         ap (λ (z : List ℕ). take g its ++ z)
         (ext-getD 0 (replicate (mostGroups - g) 0) (drop g its)

@@ -1,6 +1,6 @@
 -- `table_engine::enumerate_groups` meets its contract: sound tables have no more Sets on a Create than an object may have.
 -- Assumes nothing.
-use mathlib.Core.Path.{_≡_, sym, _∙_}
+use mathlib.Core.Path.{sym, _∙_}
 use native.Mathlib.Omega.{arith}
 use denote.Ref.{now}
 use borrow.Author.Tests.{not-true, not-false}

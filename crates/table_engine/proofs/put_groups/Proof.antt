@@ -1,6 +1,6 @@
 -- `table_engine::put_groups` meets its contract: the masks are those of the Sets, so that the search gives their groups.
 -- Assumes nothing.
-use mathlib.Core.Path.{_≡_, ap, _∙_}
+use mathlib.Core.Path.{ap, _∙_}
 use mathlib.Core.List.{List}
 use Prim.Native.Nat.{ℕ}
 use native.Mathlib.Omega.{arith}
