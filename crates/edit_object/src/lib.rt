@@ -1,5 +1,5 @@
-// One object among the records, looked for by the name of its Create: whether the Create is held, and where the object's
-// Sets stand.
+// One object among the records, looked for by the name of its Create: whether the Create is held, and where the
+// object's Sets stand.
 use edit_causal::is_same;
 use edit_record::AT_KIND;
 use edit_record::AT_SEQ;

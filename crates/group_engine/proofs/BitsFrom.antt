@@ -1,5 +1,5 @@
--- Numbers as sets: one bit more, the bits of the largest number of a width, and the numbers that agree with another from
--- a bit on. Assumes nothing.
+-- Numbers as sets: one bit more, the bits of the largest number of a width, and the numbers that agree with another
+-- from a bit on. Assumes nothing.
 use mathlib.Core.Path.{_≡_, sym, ap, _∙_}
 use mathlib.Core.Logic.{inl, inr}
 use mathlib.Core.Bool.{false, _||_, or-false}

@@ -1,7 +1,7 @@
 -- Forms that the code uses. ms are the masks of conflicts: number i of ms has the bits of the Sets that conflict with
--- Set i. The groups by masks are those of `Groups` for the relation that the masks tell; laws in proofs/ tie them to the
--- groups of an object. Then what the search knows on its way, with the u first Sets undecided. No one need believe it.
--- Assumes nothing.
+-- Set i. The groups by masks are those of `Groups` for the relation that the masks tell; laws in proofs/ tie them to
+-- the groups of an object. Then what the search knows on its way, with the u first Sets undecided. No one need believe
+-- it. Assumes nothing.
 use mathlib.Core.Path.{_≡_}
 use mathlib.Core.Bool.{Bool, true, false, not, _&&_}
 use mathlib.Core.List.{List}

@@ -1,6 +1,6 @@
--- What the enumeration gives is what the arriving step left: in true tables, for a box of at most 20 Sets, it is done, and
--- its count and its output are the box's own count and row of groups, entry for entry; so 7 is not given there. In any
--- tables, where it is done it gives the groups of the definition. Assumes nothing.
+-- What the enumeration gives is what the arriving step left: in true tables, for a box of at most 20 Sets, it is done,
+-- and its count and its output are the box's own count and row of groups, entry for entry; so 7 is not given there. In
+-- any tables, where it is done it gives the groups of the definition. Assumes nothing.
 use mathlib.Core.Path.{_≡_, refl, sym, ap, ap₂, _∙_}
 use mathlib.Core.Logic.{inl, inr}
 use mathlib.Core.Bool.{Bool, true, false, not, cond}

@@ -88,8 +88,8 @@ fn enumerate_held(recs: &[u8], n: usize, s: Site, q: Seq, out: &mut [u64]) -> En
     }
 }
 
-// The groups of the box whose Create is the one named, ascending, with zeros after; refused, out stays as it was: 8, then
-// 11 unless out is 32 numbers, 5 when no such Create is held, 18 above 20 Sets, 7 when more than 32 groups exist.
+// The groups of the box whose Create is the one named, ascending, with zeros after; refused, out stays as it was: 8,
+// then 11 unless out is 32 numbers, 5 when no such Create is held, 18 above 20 Sets, 7 when more than 32 groups exist.
 pub fn enumerate_groups(
     c: Counters,
     records: &[u8],

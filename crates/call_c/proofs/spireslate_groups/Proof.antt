@@ -1,5 +1,5 @@
--- `call_c::spireslate_groups` meets its contract: what `table_engine::enumerate_groups` gives, with the answer's number.
--- Assumes nothing.
+-- `call_c::spireslate_groups` meets its contract: what `table_engine::enumerate_groups` gives, with the answer's
+-- number. Assumes nothing.
 use borrow.Author.Needs.{needs}
 use Rattle.call_c.proofs.spireslate_groups.Statement.{statement}
 use Rattle.call_c.proofs.spireslate_groups.Tie as tie
