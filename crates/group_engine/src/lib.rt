@@ -83,20 +83,15 @@ fn decide_rest(
         return found + 1;
     }
     let k = undecided - 1;
-    let rest = without(may, only(k));
+    let bit = only(k);
+    let rest = without(may, bit);
+    let fit = without(rest, conflicts[k]);
+    let with = taken + bit;
     let next = decide_rest(conflicts, n, k, taken, rest, found, out);
     if !has(may, k) {
         return next;
     }
-    decide_rest(
-        conflicts,
-        n,
-        k,
-        taken + only(k),
-        without(rest, conflicts[k]),
-        next,
-        out,
-    )
+    decide_rest(conflicts, n, k, with, fit, next, out)
 }
 
 // Puts the groups of the n Sets ascending at the front of out, and 0 behind them; says how many they are. Where they

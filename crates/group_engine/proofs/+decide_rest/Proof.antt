@@ -50,28 +50,30 @@ callees t = (
   has-reads.Learnt,
 )
 
--- what is known where the first of the two calls is made
-abbrev First : ℕ → Type 0
-First t = lts.After-decide-rest-arg (callees t) (at t) decide-rest.Post
+-- what is known once the last undecided Set is looked at
+abbrev Looked : ℕ → Type 0
+Looked t = lts.After-without2 (callees t) (at t) decide-rest.Post
 
-abbrev entry : (t : ℕ) → First t → lts.Start (callees t) (at t) decide-rest.Post
-entry t c = c .before .before .before .before .before .before .before .before .before
+abbrev entry : (t : ℕ) → Looked t → lts.Start (callees t) (at t) decide-rest.Post
+entry t c = c .before .before .before .before .before .before .before .before .before .before
 
 deciding :
-    (t : ℕ) (c : First t) →
+    (t : ℕ) (c : Looked t) →
     let a = entry t c .args in
-    Deciding (a .conflicts .now) (a .n) (a .undecided) (a .taken) (a .may) (c .before .before .only .result)
-    (c .before .without .result)
-deciding t c = record {
-  partly = entry t c .pre .1 .5;
-  some-left = c .before .before .before .if3 .left;
-  its-number = c .before .before .only .ensures;
-  the-others = c .before .without .ensures;
-}
+    Deciding (a .conflicts .now) (a .n) (a .undecided) (a .taken) (a .may) (c .before .before .before .only .result)
+    (c .before .before .without .result)
+deciding t c =
+    let past = c .before .before in
+    record {
+      partly = entry t c .pre .1 .5;
+      some-left = past .before .before .if3 .left;
+      its-number = past .before .only .ensures;
+      the-others = past .without .ensures;
+    }
 
 -- the number undecided falls
-less : (t : ℕ) (c : First t) → entry t c .args .undecided - 1 < t
-less t c = let some-left = c .before .before .before .if3 .left in omega (arith, entry t c .pre .0)
+less : (t : ℕ) (c : Looked t) → entry t c .args .undecided - 1 < t
+less t c = let some-left = c .before .before .before .before .if3 .left in omega (arith, entry t c .pre .0)
 
 returns : (t : ℕ) → lts.Need-returns (callees t) (at t) decide-rest.Post
 returns t c =
@@ -124,10 +126,25 @@ only-requires t c κs = search needs
 without-requires : (t : ℕ) → lts.Need-without-requires (callees t) (at t) decide-rest.Post
 without-requires t c κs = search needs
 
+mul-without : (t : ℕ) → lts.Need-mul-without (callees t) (at t) decide-rest.Post
+mul-without t c = search needs
+
+shared-slice-read-without : (t : ℕ) → lts.Need-shared-slice-read-without (callees t) (at t) decide-rest.Post
+shared-slice-read-without t c = search needs
+
+without-requires-2 : (t : ℕ) → lts.Need-without-requires-2 (callees t) (at t) decide-rest.Post
+without-requires-2 t c κs = search needs
+
+add-with : (t : ℕ) → lts.Need-add-with (callees t) (at t) decide-rest.Post
+add-with t c =
+    let number = c .before .before .before .only .ensures in
+    record { fits = in-fits (deciding t c) number (entry t c .pre .1 .0) }
+
 decide-rest-requires : (t : ℕ) → lts.Need-decide-rest-requires (callees t) (at t) decide-rest.Post
 decide-rest-requires t c κs =
-    let p = entry t c .pre .1 in
-    (less t c, (p .0, p .1, p .2, omega arith, p .4, goes-out (deciding t c), p .6))
+    let first = c .before in
+    let p = entry t first .pre .1 in
+    (less t first, (p .0, p .1, p .2, omega arith, p .4, goes-out (deciding t first), p .6))
 
 has-requires : (t : ℕ) → lts.Need-has-requires (callees t) (at t) decide-rest.Post
 has-requires t c κs = search needs
@@ -139,32 +156,15 @@ returns-4 : (t : ℕ) → lts.Need-returns-4 (callees t) (at t) decide-rest.Post
 returns-4 t c =
     let here = c .before .before .before .before in
     let lacks = sym (c .before .has .ensures) ∙ not-true (c .before .has .result) (c .if5 .taken) in
-    out-only (deciding t (here .before)) lacks (here .decide-rest .ensures)
-
-only-requires-2 : (t : ℕ) → lts.Need-only-requires-2 (callees t) (at t) decide-rest.Post
-only-requires-2 t c κs = search needs
-
-add-decide-rest : (t : ℕ) → lts.Need-add-decide-rest (callees t) (at t) decide-rest.Post
-add-decide-rest t c =
-    let first = c .before .before .before .before .before .before in
-    record { fits = in-fits (deciding t first) (c .only2 .ensures) (entry t first .pre .1 .0) }
-
-mul-without : (t : ℕ) → lts.Need-mul-without (callees t) (at t) decide-rest.Post
-mul-without t c = search needs
-
-shared-slice-read-without : (t : ℕ) → lts.Need-shared-slice-read-without (callees t) (at t) decide-rest.Post
-shared-slice-read-without t c = search needs
-
-without-requires-2 : (t : ℕ) → lts.Need-without-requires-2 (callees t) (at t) decide-rest.Post
-without-requires-2 t c κs = search needs
+    out-only (deciding t (here .before .before)) lacks (here .decide-rest .ensures)
 
 decide-rest-requires-2 : (t : ℕ) → lts.Need-decide-rest-requires-2 (callees t) (at t) decide-rest.Post
 decide-rest-requires-2 t c κs =
-    let number = c .before .before .before .only2 .ensures in
-    let room = c .before .before .before .before in
+    let room = c .before in
     let has = room .before .has in
+    let first = room .before .before .before .before .before .before in
     let out = room .before .before .before .before .decide-rest in
-    let first = room .before .before .before .before .before in
+    let number = first .before .before .before .only .ensures in
     let p = entry t first .pre .1 in
     let d = deciding t first in (
       less t first,
@@ -175,7 +175,7 @@ decide-rest-requires-2 t c κs =
         omega arith,
         p .4,
         comes-in d number (p .4) (sym (has .ensures) ∙ not-false (has .result) (room .if5 .left))
-            (c .before .without2 .ensures),
+            (first .without2 .ensures),
         out-first d number (out .ensures),
       ),
     )
@@ -186,8 +186,8 @@ same-length-3 t c = search needs
 returns-5 : (t : ℕ) → lts.Need-returns-5 (callees t) (at t) decide-rest.Post
 returns-5 t c =
     let again = c .before .before in
-    let number = again .before .before .before .before .only2 .ensures in
-    let first = again .before .before .before .before .before .before .before .before .before .before in
+    let first = again .before .before .before .before .before .before .before .before in
+    let number = first .before .before .before .only .ensures in
     then-in (deciding t first) number (again .decide-rest2 .ensures)
 
 pub +decide-rest-spec : {M : Type 1} → statement M
@@ -203,15 +203,14 @@ pub +decide-rest-spec : {M : Type 1} → statement M
     (sub-k t)
     (only-requires t)
     (without-requires t)
+    (mul-without t)
+    (shared-slice-read-without t)
+    (without-requires-2 t)
+    (add-with t)
     (decide-rest-requires t)
     (has-requires t)
     (same-length-2 t)
     (returns-4 t)
-    (only-requires-2 t)
-    (add-decide-rest t)
-    (mul-without t)
-    (shared-slice-read-without t)
-    (without-requires-2 t)
     (decide-rest-requires-2 t)
     (same-length-3 t)
     (returns-5 t)
