@@ -12,8 +12,8 @@ use borrow.Fn.Kinds.{In}
 use borrow.Fn.PlainCycle.{Measures, is, falls, and}
 use Rattle.group_engine.proofs.PartlyDecided.{lost-none}
 use Rattle.group_engine.proofs.GroupsFound.{found-none, found-full}
-use Rattle.group_engine.proofs.NextDecided.{put-last, one-too-many, Deciding, goes-out, out-only, in-fits, comes-in}
-use Rattle.group_engine.proofs.NextDecided.{out-first, then-in}
+use Rattle.group_engine.proofs.NextDecided.{put-last, one-too-many, Deciding, goes-out, out-only, in-fits}
+use Rattle.group_engine.proofs.NextDecided.{comes-in, out-first, then-in}
 use Rattle.group_engine.proofs.decide_rest.Reads as decide-rest
 use Rattle.group_engine.proofs.decide_rest.Kinds as decide-rest-kinds
 use Rattle.group_engine.proofs.+decide_rest.Lts-decide_rest as lts

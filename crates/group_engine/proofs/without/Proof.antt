@@ -1,5 +1,5 @@
--- `group_engine::without` meets its contract: the members of two numbers are no more than those of one. Assumes
--- nothing.
+-- `group_engine::without` meets its contract: the members of two numbers are no more than those of one.
+-- Assumes nothing.
 use borrow.Author.Needs.{needs}
 use lib.Bits.{and-le-l}
 use Rattle.group_engine.proofs.without.Statement.{statement}

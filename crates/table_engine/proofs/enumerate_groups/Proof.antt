@@ -1,5 +1,5 @@
--- `table_engine::enumerate_groups` meets its contract: sound tables have no more Sets on a Create than an object may
--- have. Assumes nothing.
+-- `table_engine::enumerate_groups` meets its contract: in sound tables no Create has more Sets than an object may have.
+-- Assumes nothing.
 use mathlib.Core.Path.{sym, _∙_}
 use native.Mathlib.Omega.{arith}
 use denote.Ref.{now}

@@ -1,5 +1,5 @@
--- `table_engine::put_groups` meets its contract: the masks are those of the Sets, so that the search gives their
--- groups. Assumes nothing.
+-- `table_engine::put_groups` meets its contract: the masks are those of the Sets, so the search gives their groups.
+-- Assumes nothing.
 use mathlib.Core.Path.{ap, _∙_}
 use mathlib.Core.List.{List}
 use Prim.Native.Nat.{ℕ}
