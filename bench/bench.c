@@ -9,7 +9,7 @@
 #include "compare.h"
 #include "inputs.h"
 
-enum { FILES = 3, DRAWINGS = 16, ARRIVALS = 100, ROUNDS = 9, BATCH_MS = 20, GROUPS = 32 };
+enum { FILES = 3, BOXES = 5, DRAWINGS = 16, ARRIVALS = 100, ROUNDS = 9, BATCH_MS = 20, GROUPS = 32 };
 
 /* What a task is done on, and what it may change. A task undoes what it changed, so that it can be done again. */
 struct scene {
@@ -23,7 +23,7 @@ typedef void task(const struct calls *, struct scene *);
 
 enum { BAR = 3 }; /* no ratio is to be above it */
 
-static struct scene scenes[FILES];
+static struct scene scenes[FILES], boxes[BOXES];
 static uint8_t output[SPIRESLATE_LIST];
 
 static void do_read(const struct calls *c, struct scene *s) {
@@ -64,6 +64,11 @@ static void do_line(const struct calls *c, struct scene *s) {
 
 static void do_list(const struct calls *c, struct scene *s) {
     c->list(s->whole.counters, TABLES(&s->whole), output, sizeof output, 0);
+}
+
+static void do_groups(const struct calls *c, struct scene *s) {
+    static uint64_t row[SPIRESLATE_ROW];
+    c->groups(s->whole.counters, TABLES(&s->whole), 0, 1, row, SPIRESLATE_ROW);
 }
 
 /* The tables of a file before and after its last record, and a record that finds them full. */
@@ -137,6 +142,21 @@ static const struct {
 
 static void (*const makers[FILES])(struct file *) = {make_many, make_settled, make_disputed};
 
+/* Boxes whose groups are worked out with no arrival order, and the answer. */
+static const struct {
+    void (*make)(struct file *);
+    unsigned answer;
+} box_makers[BOXES] = {
+    {make_calm, SPIRESLATE_DONE},     {make_row, SPIRESLATE_DONE},     {make_eight, SPIRESLATE_DONE},
+    {make_pairs, SPIRESLATE_CROWDED}, {make_hard, SPIRESLATE_CROWDED},
+};
+
+static void set_box(struct scene *s, unsigned which) {
+    box_makers[which].make(&s->file);
+    hold_untrue(&s->whole, &s->file);
+    compare_box(&s->whole, box_makers[which].answer);
+}
+
 int main(void) {
     unsigned above = 0, lines = 0;
     for (unsigned i = 0; i < FILES; i++) {
@@ -145,6 +165,7 @@ int main(void) {
         printf("the drawing of %s is not as it should be\n", scenes[i].file.name);
         return 1;
     }
+    for (unsigned i = 0; i < BOXES; i++) set_box(&boxes[i], i);
     compare_objects();
     compare_random(DRAWINGS, ARRIVALS);
     printf("Every answer, table and output of both implementations is the same. The drawings:\n\n");
@@ -154,6 +175,8 @@ int main(void) {
         for (unsigned i = 0; i < FILES; i++, lines++)
             if (measure(tasks[t].name, tasks[t].task, &scenes[i]) > BAR) above++;
     }
+    for (unsigned i = 0; i < BOXES; i++, lines++)
+        if (measure("the second engine", do_groups, &boxes[i]) > BAR) above++;
     printf("\n%u of %u lines have a ratio above %d.\n", above, lines, BAR);
     return 0;
 }

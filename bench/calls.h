@@ -18,6 +18,8 @@ struct calls {
                                            size_t, const uint64_t *, size_t, size_t, uint8_t *, size_t, size_t);
     struct spireslate_write_answer (*list)(struct spireslate_counters, const uint8_t *, size_t, const uint16_t *,
                                            size_t, const uint64_t *, size_t, uint8_t *, size_t, size_t);
+    struct spireslate_groups_answer (*groups)(struct spireslate_counters, const uint8_t *, size_t, const uint16_t *,
+                                              size_t, const uint64_t *, size_t, uint8_t, uint16_t, uint64_t *, size_t);
 };
 
 /* Those of the library, and the plain ones. */

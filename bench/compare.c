@@ -57,10 +57,34 @@ static void compare_check(const struct drawing *d) {
     must(proved.check(d->counters, TABLES(d)) == plain.check(d->counters, TABLES(d)), "the check");
 }
 
+static int compare_groups(const struct drawing *d, unsigned site, unsigned seq, size_t length) {
+    static uint64_t groups_a[SPIRESLATE_ROW + 1], groups_b[SPIRESLATE_ROW + 1];
+    struct spireslate_groups_answer a =
+        proved.groups(d->counters, TABLES(d), (uint8_t)site, (uint16_t)seq, groups_a, length);
+    struct spireslate_groups_answer b =
+        plain.groups(d->counters, TABLES(d), (uint8_t)site, (uint16_t)seq, groups_b, length);
+    must(a.number == b.number && a.count == b.count && memcmp(groups_a, groups_b, sizeof groups_a) == 0, "the groups");
+    return a.number;
+}
+
+/* The groups of what stands in some places, which may be a Create or not, and outputs of other lengths. */
+static void compare_engines(const struct drawing *d) {
+    enum { PLACES = 4 };
+    compare_groups(d, 0, 1, SPIRESLATE_ROW);
+    for (unsigned i = 0; i < PLACES; i++) {
+        const uint8_t *record = d->records + random_below(d->counters.records % 256 + 1u) * SPIRESLATE_RECORD;
+        unsigned site = record[1], seq = record[2] + 256u * record[3];
+        compare_groups(d, site, seq, SPIRESLATE_ROW);
+        compare_groups(d, site, seq, SPIRESLATE_ROW - 1 + random_below(3));
+    }
+    compare_groups(d, random_below(256), random_below(65536), 0);
+}
+
 /* Everything that is asked of a drawing, with room and without. */
 static void compare_views(const struct drawing *d) {
     size_t block = (size_t)d->counters.records * SPIRESLATE_RECORD + SPIRESLATE_TRAILER, start = random_below(MARGIN);
     compare_check(d);
+    compare_engines(d);
     compare_write(d, start + block, start);
     compare_write(d, start + block - 1, start);
     compare_write(d, 0, start);
@@ -225,6 +249,11 @@ static void compare_drawing(unsigned sites, unsigned arrivals) {
     size_t length = (size_t)d.counters.records * SPIRESLATE_RECORD + SPIRESLATE_TRAILER;
     must(compare_read(&e, output_b, length) == SPIRESLATE_DONE, "a written drawing is not read");
     must_same(&d, &e, "a drawing and its block");
+}
+
+void compare_box(const struct drawing *d, unsigned answer) {
+    compare_views(d);
+    must(compare_groups(d, 0, 1, SPIRESLATE_ROW) == (int)answer, "the answer for a box of the benchmark");
 }
 
 void compare_objects(void) {

@@ -10,6 +10,9 @@ int is_same_drawing(const struct drawing *a, const struct drawing *b);
 /* A file read; its records taken one by one; everything that is asked of the drawing; and the file damaged. */
 void compare_file(const struct file *f);
 
+/* Everything that is asked of a drawing whose groups of the box 0.1 are answered so. */
+void compare_box(const struct drawing *d, unsigned answer);
+
 /* As many objects as a drawing has, and one more. */
 void compare_objects(void);
 

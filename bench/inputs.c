@@ -106,3 +106,71 @@ void make_disputed(struct file *f) {
     for (unsigned i = 0; i < SETS; i++) file_set(f, 1 + i % 2, 0, 1, i / 2 % DISPUTED_KEYS, 1000000 * (1 + i % 2));
     file_close(f);
 }
+
+enum { BOX_SETS = 20 };
+
+/* A Create that all sites have seen. */
+static void open_box(struct file *f, const char *name) {
+    file_open(f, name, SITES);
+    file_create(f, 0);
+    file_sync_all(f);
+}
+
+/* Sets up to so many, each made when all before it had been seen. */
+static void settle_box(struct file *f) {
+    for (unsigned i = f->records - 1; i < BOX_SETS; i++) {
+        file_sync_all(f);
+        file_set(f, i % SITES, 0, 1, random_below(16), random_value());
+    }
+    file_close(f);
+}
+
+void make_calm(struct file *f) {
+    open_box(f, "20 Sets, no conflict");
+    settle_box(f);
+}
+
+void make_row(struct file *f) {
+    open_box(f, "20 Sets, 32 groups");
+    for (unsigned i = 0; i < 2 * DISPUTED_KEYS; i++) file_set(f, 1 + i % 2, 0, 1, i / 2, i);
+    settle_box(f);
+}
+
+void make_eight(struct file *f) {
+    open_box(f, "20 Sets, 8 groups");
+    for (unsigned i = 0; i < BOX_SETS; i++) file_set(f, i % SITES, 0, 1, 0, i);
+    file_close(f);
+}
+
+void make_pairs(struct file *f) {
+    open_box(f, "20 Sets, 1,024 groups");
+    for (unsigned i = 0; i < BOX_SETS; i++) file_set(f, 1 + i % 2, 0, 1, i / 2, i);
+    file_close(f);
+}
+
+void make_hard(struct file *f) {
+    /* a Set: its site, key and value; or a site that applies what another has: the two, and SEES */
+    enum { SEES = 255 };
+    static const uint8_t made[][3] = {
+        {3, 4, 0}, {4, 4, 1}, {4, 3, 2}, {3, 3, 3}, {4, 2, 3}, {3, 0, 2}, {3, 1, 3}, {2, 3, SEES}, {2, 1, 2},
+        {1, 1, 2}, {4, 0, 3}, {1, 3, 2}, {5, 2, 2}, {3, 1, SEES}, {5, 4, SEES}, {7, 0, 1}, {0, 3, SEES},
+        {0, 3, 3}, {3, 3, 4}, {1, 5, SEES}, {0, 1, 0}, {3, 1, 1}, {7, 2, 5}, {1, 4, 6}, {7, 4, 0},
+    };
+    open_box(f, "20 Sets, a long search");
+    for (unsigned i = 0; i < sizeof made / sizeof *made; i++) {
+        if (made[i][2] == SEES) file_sync(f, made[i][0], made[i][1]);
+        else file_set(f, made[i][0], 0, 1, made[i][1], made[i][2]);
+    }
+    file_close(f);
+}
+
+void hold_untrue(struct drawing *d, const struct file *f) {
+    memset(d, 0, sizeof *d);
+    d->counters.sites = (uint8_t)f->sites;
+    d->counters.records = (uint16_t)f->records;
+    d->counters.objects = 1;
+    for (unsigned i = 0; i < f->records; i++) d->counters.held[f->bytes[i * SPIRESLATE_RECORD + 1]]++;
+    memcpy(d->records, f->bytes, f->records * SPIRESLATE_RECORD);
+    d->objects[1] = (uint16_t)(f->records - 1);
+    d->objects[2] = 1;
+}

@@ -49,4 +49,15 @@ void make_many(struct file *f);
 void make_settled(struct file *f);  /* once each; the other 54 Sets have seen all before them */
 void make_disputed(struct file *f); /* again and again, so that all 64 Sets are in dispute */
 
+/* One box of 20 Sets, for the engine that works out its groups with no arrival order. */
+void make_calm(struct file *f);  /* no conflict, one group */
+void make_row(struct file *f);   /* two sites disagree on five keys: 32 groups */
+void make_eight(struct file *f); /* eight sites disagree on one key: 8 groups */
+void make_pairs(struct file *f); /* two sites disagree on ten keys: 1,024 groups */
+void make_hard(struct file *f);  /* more than 32 groups, and of many random ones the longest way to the 33rd */
+
+/* Sound tables of the file's records, which make one box: its row has the empty group alone, so that they need not be
+   true. */
+void hold_untrue(struct drawing *d, const struct file *f);
+
 #endif

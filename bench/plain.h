@@ -35,4 +35,9 @@ struct spireslate_write_answer plain_list(struct spireslate_counters counters, c
                                           const uint64_t *groups, size_t groups_length, uint8_t *out,
                                           size_t out_length, size_t start);
 
+struct spireslate_groups_answer plain_groups(struct spireslate_counters counters, const uint8_t *records,
+                                             size_t records_length, const uint16_t *objects, size_t objects_length,
+                                             const uint64_t *groups, size_t groups_length, uint8_t site, uint16_t seq,
+                                             uint64_t *out, size_t out_length);
+
 #endif

@@ -16,6 +16,7 @@ static uint8_t *stack_pointer; /* with which the call was made */
 static struct file files[FILES];
 static struct drawing work;
 static uint8_t output[SPIRESLATE_LIST];
+static uint64_t row[ROW];
 static const uint8_t *input;
 static size_t input_length, line;
 
@@ -37,6 +38,8 @@ static void make_write(void) { TOLD; spireslate_write(work.counters, TABLES(&wor
 
 static void make_line(void) { TOLD; spireslate_line(work.counters, TABLES(&work), line, output, sizeof output, 0); }
 
+static void make_groups(void) { TOLD; spireslate_groups(work.counters, TABLES(&work), 0, 1, row, ROW); }
+
 static void make_list(void) { TOLD; spireslate_list(work.counters, TABLES(&work), output, sizeof output, 0); }
 
 static struct call {
@@ -46,10 +49,10 @@ static struct call {
 } calls[] = {
     {"spireslate_open", make_open, 0},     {"spireslate_locate", make_locate, 0}, {"spireslate_arrive", make_arrive, 0},
     {"spireslate_write", make_write, 0},   {"spireslate_read", make_read, 0},     {"spireslate_line", make_line, 0},
-    {"spireslate_check", make_check, 0},   {"spireslate_list", make_list, 0},
+    {"spireslate_check", make_check, 0},   {"spireslate_list", make_list, 0},     {"spireslate_groups", make_groups, 0},
 };
 
-enum { OPEN, LOCATE, ARRIVE, WRITE, READ, LINE, CHECK, LIST, CALLS };
+enum { OPEN, LOCATE, ARRIVE, WRITE, READ, LINE, CHECK, LIST, GROUPS, CALLS };
 
 /* Runs f with the stack pointer near the top of the painted stack. */
 static __attribute__((noinline)) void on_painted(void (*f)(void)) {
@@ -83,6 +86,7 @@ static void measure_views(void) {
     measure(CHECK);
     measure(WRITE);
     measure(LIST);
+    measure(GROUPS);
     for (unsigned i = 0; i < sizeof lines / sizeof *lines; i++) {
         line = lines[i];
         measure(LINE);
@@ -142,6 +146,17 @@ static void measure_crowded(void) {
     measure(ARRIVE);
 }
 
+/* Boxes of 20 Sets: the search goes 20 calls deep. */
+static void measure_boxes(void) {
+    static void (*const makers[])(struct file *) = {make_calm, make_row, make_eight, make_pairs, make_hard};
+    static struct file f;
+    for (unsigned i = 0; i < sizeof makers / sizeof *makers; i++) {
+        makers[i](&f);
+        hold_untrue(&work, &f);
+        measure(GROUPS);
+    }
+}
+
 static size_t figure_of(const char *name, int many, char **given) {
     for (int i = 0; i + 1 < many; i += 2)
         if (strcmp(given[i], name) == 0) return (size_t)strtoul(given[i + 1], NULL, 10);
@@ -156,6 +171,7 @@ int main(int argc, char **argv) {
     for (line = 0; line < 10; line += 3) measure(OPEN);
     for (unsigned i = 0; i < FILES; i++) measure_file(&files[i]);
     measure_crowded();
+    measure_boxes();
     for (unsigned i = 0; i < CALLS; i++) {
         size_t figure = figure_of(calls[i].name, argc - 1, argv + 1);
         int right = calls[i].most <= figure;

@@ -5,9 +5,11 @@
    little-endian, as the processor has them.
 
    The script:  'F', slot (1), length in bytes (4), the bytes: the slot holds these from now on.
-                'C', call (1), n (1), line (8), start (8): the call is made with what the slots hold.
+                'C', call (1), n (1), line (8), start (8): the call is made with what the slots hold. For the call
+                that gives groups, n and line are the site and the sequence number of a Create.
    An outcome:  number (1), sites (1), records (2), value (8): what the call gave; 0 where it gives no such thing.
-                The value is the index of a refused record, the bytes written, or the start of a located block.
+                The value is the index of a refused record, the bytes written, the start of a located block, or how
+                many groups there are.
                 Touched guards (1): a bit for each slot.
                 For each slot: first (4), length (4), so many bytes: the stretch from the first byte that changed to
                 the last one, as it is now; 0 and 0 where none did. */
@@ -18,7 +20,7 @@
 #include "spireslate.h"
 
 enum { COUNTERS, RECORDS, OBJECTS, GROUPS, RECORD, STORED, OUTPUT, SLOTS };
-enum { OPEN, ARRIVE, READ, CHECK, WRITE, LINE, LIST, LOCATE };
+enum { OPEN, ARRIVE, READ, CHECK, WRITE, LINE, LIST, LOCATE, ENUMERATE };
 /* The guard's size keeps a slot aligned for every type. */
 enum { GUARD = 1024, MARK = 0xA5 };
 /* Between the number of sites and the number of records the counters have a byte that C leaves open. */
@@ -102,6 +104,12 @@ static struct outcome locate(void) {
     return (struct outcome){.number = l.number, .sites = l.sites, .records = l.records, .value = l.start};
 }
 
+static struct outcome enumerate(const struct spireslate_counters *counters, const struct request *r) {
+    struct spireslate_groups_answer g = spireslate_groups(
+        *counters, TABLES, r->n, (uint16_t)r->line, (uint64_t *)bytes_of(OUTPUT), slots[OUTPUT].length / 8);
+    return (struct outcome){.number = g.number, .value = g.count};
+}
+
 static struct outcome make_call(const struct request *r) {
     struct spireslate_counters *counters = (struct spireslate_counters *)bytes_of(COUNTERS);
     switch (r->call) {
@@ -115,6 +123,7 @@ static struct outcome make_call(const struct request *r) {
     case LINE: return of_writing(spireslate_line(*counters, TABLES, r->line, OUT, r->start));
     case LIST: return of_writing(spireslate_list(*counters, TABLES, OUT, r->start));
     case LOCATE: return locate();
+    case ENUMERATE: return enumerate(counters, r);
     }
     stop("no such call");
     return (struct outcome){0};

@@ -1,6 +1,7 @@
 /* Document 01's example through the C interface: a drawing of three sites takes four edits one by one, its list is
-   printed by lines and whole, its block is written behind other bytes, located, read into other tables and checked.
-   Then some inputs that are refused, each with its number. `run` compares what is printed with example.expected. */
+   printed by lines and whole, its box's groups are worked out a second time, its block is written behind other bytes,
+   located, read into other tables and checked. Then some inputs that are refused, each with its number. `run` compares
+   what is printed with example.expected. */
 #include <stdio.h>
 #include <string.h>
 
@@ -10,6 +11,7 @@
 _Static_assert(sizeof(struct spireslate_counters) == 22, "counters");
 _Static_assert(sizeof(struct spireslate_file_answer) == 16, "answer to a file");
 _Static_assert(sizeof(struct spireslate_write_answer) == 16, "answer to a call that writes");
+_Static_assert(sizeof(struct spireslate_groups_answer) == 16, "answer to a call that gives groups");
 _Static_assert(sizeof(struct spireslate_located) == 16, "a located block");
 
 /* What the caller keeps of a drawing, and the tables of one as a call takes them. */
@@ -70,6 +72,20 @@ static void print_list(const struct drawing *d) {
     struct spireslate_write_answer w = spireslate_list(d->counters, TABLES(d), output, sizeof output, 0);
     printf("list: %d, %zu bytes\n", w.number, w.bytes);
     print_bytes(output, w.bytes);
+}
+
+/* The groups of the box by the second engine, which knows no arrival order, beside its row; then what is no box, and an
+   output that is one number short. */
+static void compare_engines(const struct drawing *d) {
+    uint64_t row[SPIRESLATE_ROW];
+    struct spireslate_groups_answer g = spireslate_groups(d->counters, TABLES(d), 0, 1, row, SPIRESLATE_ROW);
+    printf("groups of 0.1: %d, %zu:", g.number, g.count);
+    for (size_t i = 0; i < g.count; i++) printf(" %d", (int)row[i]);
+    printf("\nas in its row: %d\n", g.count == d->objects[2] && memcmp(row, d->groups, sizeof row) == 0);
+    g = spireslate_groups(d->counters, TABLES(d), 1, 1, row, SPIRESLATE_ROW);
+    printf("groups of 1.1: %d, %zu\n", g.number, g.count);
+    g = spireslate_groups(d->counters, TABLES(d), 0, 1, row, SPIRESLATE_ROW - 1);
+    printf("31 numbers for groups: %d, %zu\n", g.number, g.count);
 }
 
 /* Whether bytes a to e of the file have the mark that they had before the block was written. */
@@ -154,6 +170,7 @@ int main(void) {
     print_counters(&first);
     print_lines(&first);
     print_list(&first);
+    compare_engines(&first);
     store(&first);
     load(&second, PICTURE + BLOCK);
     print_counters(&second);

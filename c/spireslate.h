@@ -1,5 +1,5 @@
-/* The calls of Spireslate for a C program on x86-64 Linux: the static library of the crate `call_c` has them, and
-   each is proved to answer as document 01 says. All lengths and all contents are allowed: every input has an answer,
+/* The calls of Spireslate for a C program on x86-64 Linux: the static library of the crate `call_c` has them, and each
+   is proved to answer as documents 01 and 02 say. All lengths and all contents are allowed: every input has an answer,
    and a table, record, file or output that is too short, too long or damaged is refused with its number, never read or
    written outside. What no proof can see is left to the caller: a pointer is not null, also where its length is 0; it
    points to as many elements as the length beside it says, aligned as C aligns them; and what a call may write
@@ -18,27 +18,29 @@ extern "C" {
    refused record leaves an empty drawing. */
 enum {
     SPIRESLATE_DONE = 0,
-    SPIRESLATE_MALFORMED = 1, /* the record is not one: its length, or a field */
-    SPIRESLATE_REPEATED = 2,  /* as many edits of that site are held already */
-    SPIRESLATE_EARLY = 3,     /* an edit that it has seen is not held yet */
-    SPIRESLATE_TORN = 4,      /* an edit that it has seen has seen more of some site */
-    SPIRESLATE_ASTRAY = 5,    /* the Set's target is not a Create that it has seen */
-    SPIRESLATE_FULL = 6,      /* 256 records, 64 objects or 64 Sets of the object are held */
-    SPIRESLATE_CROWDED = 7,   /* the object would have more than 32 versions */
-    SPIRESLATE_UNSOUND = 8,   /* the tables are unsound, or not of their lengths */
-    SPIRESLATE_BAD_SITES = 9, /* the number of sites is not 1 to 8 */
-    SPIRESLATE_BAD_FILE = 10, /* the file is over the limit, or its trailer is unfit */
-    SPIRESLATE_NO_ROOM = 11,  /* the output has no room at the start given */
-    SPIRESLATE_NO_LINE = 12   /* the list has no line of that number */
+    SPIRESLATE_MALFORMED = 1,     /* the record is not one: its length, or a field */
+    SPIRESLATE_REPEATED = 2,      /* as many edits of that site are held already */
+    SPIRESLATE_EARLY = 3,         /* an edit that it has seen is not held yet */
+    SPIRESLATE_TORN = 4,          /* an edit that it has seen has seen more of some site */
+    SPIRESLATE_ASTRAY = 5,        /* the Set's target is not a Create that it has seen; or no such Create is held */
+    SPIRESLATE_FULL = 6,          /* 256 records, 64 objects or 64 Sets of the object are held */
+    SPIRESLATE_CROWDED = 7,       /* the object would have, or has, more than 32 versions */
+    SPIRESLATE_UNSOUND = 8,       /* the tables are unsound, or not of their lengths */
+    SPIRESLATE_BAD_SITES = 9,     /* the number of sites is not 1 to 8 */
+    SPIRESLATE_BAD_FILE = 10,     /* the file is over the limit, or its trailer is unfit */
+    SPIRESLATE_NO_ROOM = 11,      /* the output has no room at the start given, or is not 32 groups long */
+    SPIRESLATE_NO_LINE = 12,      /* the list has no line of that number */
+    SPIRESLATE_TOO_MANY_SETS = 18 /* the object has more than 20 Sets */
 };
 
-/* Lengths: of the three tables in elements, all others in bytes. */
+/* Lengths: of the three tables and of an output of groups in elements, all others in bytes. */
 enum {
     SPIRESLATE_SITES = 8,             /* entries of a vector, and the most sites of a drawing */
     SPIRESLATE_RECORD = 28,           /* an edit record */
     SPIRESLATE_RECORDS_LENGTH = 7168, /* the records' table: 256 places of 28 bytes */
     SPIRESLATE_OBJECTS_LENGTH = 192,  /* the objects' table: 64 entries of 3 numbers */
     SPIRESLATE_GROUPS_LENGTH = 2048,  /* the groups' table: 64 rows of 32 groups */
+    SPIRESLATE_ROW = 32,              /* the groups of one object, and the output for them */
     SPIRESLATE_TRAILER = 8,           /* the trailer of a block */
     SPIRESLATE_BLOCK = 7176,          /* the longest block: 256 records and the trailer */
     SPIRESLATE_FILE_LIMIT = 65536,    /* the longest file that is read */
@@ -67,6 +69,12 @@ struct spireslate_file_answer {
 struct spireslate_write_answer {
     uint8_t number;
     size_t bytes;
+};
+
+/* The answer to a call that gives groups, and how many there are; 0 when refused. */
+struct spireslate_groups_answer {
+    uint8_t number;
+    size_t count;
 };
 
 /* The answer to a file in which a block is located, N, the number of records, and where the first record starts in the
@@ -118,6 +126,17 @@ struct spireslate_write_answer spireslate_list(struct spireslate_counters counte
                                                size_t records_length, const uint16_t *objects,
                                                size_t objects_length, const uint64_t *groups, size_t groups_length,
                                                uint8_t *out, size_t out_length, size_t start);
+
+/* The second engine, to compare with: works out the groups of the object whose Create has this site and this sequence
+   number from the conflicts of its Sets, with no arrival order, and puts them into the output in ascending order, with
+   zeros after. 8; 11 unless the output is SPIRESLATE_ROW long; 5 when no such Create is held; 18 above 20 Sets; 7 when
+   there are more than 32 groups, which is so in sound tables alone that are not true. In true tables the output is the
+   object's row of the groups' table. */
+struct spireslate_groups_answer spireslate_groups(struct spireslate_counters counters, const uint8_t *records,
+                                                  size_t records_length, const uint16_t *objects,
+                                                  size_t objects_length, const uint64_t *groups,
+                                                  size_t groups_length, uint8_t site, uint16_t seq, uint64_t *out,
+                                                  size_t out_length);
 
 /* Locates the block of a file: 10, then 9. Its records are so many times 28 bytes of the file, from the start on. */
 struct spireslate_located spireslate_locate(const uint8_t *file, size_t file_length);

@@ -1,9 +1,10 @@
-"""An independent reading of document 01 of the calls on lent tables: what each answers, and what it leaves.
+"""An independent reading of documents 01 and 02 of the calls on lent tables: what each answers, and what it leaves.
 
 It stands on the rules of tools/independent and shares nothing with the crates. Tables are what the caller lends, of
 any lengths and contents. On true tables the groups after an arrival are the enumerated maximal sets, and the step of
 document 01 must give the same; on other sound tables they are what that step says.
 """
+import struct
 from collections import namedtuple
 from functools import lru_cache
 
@@ -13,6 +14,8 @@ rules = module("independent")
 RECORD, TRAILER, SITES = rules.RECORD, rules.TRAILER, rules.SITES
 RECORDS, OBJECTS, SETS, VERSIONS = rules.RECORDS, rules.OBJECTS, rules.SETS, rules.VERSIONS
 ENTRY = 3
+# the most Sets of a box whose groups are enumerated
+DECIDED = 20
 # the room that the call for all lines asks for: 2,049 lines of 874 bytes
 LONGEST_LIST = 2049 * 874
 
@@ -192,6 +195,30 @@ def checked(t):
     if not has_lengths(t) or not 1 <= t.sites <= SITES or t.records > RECORDS:
         return Outcome(8)
     return Outcome(0 if t == replayed(t.sites, t.places[:RECORD * t.records]) else 8)
+
+
+def as_numbers(values):
+    """Numbers of 64 bits as they are lent."""
+    return struct.pack("<%dQ" % len(values), *values)
+
+
+def enumerated(t, box, output):
+    """The groups of the box whose Create has this name, where the output is so many bytes."""
+    edits = sound_edits(t)
+    if edits is None:
+        return Outcome(8)
+    if len(output) != len(as_numbers((0,) * VERSIONS)):
+        return Outcome(11)
+    drawing = rules.Drawing(t.sites, edits)
+    if box not in [rules.name(c) for c in drawing.creates()]:
+        return Outcome(5)
+    sets = tuple(drawing.sets(box))
+    if len(sets) > DECIDED:
+        return Outcome(18)
+    groups = maximal_groups(sets)
+    if len(groups) > VERSIONS:
+        return Outcome(7)
+    return Outcome(0, value=len(groups), output=as_numbers(filled(groups, VERSIONS)))
 
 
 def put(data, room, output, start):

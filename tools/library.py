@@ -8,8 +8,9 @@ import subprocess
 from collections import namedtuple
 
 from comparing import ROOT
+from independent_tables import as_numbers
 
-CALLS = ("open", "arrive", "read", "check", "write", "line", "list", "locate")
+CALLS = ("open", "arrive", "read", "check", "write", "line", "list", "locate", "groups")
 SLOTS = ("counters", "records", "objects", "groups", "record", "file", "output")
 COUNTERS = struct.Struct("<BxHH8H")
 MADE = struct.Struct("<cBBQQ")
@@ -25,8 +26,7 @@ Result = namedtuple("Result", "number sites records value touched slots")
 def as_slots(t):
     """Counters and tables as C keeps them."""
     return {"counters": COUNTERS.pack(t.sites, t.records, t.objects, *t.held), "records": t.places,
-            "objects": struct.pack("<%dH" % len(t.entries), *t.entries),
-            "groups": struct.pack("<%dQ" % len(t.groups), *t.groups)}
+            "objects": struct.pack("<%dH" % len(t.entries), *t.entries), "groups": as_numbers(t.groups)}
 
 
 def script_of(call, held=None):

@@ -1,12 +1,18 @@
 """Random input for the calls: drawings, sound tables whose groups are not true, records that are refused, outputs."""
-from independent_tables import (ENTRY, OBJECTS, RECORD, RECORDS, SETS, SITES, VERSIONS, Tables, built, history,
-                                replayed, row, rules, sound_edits)
+from independent_tables import (ENTRY, OBJECTS, RECORD, RECORDS, SETS, SITES, VERSIONS, Tables, as_numbers,
+                                built, history, replayed, row, rules, sound_edits)
 from random_files import Edits, edited, full, pairs
 from stored import record as stored_record
 
 BYTE, HALF, LARGEST = 1 << 8, 1 << 16, (1 << 64) - 1
 ROOMS = ("just fits", "longer", "one byte short", "start at the end", "start past the end", "largest start",
          "start that would wrap")
+
+
+# the numbers of an output of groups
+ROW_LENGTHS = {"a row": VERSIONS, "one number short": VERSIONS - 1, "one number long": VERSIONS + 1, "no number": 0}
+# names that no Create has
+NAMELESS = ("a Set", "the next edit of a site", "sequence number 0", "no site of the drawing", "largest name")
 
 
 def disputed(rng, sites):
@@ -132,6 +138,21 @@ def tries(rng, n, held, coming):
     out = [one[:-1], one + b"\0", b"", rng.randbytes(RECORD), malformed(rng, n, one), lowered(rng, one),
            lowered(rng, one), astray(rng, one), rng.choice(coming or [one]), rng.choice(held or [one])]
     return rng.sample(out, 3)
+
+
+def no_creates(rng, t):
+    """A name of each kind that no Create of these sound tables has; of a Set only where there is one."""
+    sets = [rules.name(e) for e in sound_edits(t) if e.kind == rules.SET]
+    site = rng.randrange(t.sites)
+    names = {"a Set": rng.choice(sets) if sets else None, "the next edit of a site": (site, t.held[site] + 1),
+             "sequence number 0": (site, 0), "no site of the drawing": (t.sites, 1),
+             "largest name": (BYTE - 1, HALF - 1)}
+    return {kind: name for kind, name in names.items() if name}
+
+
+def row_room(rng, kind):
+    """An output for groups, of random numbers."""
+    return as_numbers([rng.randrange(LARGEST + 1) for _ in range(ROW_LENGTHS[kind])])
 
 
 def room(rng, kind, size):

@@ -1,9 +1,11 @@
-// The calls of document 01 as a C program makes them: c/spireslate.h declares each function of this file. Every input
-// has an answer, so none of them asks anything of its caller but that a pointer points to as many elements as it says.
-// Answers are document 01's numbers. A call that changes the counters takes them by `&mut`, where the caller keeps
-// them; any other takes them by value.
+// The calls of documents 01 and 02 as a C program makes them: c/spireslate.h declares each function of this file. Every
+// input has an answer, so none of them asks anything of its caller but that a pointer points to as many elements as it
+// says. Answers are the documents' numbers. A call that changes the counters takes them by `&mut`, where the caller
+// keeps them; any other takes them by value.
 use call_by_value::FileAnswer;
 use edit_record::RECORD;
+use edit_record::Seq;
+use edit_record::Site;
 use table_drawing::Counters;
 use table_output::Written;
 ghost use mathlib.Core.Path.{_≡_};
@@ -13,6 +15,7 @@ ghost use Rattle.table_drawing.specs.Opening.{openingOf};
 ghost use Rattle.table_arrival.specs.Arrival.{arrivalOf};
 ghost use Rattle.table_replay.specs.Replay.{replayed};
 ghost use Rattle.table_check.specs.Check.{checkOf};
+ghost use Rattle.table_engine.specs.Enumeration.{enumeration, enumerationOf};
 ghost use Rattle.table_output.specs.Output.{writing};
 ghost use Rattle.block_trailer.specs.Locating.{found, located};
 ghost use Rattle.block_store.specs.Writing.{writingOf};
@@ -166,6 +169,37 @@ pub extern "C" fn spireslate_list(
 {
     let w = list_print::print_list(c, records, objects, groups, out, start);
     by_number(w)
+}
+
+// The number of the answer to a call that gives groups, and how many there are.
+#[repr(C)]
+pub struct GroupsAnswer {
+    pub number: u8,
+    pub count: usize,
+}
+
+#[no_mangle]
+// Puts the groups of the box whose Create is the one named into out, worked out with no arrival order; refused,
+// everything stays as it was.
+pub extern "C" fn spireslate_groups(
+    c: Counters,
+    records: &[u8],
+    objects: &[u16],
+    groups: &[u64],
+    site: u8,
+    seq: u16,
+    out: &mut [u64],
+) -> GroupsAnswer
+    ensures { λ r. ⌜ enumeration (r .number) (r .count) (now (out .exit))
+        ≡ enumerationOf (tablesOf c (now (records .entry)) (now (objects .entry)) (now (groups .entry)))
+        (record { 0 = site }) (record { 0 = seq }) (now (out .entry)) ⌝ }
+{
+    let e = table_engine::enumerate_groups(c, records, objects, groups, Site(site), Seq(seq), out);
+    let said = e.answer;
+    GroupsAnswer {
+        number: table_drawing::number(said),
+        count: e.count,
+    }
 }
 
 // The number of the answer to a file, what its trailer says, and where the stretch of its records starts.

@@ -5,3 +5,4 @@ pub mod ByCounts
 pub mod RecordsPassed
 pub mod FieldsInPlace
 pub mod SeenRanksBefore
+pub mod EditsInPlaces

@@ -45,7 +45,7 @@ groups-same es c e d = ap (groupsOf noEdit doConflict) (sets-same es c e d)
 -- ---- a Set of it
 
 -- the survey's number has the bits of the Sets that conflict with it
-mask-bits :
+pub mask-bits :
     (e : Edit) (ms : List Edit) (i : ℕ) → i < length ms → bit (conflictsWith e ms) i ≡ doConflict e (getD ms i noEdit)
 unfolding bit
 mask-bits e ms i l =

@@ -21,7 +21,7 @@ use Rattle.table_drawing.specs.Tables.{Tables}
 use Rattle.table_arrival.specs.Answers6and7.{rowOf}
 use Rattle.list_version.specs.VersionOrder.{versionsOf}
 use Rattle.list_line.specs.Line.{versionLine, objectLines}
-use Rattle.list_version.proofs.MembersByTest.{map-place}
+use Rattle.math_lists.proofs.ByPlaces.{map-place}
 use Rattle.list_line.proofs.LineByStamps.{line-by}
 use Rattle.list_objects.specs.declared.Gathered.{Gathered}
 use Rattle.list_objects.specs.Objects.{createOf, setsFor, createdBefore, objectsOf}

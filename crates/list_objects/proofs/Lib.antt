@@ -1,4 +1,3 @@
-pub mod SetTurns
 pub mod RankOrder
 pub mod GatheredIs
 pub mod SetsByIndex

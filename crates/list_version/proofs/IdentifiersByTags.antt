@@ -27,7 +27,8 @@ use Rattle.list_version.specs.Members.{membersOf}
 use Rattle.list_version.specs.VersionOrder.{isAhead, versionsOf}
 use Rattle.list_version.specs.VersionForms.{tagOf, tagsOf, isTagged, taggedBelow, identifierBy, isAheadBy}
 use Rattle.list_version.specs.VersionForms.{versionsBy}
-use Rattle.list_version.proofs.MembersByTest.{map-place, one-more, none-more, map-keep-same, filter-keep}
+use Rattle.math_lists.proofs.ByPlaces.{map-place}
+use Rattle.list_version.proofs.MembersByTest.{one-more, none-more, map-keep-same, filter-keep}
 
 -- ---- the tags one by one
 

@@ -5,32 +5,11 @@ use mathlib.Core.List.{List, [], _∷_, _++_, map, map-append, append-nil}
 use Prim.Native.Nat.{ℕ, zero, suc, _+_, _≤_, _<_}
 use native.Mathlib.Numerals.{add-one}
 use native.Mathlib.Omega.{arith}
-use lib.ListN.{length, getD, take, length-map}
-use lib.Seq.{length-take-le, getD-take, take-suc, take-all}
+use lib.ListN.{length, getD, take}
+use lib.Seq.{take-suc, take-all}
 use Rattle.math_lists.specs.NumbersBelow.{keep}
 use Rattle.math_lists.specs.SortedLists.{filter}
 use Rattle.math_lists.proofs.GrownAtEnd.{filter-snoc}
-use Rattle.edit_history.specs.EditsHeld.{recordAt}
-use Rattle.edit_record.specs.RecordBytes.{noEdit}
-use Rattle.list_version.specs.VersionForms.{setsAt}
-
--- ---- the Sets by their places
-
-pub map-place :
-    {A B : Type 0} (f : A → B) (l : List A) (i : ℕ) (a : A) (b : B) → i < length l →
-    getD (map f l) i b ≡ f (getD l i a)
-map-place f [] i a b h = absurd (omega arith)
-map-place f (x ∷ l) zero a b h = refl
-map-place f (x ∷ l) (suc i) a b h = map-place f l i a b (omega arith)
-
-module _ (rs ps : List ℕ) (t : ℕ) (fits : t ≤ length ps) where
-  pub sets-length : length (setsAt rs (take t ps)) ≡ t
-  sets-length = length-map (take t ps) (recordAt rs) ∙ length-take-le t ps fits
-
-  pub set-place : (i : ℕ) → i < t → getD (setsAt rs (take t ps)) i noEdit ≡ recordAt rs (getD ps i 0)
-  set-place i l =
-      map-place (recordAt rs) (take t ps) i 0 noEdit (omega (arith, length-take-le t ps fits))
-      ∙ ap (recordAt rs) (getD-take t ps i 0 l)
 
 -- ---- all elements by their places
 

@@ -22,7 +22,7 @@ use Rattle.list_version.specs.Identifier.{siteNumbers, seqNumbers}
 use Rattle.list_version.specs.Values.{hasKey, standsBefore, later}
 use Rattle.list_version.specs.VersionForms.{setsAt, values, placedOf, placings, stampOf, Small, Stamped}
 use Rattle.list_version.specs.VersionForms.{largestBelow}
-use Rattle.list_version.proofs.MembersByTest.{sets-length, set-place}
+use Rattle.edit_history.proofs.EditsInPlaces.{sets-length, set-place}
 use Rattle.list_version.proofs.LastMember.{lastBelow, last-none, last-member, last-other}
 use Rattle.list_version.proofs.Names.{two-in-one}
 

@@ -1,9 +1,9 @@
--- The elements of a list by their places: zeros, elements that pass a test, what it is for a list to be ascending, and
--- that two lists which test the same are the same. Assumes nothing.
+-- The elements of a list by their places: zeros, what is made of each, elements that pass a test, what it is for a list
+-- to be ascending, and that two lists which test the same are the same. Assumes nothing.
 use mathlib.Core.Path.{_≡_, refl, sym}
 use mathlib.Core.Logic.{_⊎_, inl, inr}
 use mathlib.Core.Bool.{Bool, true, false, cond}
-use mathlib.Core.List.{List, [], _∷_, List·Memᴰ·head, List·Memᴰ·not-nil, List·Memᴰ·cases-cons}
+use mathlib.Core.List.{List, [], _∷_, map, List·Memᴰ·head, List·Memᴰ·not-nil, List·Memᴰ·cases-cons}
 use Prim.Native.Nat.{ℕ, zero, suc, _≤_, _<_}
 use native.Mathlib.Omega.{arith}
 use native.Mathlib.Decide.{decLt}
@@ -22,6 +22,15 @@ pub zero-anywhere : (n i : ℕ) → _≡_ {A = ℕ} (getD (replicate n 0) i 0) 0
 zero-anywhere zero i = refl
 zero-anywhere (suc n) zero = refl
 zero-anywhere (suc n) (suc i) = zero-anywhere n i
+
+-- ---- what is made of each element
+
+pub map-place :
+    {A B : Type 0} (f : A → B) (l : List A) (i : ℕ) (a : A) (b : B) → i < length l →
+    getD (map f l) i b ≡ f (getD l i a)
+map-place f [] i a b h = absurd (omega arith)
+map-place f (x ∷ l) zero a b h = refl
+map-place f (x ∷ l) (suc i) a b h = map-place f l i a b (omega arith)
 
 -- ---- elements
 

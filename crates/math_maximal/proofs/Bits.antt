@@ -139,7 +139,7 @@ bit-and = bit-op bitAnd min _&&_ and-step digits
     digits false true = refl
     digits false false = refl
 
-bit-or : (a b i : ℕ) → bit (bitOr a b) i ≡ (bit a i || bit b i)
+pub bit-or : (a b i : ℕ) → bit (bitOr a b) i ≡ (bit a i || bit b i)
 bit-or = bit-op bitOr max _||_ or-step digits
   where
     digits : (x y : Bool) → max (digit x) (digit y) ≡ digit (x || y)
@@ -149,7 +149,7 @@ bit-or = bit-op bitOr max _||_ or-step digits
     digits false false = refl
 
 -- what a has and b lacks
-bit-minus : (a b i : ℕ) → bit (a - bitAnd a b) i ≡ (bit a i && not (bit b i))
+pub bit-minus : (a b i : ℕ) → bit (a - bitAnd a b) i ≡ (bit a i && not (bit b i))
 bit-minus = bit-op (λ a b. a - bitAnd a b) (λ a b. a - min a b) (λ x y. x && not y) split digits
   where
     split :
@@ -164,7 +164,7 @@ bit-minus = bit-op (λ a b. a - bitAnd a b) (λ a b. a - min a b) (λ x y. x && 
     digits false false = refl
 
 -- the number with one bit
-bit-power : (k i : ℕ) → bit (2 ^ k) i ≡ eqb i k
+pub bit-power : (k i : ℕ) → bit (2 ^ k) i ≡ eqb i k
 bit-power zero zero = bit-zero 1
 bit-power zero (suc i) = bit-suc 1 i ∙ bit-none i ∙ sym (ne-eqb (suc i) 0 (λ e. omega arith))
 bit-power (suc k) zero =

@@ -106,7 +106,7 @@ module _ (t : Tables) (s : Sound t) where
 
   -- ---- every Create held is an object
 
-  object-at-place :
+  pub object-at-place :
       (p : ℕ) → p < t .counters .records → isCreate (recordAt (t .records) p) ≡ true →
       (length (creates (editsOf (t .records) p)) < t .counters .objects)
       × (placeAt (t .objects) (length (creates (editsOf (t .records) p))) ≡ p)

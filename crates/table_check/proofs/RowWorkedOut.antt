@@ -6,7 +6,7 @@ use mathlib.Core.List.{List, [], _∷_, _++_, map, map-append, append-nil}
 use Prim.Native.Nat.{ℕ, suc, _+_, _-_, _*_, _^_, _≤_, _<_}
 use native.Mathlib.Omega.{arith}
 use native.Mathlib.Numerals.{add-one}
-use lib.ListN.{length, getD, set, take, drop, replicate, length-map}
+use lib.ListN.{length, getD, set, take, drop, replicate}
 use lib.Seq.{getD-set-same, getD-set-other, take-suc, take-suc-set, take-add, take-at, take-take, length-take-le}
 use lib.Dec.{eqb}
 use borrow.Author.Tests.{ne-eqb, le-ltb}
@@ -19,6 +19,7 @@ use Rattle.edit_record.specs.Answer1.{isSet}
 use Rattle.edit_causal.specs.Conflict.{doConflict}
 use Rattle.edit_causal.proofs.CausalLaws.{conflict-symmetric, conflict-irreflexive}
 use Rattle.edit_history.specs.EditsHeld.{recordAt, conflictsWith, mostRecords}
+use Rattle.edit_history.proofs.EditsInPlaces.{sets-length}
 use Rattle.edit_walk.specs.WalkForms.{placeOf, Indexed}
 use Rattle.math_maximal.specs.Groups.{every}
 use Rattle.math_maximal.specs.Step.{step}
@@ -89,9 +90,6 @@ module _ (rs ms : List ℕ) where
   abbrev setsIn : ℕ → List Edit
   setsIn k = map (recordAt rs) (take k ms)
 
-  sets-long : (i : ℕ) → i ≤ length ms → length (setsIn i) ≡ i
-  sets-long i l = length-map (take i ms) (recordAt rs) ∙ length-take-le i ms l
-
   pub groups-none : groupsIn rs ms 0 ≡ 0 ∷ []
   unfolding groupsIn groupsOf
   groups-none = no-elements (rel noEdit doConflict []) every
@@ -105,7 +103,7 @@ module _ (rs ms : List ℕ) where
       let more : setsIn (i + 1) ≡ setsIn i ++ (e ∷ [])
       = rw (add-one, take-suc ms i 0 l) (map-append (recordAt rs) (take i ms) (getD ms i 0 ∷ [])) in
       ap (λ (k : ℕ). step (conflictsWith e (setsIn i)) k (groupsOf noEdit doConflict (setsIn i)))
-      (sym (sets-long i (omega arith)))
+      (sym (sets-length rs ms i (omega arith)))
       ∙ sets-step (setsIn i) e
       ∙ ap (groupsOf noEdit doConflict) (sym more)
 
@@ -123,7 +121,7 @@ module _ (rs ms : List ℕ) where
   pub in-below : (i : ℕ) → i ≤ length ms → (x : ℕ) → elem x (groupsIn rs ms i) ≡ true → x < 2 ^ i
   unfolding groupsIn groupsOf
   in-below i l x h =
-      rw (sets-long i l) at (groups-at (rel noEdit doConflict (setsIn i)) (length (setsIn i)) every x h .0)
+      rw (sets-length rs ms i l) at (groups-at (rel noEdit doConflict (setsIn i)) (length (setsIn i)) every x h .0)
 
   in-longer : (i j : ℕ) → length (groupsIn rs ms i) ≤ length (groupsIn rs ms (i + j))
   unfolding groupsIn

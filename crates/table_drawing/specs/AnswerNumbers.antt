@@ -1,8 +1,9 @@
--- The number that document 01 gives each answer, and the outcome of a call that changes tables. Assumes nothing.
+-- The number that documents 01 and 02 give each answer, and the outcome of a call that changes tables. Assumes nothing.
 use Prim.Native.Nat.{ℕ}
 use Rattle.table_drawing.specs.declared.Answer.{Answer}
 use Rattle.table_drawing.specs.declared.Answer.the-variants.{Done, Malformed, Repeated, Early, Torn, Astray, Full}
 use Rattle.table_drawing.specs.declared.Answer.the-variants.{Crowded, Unsound, BadSites, BadFile, NoRoom, NoLine}
+use Rattle.table_drawing.specs.declared.Answer.the-variants.{TooManySets}
 use Rattle.table_drawing.specs.Tables.{Tables}
 
 abbrev pub numberOf : Answer → ℕ
@@ -19,6 +20,7 @@ numberOf BadSites = 9
 numberOf BadFile = 10
 numberOf NoRoom = 11
 numberOf NoLine = 12
+numberOf TooManySets = 18
 
 -- what a call gives back and the tables that it leaves
 pub record Outcome : Type 0 where

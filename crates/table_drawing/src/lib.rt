@@ -16,7 +16,7 @@ ghost use Rattle.table_drawing.specs.Opening.{openingOf};
 // The numbers of an object's entry: the place of its Create, its number of Sets and its number of groups.
 pub const ENTRY: usize = 3;
 
-// The answers of document 01; `numberOf` gives each its number.
+// The answers of documents 01 and 02; `numberOf` gives each its number.
 pub enum Answer {
     Done,
     Malformed,
@@ -31,6 +31,7 @@ pub enum Answer {
     BadFile,
     NoRoom,
     NoLine,
+    TooManySets,
 }
 
 // The counters of a drawing: N, the records held, the objects, and how many edits of each site are held.
@@ -80,6 +81,7 @@ pub fn number(a: Answer) -> u8
         Answer::BadFile => 10,
         Answer::NoRoom => 11,
         Answer::NoLine => 12,
+        Answer::TooManySets => 18,
     }
 }
 

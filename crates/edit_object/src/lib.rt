@@ -1,0 +1,80 @@
+// One object among the records, looked for by the name of its Create: whether the Create is held, and where the
+// object's Sets stand.
+use edit_causal::is_same;
+use edit_record::AT_KIND;
+use edit_record::AT_SEQ;
+use edit_record::AT_SITE;
+use edit_record::AT_TARGET;
+use edit_record::AT_TARGET_SEQ;
+use edit_record::CREATE;
+use edit_record::RECORD;
+use edit_record::SET;
+use edit_record::Seq;
+use edit_record::Site;
+ghost use mathlib.Core.Path.{_≡_};
+ghost use mathlib.Core.List.{map};
+ghost use Prim.Native.Nat.{_≤_, _<_};
+ghost use lib.ListN.{length, take};
+ghost use Rattle.edit_history.specs.EditsHeld.{mostRecords, recordAt, editsOf, isSetOn, setsOn};
+ghost use Rattle.edit_object.specs.CreateHeld.{isCreateOf, isHeld};
+
+// Whether the record in place p is the Create s.q; only the bytes that tell it are read, where they stand.
+fn is_create_at(recs: &[u8], p: usize, s: Site, q: Seq) -> bool
+    requires { ⌜ p < mostRecords ⌝ }
+    ensures { λ r. ⌜ r ≡ isCreateOf s q (recordAt (now (recs .entry)) p) ⌝ }
+{
+    let at = p * RECORD;
+    let kind = edit_record::byte_at(recs, at + AT_KIND);
+    let site = edit_record::byte_at(recs, at + AT_SITE);
+    let seq = edit_record::two_at(recs, at + AT_SEQ);
+    (kind == CREATE) & is_same(Site(site), Seq(seq), s, q)
+}
+
+// Whether one of the first n records is the Create s.q.
+pub fn is_create_held(recs: &[u8], n: usize, s: Site, q: Seq) -> bool
+    requires { ⌜ n ≤ mostRecords ⌝ }
+    ensures { λ r. ⌜ r ≡ isHeld (editsOf (now (recs .entry)) n) s q ⌝ }
+{
+    let mut held = false;
+    let mut i: usize = 0;
+    while i < n {
+        held = held | is_create_at(recs, i, s, q);
+        i += 1;
+    }
+    held
+}
+
+// Whether the record in place p is a Set on the Create s.q; only the bytes that tell it are read, where they stand, and
+// the target's site first, which most often tells.
+fn is_set_at(recs: &[u8], p: usize, s: Site, q: Seq) -> bool
+    requires { ⌜ p < mostRecords ⌝ }
+    ensures { λ r. ⌜ r ≡ isSetOn s q (recordAt (now (recs .entry)) p) ⌝ }
+{
+    let at = p * RECORD;
+    let site = edit_record::byte_at(recs, at + AT_TARGET);
+    if site != s.0 {
+        return false;
+    }
+    let kind = edit_record::byte_at(recs, at + AT_KIND);
+    let seq = edit_record::two_at(recs, at + AT_TARGET_SEQ);
+    (kind == SET) & is_same(Site(site), Seq(seq), s, q)
+}
+
+// Puts the places of the Sets on the Create s.q, of the first n records, at the front of out; says how many they are.
+pub fn put_places(out: &mut [u16], recs: &[u8], n: usize, s: Site, q: Seq) -> usize
+    requires { ⌜ (n ≤ mostRecords) × (length (setsOn s q (editsOf (now recs) n)) ≤ length (now out)) ⌝ }
+    ensures { λ r.
+        ⌜ (map (recordAt (now (recs .entry))) (take r (now (out .exit))) ≡ setsOn s q (editsOf (now (recs .entry)) n))
+        × (r ≡ length (setsOn s q (editsOf (now (recs .entry)) n))) ⌝ }
+{
+    let mut w: usize = 0;
+    let mut i: usize = 0;
+    while i < n {
+        if is_set_at(recs, i, s, q) {
+            out[w] = i as u16;
+            w += 1;
+        }
+        i += 1;
+    }
+    w
+}

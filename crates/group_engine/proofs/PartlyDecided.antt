@@ -1,0 +1,223 @@
+-- The search at a place where the Sets from u on are decided: what is cut off holds no group, what is left at the end
+-- is one, and how a Set left out, and one taken in, lead on. Only taking in assumes something of the conflicts.
+use mathlib.Core.Path.{_≡_, refl, sym, _∙_}
+use mathlib.Core.Logic.{inl, inr}
+use mathlib.Core.Bool.{Bool, true, false, not, _&&_, _||_}
+use mathlib.Core.List.{List}
+use Prim.Native.Nat.{ℕ, suc, _+_, _-_, _^_, _≤_, _<_}
+use native.Mathlib.Omega.{arith}
+use native.Mathlib.Decide.{decLt}
+use lib.Dec.{eqb, ltb, leb}
+use lib.Pow.{pow-pos}
+use lib.Bits.{bitAnd, bitOr, or-lt}
+use lib.ListN.{getD}
+use borrow.Author.Tests.{eqb-true, ne-eqb, ltb-true, lt-ltb, leb-true, le-leb, not-true}
+use Rattle.math_lists.proofs.LastBelow.{last}
+use Rattle.math_lists.proofs.Booleans.{clash, decide, off, same-test, both, and-on, either, or-left, or-right, eqb-self}
+use Rattle.math_lists.proofs.Booleans.{then-off}
+use Rattle.math_lists.proofs.NumbersBelow.{some-at, none-at}
+use Rattle.math_maximal.specs.Groups.{bit}
+use Rattle.math_maximal.specs.Step.{compatible}
+use Rattle.math_maximal.proofs.Bits.{bit-or, bit-minus, bit-power, bit-high, bit-below, compatible-on, compatible-at}
+use Rattle.group_engine.specs.SearchForms.{Conflicts, conflict, isGroup, lost, Partial}
+use Rattle.group_engine.proofs.BitsFrom.{bit-add, bit-ones, same-above}
+use Rattle.group_engine.proofs.MemberByMask.{compatible-part, group-at, group-on}
+
+module _ (ms : List ℕ) (n : ℕ) where
+  -- ---- nothing is decided yet
+
+  pub at-start : Partial ms n n 0 (2 ^ n - 1)
+  at-start = record {
+    within = omega arith;
+    bound = omega (arith, pow-pos n);
+    undecided = λ i l. none i;
+    free = λ i b. clash b (none i);
+    mayCome = λ i. bit-ones n i ∙ sym (whole (ltb i n) (compatible (getD ms i 0) 0)
+        (compatible-on (getD ms i 0) 0 0 (omega arith) (λ j b. clash b (none j))));
+  }
+    where
+      none : (i : ℕ) → bit 0 i ≡ false
+      none i = bit-high 0 0 (omega arith) i (omega arith)
+
+      whole : (a b : Bool) → b ≡ true → (a && b) ≡ a
+      whole true b e = e
+      whole false b e = refl
+
+  module _ (u t may : ℕ) (p : Partial ms n u t may) where
+    taken-below : t < 2 ^ n
+    taken-below = omega (arith, p .within, pow-pos u)
+
+    -- a number that has the bits of t from u on holds all of t
+    holds : (g : ℕ) → t ≤ g → g < t + 2 ^ u → (i : ℕ) → bit t i ≡ true → bit g i ≡ true
+    holds g a b i h = elim (decLt i u) [
+      | yes l ↦ clash h (p .undecided i l)
+      | no f ↦ same-above u n t g (p .within) (p .undecided) a b i (omega arith) ∙ h
+    ]
+
+    -- ---- a Set left out that conflicts with none that is in or may come in: no group
+
+    pub lost-none :
+        lost ms n u t (bitOr t may) ≡ true → (g : ℕ) → t ≤ g → g < t + 2 ^ u → isGroup ms n g ≡ false
+    unfolding lost
+    lost-none h g a b = off (isGroup ms n g) (λ m.
+        let (i, l, e) = some-at n _ h in
+        let (o, q) = both (leb u i) (not (bit t i) && compatible (getD ms i 0) (bitOr t may)) e in
+        let (x, y) = both (not (bit t i)) (compatible (getD ms i 0) (bitOr t may)) q in
+        let out = same-above u n t g (p .within) (p .undecided) a b i (leb-true u i o) ∙ not-true (bit t i) x in
+        clash (group-at ms n g below m i l ∙ compatible-part n (getD ms i 0) g (bitOr t may) below (reached m) y) out)
+      where
+        below : g < 2 ^ n
+        below = omega (arith, p .within)
+
+        reached : isGroup ms n g ≡ true → (j : ℕ) → bit g j ≡ true → bit (bitOr t may) j ≡ true
+        reached m j c = bit-or t may j ∙ elim (decLt j u) [
+          | yes l ↦ or-right (bit t j) (bit may j)
+              (p .mayCome j
+              ∙ and-on (ltb j u) (compatible (getD ms j 0) t) (lt-ltb j u l)
+              (compatible-part n (getD ms j 0) t g taken-below (holds g a b)
+              (sym (group-at ms n g below m j (bit-below n g below j c)) ∙ c)))
+          | no f ↦ or-left (bit t j) (bit may j)
+              (sym (same-above u n t g (p .within) (p .undecided) a b j (omega arith)) ∙ c)
+        ]
+
+  -- ---- all decided, and none left out for good: a group
+
+  pub is-group :
+      (t may : ℕ) → Partial ms n 0 t may → lost ms n 0 t (bitOr t may) ≡ false → isGroup ms n t ≡ true
+  unfolding lost
+  is-group t may p h = group-on ms n t below (λ i l. elim (decide (bit t i)) [
+    | inl b ↦ b ∙ sym (p .free i b)
+    | inr b ↦ b ∙ sym (off (compatible (getD ms i 0) t) (λ e.
+        clash (and-on (leb 0 i) (not (bit t i) && compatible (getD ms i 0) (bitOr t may)) (le-leb 0 i (omega arith))
+        (and-on (not (bit t i)) (compatible (getD ms i 0) (bitOr t may)) (rw b) (reach i e)))
+        (none-at n _ h i l)))
+  ])
+    where
+      below : t < 2 ^ n
+      below = omega (arith, p .within)
+
+      reach : (i : ℕ) → compatible (getD ms i 0) t ≡ true → compatible (getD ms i 0) (bitOr t may) ≡ true
+      reach i e = compatible-part n (getD ms i 0) (bitOr t may) t (or-lt n t may below (p .bound)) (λ j b.
+          elim (either (bit t j) (bit may j) (sym (bit-or t may j) ∙ b)) [
+            | inl x ↦ x
+            | inr y ↦ absurd (omega (arith, ltb-true j 0 (both (ltb j 0) _ (sym (p .mayCome j) ∙ y) .0)))
+          ]) e
+
+  -- ---- the Set k is decided
+
+  module _ (k t may : ℕ) (p : Partial ms n (suc k) t may) where
+    abbrev rest : ℕ
+    rest = may - bitAnd may (2 ^ k)
+
+    -- of those that may come in, k is none any more
+    bit-rest : (i : ℕ) → bit rest i ≡ (ltb i k && compatible (getD ms i 0) t)
+    bit-rest i =
+        bit-minus may (2 ^ k) i ∙ rw (bit-power k i, p .mayCome i)
+        (same-test ((ltb i (suc k) && compatible (getD ms i 0) t) && not (eqb i k))
+        (ltb i k && compatible (getD ms i 0) t)
+        (λ h. let (x, y) = both (ltb i (suc k) && compatible (getD ms i 0) t) (not (eqb i k)) h in
+        let (a, b) = both (ltb i (suc k)) (compatible (getD ms i 0) t) x in
+        and-on (ltb i k) (compatible (getD ms i 0) t)
+        (elim (last (ltb-true i (suc k) a)) [
+          | inl l ↦ lt-ltb i k l
+          | inr e ↦ clash (rw e (eqb-self k)) (not-true (eqb i k) y)
+        ]) b)
+        (λ h. let (a, b) = both (ltb i k) (compatible (getD ms i 0) t) h in
+        let l = ltb-true i k a in
+        rw (lt-ltb i (suc k) (omega arith), b, ne-eqb i k (λ e. omega arith))))
+
+    pub left-out : Partial ms n k t rest
+    left-out = record {
+      within = omega (arith, p .within);
+      bound = omega (arith, p .bound);
+      undecided = λ i l. p .undecided i (omega arith);
+      free = p .free;
+      mayCome = bit-rest;
+    }
+
+    below : t < 2 ^ n
+    below = omega (arith, p .within, pow-pos k)
+
+    bit-in : (i : ℕ) → bit (t + 2 ^ k) i ≡ (bit t i || eqb i k)
+    bit-in = bit-add n k t below (p .undecided k (omega arith))
+
+    in-undecided : (i : ℕ) → i < k → bit (t + 2 ^ k) i ≡ false
+    in-undecided i l = bit-in i ∙ rw (p .undecided i (omega arith), ne-eqb i k (λ e. omega arith))
+
+    in-has : bit (t + 2 ^ k) k ≡ true
+    in-has = bit-in k ∙ or-right (bit t k) (eqb k k) (eqb-self k)
+
+    -- k conflicts with one that is in: no group has it with those
+    pub no-room :
+        bit may k ≡ false → (g : ℕ) → t + 2 ^ k ≤ g → g < t + 2 ^ k + 2 ^ k → isGroup ms n g ≡ false
+    no-room h g a b = off (isGroup ms n g) (λ m.
+        clash
+        (compatible-part n (getD ms k 0) t g below part
+        (sym (group-at ms n g lg m k (bit-below n g lg k has-k)) ∙ has-k))
+        (then-off (ltb k (suc k)) (compatible (getD ms k 0) t) (lt-ltb k (suc k) (omega arith))
+        (sym (p .mayCome k) ∙ h)))
+      where
+        lg : g < 2 ^ n
+        lg = omega (arith, p .within)
+
+        above : (i : ℕ) → k ≤ i → bit g i ≡ bit (t + 2 ^ k) i
+        above = same-above k n (t + 2 ^ k) g (omega (arith, p .within)) in-undecided a b
+
+        has-k : bit g k ≡ true
+        has-k = above k (omega arith) ∙ in-has
+
+        part : (i : ℕ) → bit t i ≡ true → bit g i ≡ true
+        part i h = elim (decLt i k) [
+          | yes l ↦ clash h (p .undecided i (omega arith))
+          | no f ↦ above i (omega arith) ∙ bit-in i ∙ or-left (bit t i) (eqb i k) h
+        ]
+
+    -- k conflicts with none that is in, and is taken
+    module _ (s : Conflicts ms n) (h : bit may k ≡ true) where
+      fits-k : compatible (getD ms k 0) t ≡ true
+      fits-k = both (ltb k (suc k)) (compatible (getD ms k 0) t) (sym (p .mayCome k) ∙ h) .1
+
+      k-below : k < n
+      k-below = bit-below n may (p .bound) k h
+
+      in-below : t + 2 ^ k < 2 ^ n
+      in-below = omega (arith, p .within, pow-pos k)
+
+      -- what fits those that are in, and k, fits all
+      all-fit : (i : ℕ) → compatible (getD ms i 0) t ≡ true → conflict ms i k ≡ false →
+          compatible (getD ms i 0) (t + 2 ^ k) ≡ true
+      all-fit i c e = compatible-on (getD ms i 0) (t + 2 ^ k) n in-below (λ j b.
+          elim (either (bit t j) (eqb j k) (sym (bit-in j) ∙ b)) [
+            | inl x ↦ compatible-at (getD ms i 0) t c j x
+            | inr y ↦ rw (eqb-true j k y) e
+          ])
+
+      pub taken-in : Partial ms n k (t + 2 ^ k) (rest - bitAnd rest (getD ms k 0))
+      taken-in = record {
+        within = omega (arith, p .within);
+        bound = omega (arith, p .bound);
+        undecided = in-undecided;
+        free = λ i b. elim (either (bit t i) (eqb i k) (sym (bit-in i) ∙ b)) [
+          | inl x ↦ all-fit i (p .free i x)
+              (s .turned i k (bit-below n t below i x) k-below ∙ compatible-at (getD ms k 0) t fits-k i x)
+          | inr y ↦ rw (eqb-true i k y) (all-fit k fits-k (s .notItself k k-below))
+        ];
+        mayCome = λ i. bit-minus rest (getD ms k 0) i ∙ rw (bit-rest i)
+            (same-test ((ltb i k && compatible (getD ms i 0) t) && not (conflict ms k i))
+            (ltb i k && compatible (getD ms i 0) (t + 2 ^ k))
+            (λ e. let (x, y) = both (ltb i k && compatible (getD ms i 0) t) (not (conflict ms k i)) e in
+            let (a, b) = both (ltb i k) (compatible (getD ms i 0) t) x in
+            let l = ltb-true i k a in
+            and-on (ltb i k) (compatible (getD ms i 0) (t + 2 ^ k)) a
+            (all-fit i b (s .turned i k (omega (arith, k-below)) k-below ∙ not-true (conflict ms k i) y)))
+            (λ e. let (a, b) = both (ltb i k) (compatible (getD ms i 0) (t + 2 ^ k)) e in
+            let l = ltb-true i k a in
+            let c : conflict ms k i ≡ false = s .turned k i k-below (omega (arith, k-below))
+            ∙ compatible-at (getD ms i 0) (t + 2 ^ k) b k in-has in
+            rw (
+              a,
+              c,
+              compatible-part n (getD ms i 0) t (t + 2 ^ k) below
+                  (λ j x. bit-in j ∙ or-left (bit t j) (eqb j k) x) b,
+            )));
+      }

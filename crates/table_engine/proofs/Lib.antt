@@ -1,0 +1,3 @@
+pub mod MasksOfSets
+pub mod EnumerationOutcomes
+pub mod SameAsRow

@@ -1,0 +1,2 @@
+pub mod Enumeration
+pub mod EngineForms

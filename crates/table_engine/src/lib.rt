@@ -1,0 +1,119 @@
+// The second engine at the tables (document 02, Req 07): the groups of a box from the conflicts of its Sets, with no
+// arrival order, to be held against the row that the arriving step left.
+use edit_record::Seq;
+use edit_record::Site;
+use group_step::GROUPS;
+use group_step::SETS;
+use table_drawing::Answer;
+use table_drawing::Counters;
+ghost use mathlib.Core.Path.{_≡_};
+ghost use Prim.Native.Nat.{_≤_};
+ghost use lib.ListN.{length};
+ghost use Rattle.edit_history.specs.EditsHeld.{mostRecords, editsOf, setsOn};
+ghost use Rattle.group_step.specs.GroupRows.{mostGroups, mostSets, settled};
+ghost use Rattle.group_engine.specs.SearchForms.{countTold};
+ghost use Rattle.table_drawing.specs.Tables.{tablesOf};
+ghost use Rattle.table_drawing.specs.AnswerNumbers.{numberOf};
+ghost use Rattle.table_engine.specs.Enumeration.{mostDecided, enumeration, enumerationIn, enumerationOf};
+ghost use Rattle.table_engine.specs.EngineForms.{setsIn, groupsIn, MaskedTo};
+
+// The Sets of a box that the engine decides at most.
+pub const DECIDED: usize = 20;
+
+// An answer to a call that gives groups, and how many there are.
+pub struct Enumerated {
+    pub answer: Answer,
+    pub count: usize,
+}
+
+// Puts down for each of the Sets in the k first places which of them conflict with it.
+fn put_masks(recs: &[u8], places: &[u16], k: usize, masks: &mut [u64])
+    requires { ⌜ (k ≤ length (now places)) × (k ≤ mostSets) × (k ≤ length (now masks)) ⌝ }
+    ensures { λ r. ⌜ MaskedTo k (setsIn (now (recs .entry)) (now (places .entry)) k) (now (masks .exit)) ⌝ }
+{
+    let mut i: usize = 0;
+    while i < k {
+        let e = edit_history::decode_at(recs, places[i] as usize);
+        masks[i] = table_index::conflicts_in(recs, places, k, e);
+        i += 1;
+    }
+}
+
+// Puts the groups of the Sets in the k first places into out, ascending, and 0 behind them; says how many they are.
+// Where they are more than out holds, it says one more than that, and nothing is changed.
+fn put_groups(recs: &[u8], places: &[u16], k: usize, out: &mut [u64]) -> usize
+    requires { ⌜ (k ≤ length (now places)) × (k ≤ mostDecided) × (length (now out) ≡ mostGroups) ⌝ }
+    ensures { λ r. ⌜ (r ≡ countTold (groupsIn (now (recs .entry)) (now (places .entry)) k))
+        × (now (out .exit)
+        ≡ settled (groupsIn (now (recs .entry)) (now (places .entry)) k) (now (out .entry))) ⌝ }
+{
+    // what work space holds at first does not matter; zeros would be set by memset (docs/DECISIONS.md, 24)
+    let mut masks = [1u64; DECIDED];
+    put_masks(recs, places, k, &mut masks);
+    group_engine::enumerate(&masks, k, out)
+}
+
+// The groups of the box whose Create is s.q, where the first n records are held.
+fn enumerate_held(recs: &[u8], n: usize, s: Site, q: Seq, out: &mut [u64]) -> Enumerated
+    requires { ⌜ (n ≤ mostRecords)
+        × (length (setsOn s q (editsOf (now recs) n)) ≤ mostSets)
+        × (length (now out) ≡ mostGroups) ⌝ }
+    ensures { λ r. ⌜ enumeration (numberOf (r .answer)) (r .count) (now (out .exit))
+        ≡ enumerationIn (editsOf (now (recs .entry)) n) s q (now (out .entry)) ⌝ }
+{
+    if !edit_object::is_create_held(recs, n, s, q) {
+        return Enumerated {
+            answer: Answer::Astray,
+            count: 0,
+        };
+    }
+    let mut places = [1u16; SETS];
+    let k = edit_object::put_places(&mut places, recs, n, s, q);
+    if DECIDED < k {
+        return Enumerated {
+            answer: Answer::TooManySets,
+            count: 0,
+        };
+    }
+    let r = put_groups(recs, &places, k, out);
+    if GROUPS < r {
+        return Enumerated {
+            answer: Answer::Crowded,
+            count: 0,
+        };
+    }
+    Enumerated {
+        answer: Answer::Done,
+        count: r,
+    }
+}
+
+// The groups of the box whose Create is the one named, ascending, with zeros after; refused, out stays as it was: 8,
+// then 11 unless out is 32 numbers, 5 when no such Create is held, 18 above 20 Sets, 7 when more than 32 groups exist.
+pub fn enumerate_groups(
+    c: Counters,
+    records: &[u8],
+    objects: &[u16],
+    groups: &[u64],
+    site: Site,
+    seq: Seq,
+    out: &mut [u64],
+) -> Enumerated
+    ensures { λ r. ⌜ enumeration (numberOf (r .answer)) (r .count) (now (out .exit))
+        ≡ enumerationOf (tablesOf c (now (records .entry)) (now (objects .entry)) (now (groups .entry))) site seq
+        (now (out .entry)) ⌝ }
+{
+    if !table_soundness::is_sound(c, records, objects, groups) {
+        return Enumerated {
+            answer: Answer::Unsound,
+            count: 0,
+        };
+    }
+    if out.len() != GROUPS {
+        return Enumerated {
+            answer: Answer::NoRoom,
+            count: 0,
+        };
+    }
+    enumerate_held(records, c.records as usize, site, seq, out)
+}
