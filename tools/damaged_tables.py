@@ -233,6 +233,8 @@ KINDS = {
     "a site's count too high": count_damage(1),
     "a site's count too low": count_damage(-1),
     "a count at or past N": unused_count,
+    "a wrong sum": counter("sum", lambda rng, t: (t.sum + rng.choice((1, 1 << 16, 1 << 31, -1))) % rules.WRAP),
+    "the sum of no records": counter("sum", lambda rng, t: 0 if t.sum else -1),
     **{"a record fails %d" % number: record_damage(number) for number in range(1, 6)},
     "65 Creates": too_many_objects,
     "65 Sets of an object": too_many_sets,

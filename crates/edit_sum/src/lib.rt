@@ -3,7 +3,7 @@ use edit_record::RECORD;
 ghost use mathlib.Core.Path.{_≡_};
 ghost use Prim.Native.Nat.{_*_, _+_, _≤_};
 ghost use lib.ListN.{length};
-ghost use Rattle.edit_sum.specs.WordSum.{wordLength, wordAt, sumOf};
+ghost use Rattle.edit_sum.specs.WordSum.{wordLength, wordAt, wrapped, sumOf};
 
 // The bytes of a word, and the words of a record.
 const WORD: usize = 4;
@@ -20,6 +20,13 @@ fn word_at(s: &[u8], i: usize) -> u32
     low as u32 + high as u32 * 65536
 }
 
+// The sum of two numbers, wrapped at the top.
+pub fn added(a: u32, b: u32) -> u32
+    ensures { λ r. ⌜ r ≡ wrapped (a + b) ⌝ }
+{
+    std::num::wrapping_add_u32(a, b)
+}
+
 // The first n words added up, wrapped at the top.
 pub fn sum_words(s: &[u8], n: usize) -> u32
     requires { ⌜ n * wordLength ≤ length (now s) ⌝ }
@@ -28,7 +35,7 @@ pub fn sum_words(s: &[u8], n: usize) -> u32
     let mut sum: u32 = 0;
     let mut i: usize = 0;
     while i < n {
-        sum = std::num::wrapping_add_u32(sum, word_at(s, i));
+        sum = added(sum, word_at(s, i));
         i += 1;
     }
     sum

@@ -88,7 +88,7 @@ fn counted_with(c: Counters, s: Site, rec: &[u8], d: u16) -> Counters
 {
     let v = c.held;
     let held = edit_history::bumped(v, s);
-    let sum = std::num::wrapping_add_u32(c.sum, edit_sum::sum_words(rec, WORDS));
+    let sum = edit_sum::added(c.sum, edit_sum::sum_words(rec, WORDS));
     Counters {
         sites: c.sites,
         records: c.records + 1,

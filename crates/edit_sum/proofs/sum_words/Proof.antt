@@ -24,8 +24,8 @@ loop-holds c = (omega arith, refl)
 word-at-requires : tie.Need-word-at-requires Inv-loop μ-loop
 word-at-requires c κs = search needs
 
-wrapping-add-u32-requires : tie.Need-wrapping-add-u32-requires Inv-loop μ-loop
-wrapping-add-u32-requires c κs = search needs
+added-requires : tie.Need-added-requires Inv-loop μ-loop
+added-requires c κs = search needs
 
 add-i : tie.Need-add-i Inv-loop μ-loop
 add-i c = search needs
@@ -37,7 +37,7 @@ loop-again : tie.Need-loop-again Inv-loop μ-loop
 loop-again c =
     let l = c .before .before .before .loop in
     let s = now (c .before .before .before .before .before .args .s) in
-    (omega arith, rw (add-one, c .wrapping-add-u32 .ensures, c .before .word-at .ensures, l .inv .1) (sum-more (l .i) s))
+    (omega arith, rw (add-one, c .added .ensures, c .before .word-at .ensures, l .inv .1) (sum-more (l .i) s))
 
 returns : tie.Need-returns Inv-loop μ-loop
 returns c =
@@ -53,7 +53,7 @@ sum-words-spec =
     μ-loop
     loop-holds
     word-at-requires
-    wrapping-add-u32-requires
+    added-requires
     add-i
     loop-less
     loop-again

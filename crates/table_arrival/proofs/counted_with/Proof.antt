@@ -9,8 +9,8 @@ bumped-requires c κs = search needs
 sum-words-requires : tie.Need-sum-words-requires
 sum-words-requires c κs = search needs
 
-wrapping-add-u32-requires : tie.Need-wrapping-add-u32-requires
-wrapping-add-u32-requires c κs = search needs
+added-requires : tie.Need-added-requires
+added-requires c κs = search needs
 
 add-t9 : tie.Need-add-t9
 add-t9 c = search needs
@@ -21,8 +21,8 @@ add-t10 c = search needs
 returns : tie.Need-returns
 returns c =
     let add = c .before .before in
-    rw (add .wrapping-add-u32 .ensures, add .before .sum-words .ensures, add .before .before .bumped .ensures)
+    rw (add .added .ensures, add .before .sum-words .ensures, add .before .before .bumped .ensures)
 
 pub counted-with-spec : {M : Type 1} → statement M
 counted-with-spec =
-    tie.close (tie.spec bumped-requires sum-words-requires wrapping-add-u32-requires add-t9 add-t10 returns)
+    tie.close (tie.spec bumped-requires sum-words-requires added-requires add-t9 add-t10 returns)
