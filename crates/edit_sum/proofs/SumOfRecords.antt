@@ -1,5 +1,5 @@
--- The sum over a list of edits: it is the sum of the words of their records, and the sum of two lists one after the other
--- is the wrapped sum of the two. Assumes nothing.
+-- The sum over a list of edits: it is the sum of the words of their records, and the sum of two lists one after the
+-- other is the wrapped sum of the two. Assumes nothing.
 use mathlib.Core.Path.{_≡_, refl, sym, ap, ap₂, _∙_}
 use mathlib.Core.List.{List, [], _∷_, _++_}
 use Prim.Native.Nat.{ℕ, zero, suc, _+_, _*_}
@@ -40,8 +40,14 @@ held-words rs zero = refl
 held-words rs (suc n) =
     let more : suc n * recordWords ≡ n * recordWords + recordWords = omega arith in
     let at : n * recordWords * 4 ≡ n * recordLength = omega arith in
-    rw (more, words-joined (editsOf rs n) (recordAt rs n ∷ []), words-add (n * recordWords) recordWords rs,
-    held-words rs n, at, record-words (drop (n * recordLength) rs)) (omega arith)
+    rw (
+      more,
+      words-joined (editsOf rs n) (recordAt rs n ∷ []),
+      words-add (n * recordWords) recordWords rs,
+      held-words rs n,
+      at,
+      record-words (drop (n * recordLength) rs),
+    ) (omega arith)
 
 -- the sum of the words of the first n records is the sum over their edits
 pub held-sum : (rs : List ℕ) (n : ℕ) → sumOf (n * recordWords) rs ≡ sumOver (editsOf rs n)

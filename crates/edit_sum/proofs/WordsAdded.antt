@@ -68,8 +68,12 @@ words-behind n m a b h =
 
     front : (i : ℕ) → i < n → wordAt (a ++ b) i ≡ wordAt a i
     front i l =
-        rw (byte (i * wordLength) (omega arith), byte (i * wordLength + 1) (omega arith),
-        byte (i * wordLength + 2) (omega arith), byte (i * wordLength + 2 + 1) (omega arith))
+        rw (
+          byte (i * wordLength) (omega arith),
+          byte (i * wordLength + 1) (omega arith),
+          byte (i * wordLength + 2) (omega arith),
+          byte (i * wordLength + 2 + 1) (omega arith),
+        )
 
 -- the sum of bytes one behind the other is the wrapped sum of the two
 pub sums-behind :
@@ -87,8 +91,13 @@ zeros-sum k l = ap wrapped (go k)
     go : (k : ℕ) → _≡_ {A = ℕ} (sum k (wordAt (replicate l 0))) 0
     go zero = refl
     go (suc k) =
-        rw (go k, zero-anywhere l (k * wordLength), zero-anywhere l (k * wordLength + 1),
-        zero-anywhere l (k * wordLength + 2), zero-anywhere l (k * wordLength + 2 + 1))
+        rw (
+          go k,
+          zero-anywhere l (k * wordLength),
+          zero-anywhere l (k * wordLength + 1),
+          zero-anywhere l (k * wordLength + 2),
+          zero-anywhere l (k * wordLength + 2 + 1),
+        )
 
 -- zeros that are put in at a word's boundary, behind n words and before m, leave the sum as it is
 pub zeros-add-nothing :

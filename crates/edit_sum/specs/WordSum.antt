@@ -1,6 +1,6 @@
--- The sum of document 02's Req 11: a word is four bytes, little-endian, from a record's start; words are added up and the
--- sum wraps at the top of 32 bits. Records that stand one behind the other have the words of each, since a record is a
--- whole number of words. Assumes nothing.
+-- The sum of document 02's Req 11: a word is four bytes, little-endian, from a record's start; words are added up and
+-- the sum wraps at the top of 32 bits. Records that stand one behind the other have the words of each, since a record
+-- is a whole number of words. Assumes nothing.
 use mathlib.Core.List.{List}
 use Prim.Native.Nat.{ℕ, _*_, _/_, _%_, _^_}
 use Rattle.math_lists.specs.NumbersBelow.{sum}

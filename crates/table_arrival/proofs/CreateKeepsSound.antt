@@ -32,7 +32,8 @@ use Rattle.edit_causal.proofs.Identities.{same-parts}
 use Rattle.table_arrival.proofs.ObjectsByNumber.{chosen-none}
 use Rattle.table_arrival.proofs.EntriesAfterStore.{object-of, entry-long, entry-past, entry-here, entry-other}
 use Rattle.table_arrival.proofs.UntouchedSound.{creates-snoc, sets-snoc, room, held-after, records-long-after}
-use Rattle.table_arrival.proofs.UntouchedSound.{counts-after, sum-after, pass-after, records-zero-after, entry-kept}
+use Rattle.table_arrival.proofs.UntouchedSound.{counts-after, sum-after, pass-after, entry-kept}
+use Rattle.table_arrival.proofs.UntouchedSound.{records-zero-after}
 use Rattle.edit_record.proofs.WellFormed.{create-not-set}
 
 -- ---- an accepted edit is the first of its identity

@@ -35,7 +35,8 @@ use Rattle.table_arrival.proofs.EntriesAfterStore.{counts-sets, counts-
 use Rattle.table_arrival.proofs.EntriesAfterStore.{other-groups}
 use Rattle.table_arrival.proofs.RowsAfterStore.{row-put-long, row-elsewhere, new-row, other-row}
 use Rattle.table_arrival.proofs.UntouchedSound.{creates-snoc, held-after, records-long-after, counts-after}
-use Rattle.table_arrival.proofs.UntouchedSound.{sum-after, pass-after, records-zero-after, entry-kept, entry-grown}
+use Rattle.table_arrival.proofs.UntouchedSound.{sum-after, pass-after, entry-kept, entry-grown}
+use Rattle.table_arrival.proofs.UntouchedSound.{records-zero-after}
 use Rattle.edit_record.proofs.WellFormed.{set-not-create}
 
 -- ---- the row of its object

@@ -44,8 +44,12 @@ returns c =
     let s = c .before .before .before .before .before .before .before .before .before .before .before in
     let a = s .args in
     let t = tablesOf (a .c) (now (a .records)) (now (a .objects)) (now (a .groups)) in
-    rw (c .unused-zero .ensures, c .before .drawing-sound .ensures, c .before .before .sum-words .ensures,
-    c .before .before .before .counts-agree .ensures)
+    rw (
+      c .unused-zero .ensures,
+      c .before .drawing-sound .ensures,
+      c .before .before .sum-words .ensures,
+      c .before .before .before .counts-agree .ensures,
+    )
     (rest-is t (a .held) (now (a .places)) (s .pre))
 
 pub rest-sound-spec : {M : Type 1} → statement M
