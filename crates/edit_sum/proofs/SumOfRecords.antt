@@ -1,11 +1,10 @@
 -- The sum over a list of edits: it is the sum of the words of their records, and the sum of two lists one after the
 -- other is the wrapped sum of the two. Assumes nothing.
-use mathlib.Core.Path.{_≡_, refl, sym, ap, ap₂, _∙_}
+use mathlib.Core.Path.{_≡_, refl, ap, _∙_}
 use mathlib.Core.List.{List, [], _∷_, _++_}
 use Prim.Native.Nat.{ℕ, zero, suc, _+_, _*_}
-use native.Mathlib.Nat.{add-assoc}
 use native.Mathlib.Omega.{arith}
-use lib.ListN.{getD, drop}
+use lib.ListN.{drop}
 use lib.Seq.{getD-drop}
 use Rattle.math_lists.specs.NumbersBelow.{sum}
 use Rattle.edit_record.specs.declared.Edit.{Edit}

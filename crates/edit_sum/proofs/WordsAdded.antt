@@ -1,15 +1,15 @@
 -- Words added up: one word more, words behind others, and words that are zero. Assumes nothing.
 use mathlib.Core.Path.{_≡_, refl, sym, ap, ap₂, _∙_}
 use mathlib.Core.List.{List, _++_}
-use Prim.Native.Nat.{ℕ, zero, suc, _+_, _*_, _^_, _≤_, _<_}
+use Prim.Native.Nat.{ℕ, zero, suc, _+_, _*_, _^_, _<_}
 use native.Mathlib.Nat.{mod-add-mod, add-mod-mod, add-mod, add-assoc, add-suc, zero-add}
 use native.Mathlib.Omega.{arith}
 use lib.ListN.{length, getD, drop, replicate, length-replicate, List·getD-append}
-use lib.Seq.{getD-drop, drop-at}
+use lib.Seq.{drop-at}
 use Rattle.math_lists.specs.NumbersBelow.{sum}
 use Rattle.math_lists.proofs.NumbersBelow.{sum-same}
 use Rattle.math_lists.proofs.ByPlaces.{zero-anywhere}
-use Rattle.edit_record.specs.RecordBytes.{two, four}
+use Rattle.edit_record.specs.RecordBytes.{two}
 use Rattle.edit_record.proofs.NumbersInBytes.{two-drop}
 use Rattle.edit_sum.specs.WordSum.{wordLength, wordAt, wrapped, sumOf}
 
