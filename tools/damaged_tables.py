@@ -215,7 +215,9 @@ def unused_group(last):
         if k is None:
             return None
         at = VERSIONS * (k + 1) - 1 if last else VERSIONS * k + len(row(t, k))
-        return t._replace(groups=changed(t.groups, at, row(t, k)[-1] + 1))
+        # above a group of all 64 Sets there is none
+        more = (row(t, k)[-1] + 1) % (1 << SETS) or 1
+        return t._replace(groups=changed(t.groups, at, more))
     return damage
 
 
