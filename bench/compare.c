@@ -20,7 +20,7 @@ static void must(int same, const char *what) {
 
 int is_same_drawing(const struct drawing *a, const struct drawing *b) {
     const struct spireslate_counters *c = &a->counters, *d = &b->counters;
-    return c->sites == d->sites && c->records == d->records && c->objects == d->objects &&
+    return c->sites == d->sites && c->records == d->records && c->objects == d->objects && c->sum == d->sum &&
            memcmp(c->held, d->held, sizeof c->held) == 0 && memcmp(a->records, b->records, sizeof a->records) == 0 &&
            memcmp(a->objects, b->objects, sizeof a->objects) == 0 &&
            memcmp(a->groups, b->groups, sizeof a->groups) == 0;
@@ -163,11 +163,12 @@ static void put_untrue_row(struct drawing *d, unsigned o) {
 static void damage(struct drawing *d) {
     struct spireslate_counters *c = &d->counters;
     unsigned o = random_below(c->objects + 1u), bit = random_below(8);
-    switch (random_below(8)) {
+    switch (random_below(9)) {
     case 0: c->held[random_below(SPIRESLATE_SITES)] ^= (uint16_t)(1u << bit); break;
     case 1: c->records ^= (uint16_t)(1u << bit); break;
     case 2: c->objects ^= (uint16_t)(1u << bit); break;
     case 3: c->sites ^= (uint8_t)(1u << bit); break;
+    case 8: c->sum ^= 1u << bit; break;
     case 4:
         d->records[random_below((c->records + 1u) * SPIRESLATE_RECORD) % SPIRESLATE_RECORDS_LENGTH] ^=
             (uint8_t)(1u << bit);

@@ -107,7 +107,8 @@ void make_disputed(struct file *f) {
     file_close(f);
 }
 
-enum { BOX_SETS = 20 };
+/* Values that lie so far apart are in two squares of the grid, so that they differ under every key. */
+enum { BOX_SETS = 20, APART = 8 };
 
 /* A Create that all sites have seen. */
 static void open_box(struct file *f, const char *name) {
@@ -132,19 +133,19 @@ void make_calm(struct file *f) {
 
 void make_row(struct file *f) {
     open_box(f, "20 Sets, 32 groups");
-    for (unsigned i = 0; i < 2 * DISPUTED_KEYS; i++) file_set(f, 1 + i % 2, 0, 1, i / 2, i);
+    for (unsigned i = 0; i < 2 * DISPUTED_KEYS; i++) file_set(f, 1 + i % 2, 0, 1, i / 2, APART * i);
     settle_box(f);
 }
 
 void make_eight(struct file *f) {
     open_box(f, "20 Sets, 8 groups");
-    for (unsigned i = 0; i < BOX_SETS; i++) file_set(f, i % SITES, 0, 1, 0, i);
+    for (unsigned i = 0; i < BOX_SETS; i++) file_set(f, i % SITES, 0, 1, 0, APART * i);
     file_close(f);
 }
 
 void make_pairs(struct file *f) {
     open_box(f, "20 Sets, 1,024 groups");
-    for (unsigned i = 0; i < BOX_SETS; i++) file_set(f, 1 + i % 2, 0, 1, i / 2, i);
+    for (unsigned i = 0; i < BOX_SETS; i++) file_set(f, 1 + i % 2, 0, 1, i / 2, APART * i);
     file_close(f);
 }
 
@@ -159,7 +160,7 @@ void make_hard(struct file *f) {
     open_box(f, "20 Sets, a long search");
     for (unsigned i = 0; i < sizeof made / sizeof *made; i++) {
         if (made[i][2] == SEES) file_sync(f, made[i][0], made[i][1]);
-        else file_set(f, made[i][0], 0, 1, made[i][1], made[i][2]);
+        else file_set(f, made[i][0], 0, 1, made[i][1], APART * made[i][2]);
     }
     file_close(f);
 }
@@ -170,6 +171,8 @@ void hold_untrue(struct drawing *d, const struct file *f) {
     d->counters.records = (uint16_t)f->records;
     d->counters.objects = 1;
     for (unsigned i = 0; i < f->records; i++) d->counters.held[f->bytes[i * SPIRESLATE_RECORD + 1]]++;
+    for (size_t i = 0; i < f->records * SPIRESLATE_RECORD; i++)
+        d->counters.sum += (uint32_t)f->bytes[i] << 8 * (i % sizeof d->counters.sum);
     memcpy(d->records, f->bytes, f->records * SPIRESLATE_RECORD);
     d->objects[1] = (uint16_t)(f->records - 1);
     d->objects[2] = 1;

@@ -84,6 +84,7 @@ static void put_counters(struct spireslate_counters *c, const struct index *x) {
     c->records = (uint16_t)x->records;
     c->objects = (uint16_t)x->objects;
     memcpy(c->held, x->held, sizeof c->held);
+    c->sum = x->sum;
 }
 
 static void open_tables(struct spireslate_counters *c, uint8_t *records, uint16_t *objects, uint64_t *groups,
@@ -169,7 +170,7 @@ uint8_t plain_check(struct spireslate_counters counters, const uint8_t *records,
     index_open(&x, counters.sites);
     if (take_all(&x, given_objects, given_groups, records, counters.records).number != SPIRESLATE_DONE ||
         counters.objects != x.objects || memcmp(counters.held, x.held, sizeof x.held) != 0 ||
-        !zero_bytes(records + used, SPIRESLATE_RECORDS_LENGTH - used) ||
+        counters.sum != x.sum || !zero_bytes(records + used, SPIRESLATE_RECORDS_LENGTH - used) ||
         memcmp(objects, given_objects, sizeof given_objects) != 0 ||
         memcmp(groups, given_groups, sizeof given_groups) != 0)
         return SPIRESLATE_UNSOUND;

@@ -19,7 +19,7 @@ static void find_conflicts(struct search *s, const struct index *x, unsigned o) 
         const struct edit *b = &x->edits[x->set[o][j]];
         for (unsigned i = 0; i < j; i++) {
             const struct edit *a = &x->edits[x->set[o][i]];
-            if (a->key != b->key || a->value == b->value || b->vector[a->site] >= a->seq) continue;
+            if (a->key != b->key || shown_value(a) == shown_value(b) || b->vector[a->site] >= a->seq) continue;
             s->conflicts[i] |= UINT64_C(1) << j;
             s->conflicts[j] |= UINT64_C(1) << i;
         }

@@ -7,6 +7,7 @@
 void index_open(struct index *x, unsigned sites) {
     x->sites = sites;
     x->records = x->objects = 0;
+    x->sum = 0;
     memset(x->held, 0, sizeof x->held);
 }
 
@@ -55,11 +56,20 @@ unsigned index_judge(const struct index *x, const struct edit *e) {
     return SPIRESLATE_DONE;
 }
 
+/* The words of an edit's record, added up and wrapped. */
+static uint32_t word_sum(const struct edit *e) {
+    uint32_t words[SPIRESLATE_RECORD / sizeof(uint32_t)], sum = 0;
+    memcpy(words, e, sizeof words);
+    for (unsigned i = 0; i < sizeof words / sizeof *words; i++) sum += words[i];
+    return sum;
+}
+
 void index_add(struct index *x, const struct edit *e) {
     unsigned i = x->records++;
     x->edits[i] = *e;
     x->place[e->site][e->seq] = (uint16_t)i;
     x->held[e->site]++;
+    x->sum += word_sum(e);
     if (e->kind == CREATE) {
         unsigned o = x->objects++;
         x->object[i] = (uint8_t)o;
@@ -110,7 +120,7 @@ int index_sound(struct index *x, const struct spireslate_counters *c, const uint
     if (c->sites < 1 || c->sites > SITES || c->records > RECORDS || c->objects > OBJECTS) return 0;
     index_open(x, c->sites);
     if (!walk(x, records, c->records, c->objects)) return 0;
-    if (memcmp(x->held, c->held, sizeof x->held) != 0) return 0;
+    if (memcmp(x->held, c->held, sizeof x->held) != 0 || x->sum != c->sum) return 0;
     for (unsigned o = 0; o < x->objects; o++) {
         const uint16_t *entry = objects + o * ENTRY;
         if (entry[0] != x->create[o] || entry[1] != x->sets[o]) return 0;

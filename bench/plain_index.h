@@ -31,6 +31,7 @@ static inline uint32_t shown_value(const struct edit *e) {
 struct index {
     unsigned sites, records, objects;
     uint16_t held[SITES];
+    uint32_t sum; /* of all words of the edits' records */
     struct edit edits[RECORDS];
     uint16_t place[SITES][RECORDS + 1]; /* of the edit site.seq */
     uint8_t object[RECORDS];            /* that the Create in this place made */

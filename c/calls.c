@@ -23,8 +23,9 @@ enum { COUNTERS, RECORDS, OBJECTS, GROUPS, RECORD, STORED, OUTPUT, SLOTS };
 enum { OPEN, ARRIVE, READ, CHECK, WRITE, LINE, LIST, LOCATE, ENUMERATE };
 /* The guard's size keeps a slot aligned for every type. */
 enum { GUARD = 1024, MARK = 0xA5 };
-/* Between the number of sites and the number of records the counters have a byte that C leaves open. */
-enum { PADDING = 1 };
+/* The bytes of the counters that C leaves open: one before the number of records, and two before the sum. */
+static const size_t padding[] = {1, offsetof(struct spireslate_counters, sum) - 2,
+                                 offsetof(struct spireslate_counters, sum) - 1};
 
 struct slot {
     uint8_t *memory; /* a guard, the bytes, a guard */
@@ -168,7 +169,8 @@ static void call(void) {
     take(&r.start, sizeof r.start);
     for (int s = 0; s < SLOTS; s++) memcpy(slots[s].before, slots[s].memory, whole(&slots[s]));
     struct outcome o = make_call(&r);
-    bytes_of(COUNTERS)[PADDING] = slots[COUNTERS].before[GUARD + PADDING];
+    for (size_t i = 0; i < sizeof padding / sizeof *padding; i++)
+        bytes_of(COUNTERS)[padding[i]] = slots[COUNTERS].before[GUARD + padding[i]];
     give_outcome(&o);
 }
 

@@ -8,7 +8,7 @@
 #include "spireslate.h"
 
 /* The layouts that the library was compiled with. */
-_Static_assert(sizeof(struct spireslate_counters) == 22, "counters");
+_Static_assert(sizeof(struct spireslate_counters) == 28, "counters");
 _Static_assert(sizeof(struct spireslate_file_answer) == 16, "answer to a file");
 _Static_assert(sizeof(struct spireslate_write_answer) == 16, "answer to a call that writes");
 _Static_assert(sizeof(struct spireslate_groups_answer) == 16, "answer to a call that gives groups");
@@ -55,7 +55,7 @@ static void take_edits(struct drawing *d) {
 static void print_counters(const struct drawing *d) {
     printf("sites %d records %d objects %d held", d->counters.sites, d->counters.records, d->counters.objects);
     for (int s = 0; s < SPIRESLATE_SITES; s++) printf(" %d", d->counters.held[s]);
-    printf("\n");
+    printf(" sum %lu\n", (unsigned long)d->counters.sum);
 }
 
 static void print_lines(const struct drawing *d) {

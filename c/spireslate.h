@@ -48,15 +48,17 @@ enum {
     SPIRESLATE_LIST = 1790826         /* no list is longer: 2,049 lines */
 };
 
-/* The counters of a drawing, which the caller keeps beside its three tables: N, the records and the objects held, and
-   how many edits of each site are held. The tables are: the records' bytes in arrival order; for each object the place
-   of its Create among the records, its number of Sets and its number of groups; and for each object 32 groups, where
-   bit i stands for the object's i-th Set. What is not used is zero. */
+/* The counters of a drawing, which the caller keeps beside its three tables: N, the records and the objects held, how
+   many edits of each site are held, and the sum of all words of the records held, which wraps at 32 bits: different
+   sums mean different edits, equal sums promise nothing. The tables are: the records' bytes in arrival order; for each
+   object the place of its Create among the records, its number of Sets and its number of groups; and for each object
+   32 groups, where bit i stands for the object's i-th Set. What is not used is zero. */
 struct spireslate_counters {
     uint8_t sites;
     uint16_t records;
     uint16_t objects;
     uint16_t held[SPIRESLATE_SITES];
+    uint32_t sum;
 };
 
 /* The answer to a file that is read, and the index from 0 of the refused record; 0 where none is refused. */

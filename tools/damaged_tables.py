@@ -215,7 +215,9 @@ def unused_group(last):
         if k is None:
             return None
         at = VERSIONS * (k + 1) - 1 if last else VERSIONS * k + len(row(t, k))
-        return t._replace(groups=changed(t.groups, at, row(t, k)[-1] + 1))
+        # above a group of all 64 Sets there is none
+        more = (row(t, k)[-1] + 1) % (1 << SETS) or 1
+        return t._replace(groups=changed(t.groups, at, more))
     return damage
 
 
@@ -233,6 +235,8 @@ KINDS = {
     "a site's count too high": count_damage(1),
     "a site's count too low": count_damage(-1),
     "a count at or past N": unused_count,
+    "a wrong sum": counter("sum", lambda rng, t: (t.sum + rng.choice((1, 1 << 16, 1 << 31, -1))) % rules.WRAP),
+    "the sum of no records": counter("sum", lambda rng, t: 0 if t.sum else -1),
     **{"a record fails %d" % number: record_damage(number) for number in range(1, 6)},
     "65 Creates": too_many_objects,
     "65 Sets of an object": too_many_sets,

@@ -19,8 +19,8 @@ DECIDED = 20
 # the room that the call for all lines asks for: 2,049 lines of 874 bytes
 LONGEST_LIST = 2049 * 874
 
-# the counters N, records, objects and held (a count per site); then bytes, and two tuples of numbers
-Tables = namedtuple("Tables", "sites records objects held places entries groups")
+# the counters N, records, objects, held (a count per site) and sum; then bytes, and two tuples of numbers
+Tables = namedtuple("Tables", "sites records objects held sum places entries groups")
 # the number given back, what else is given back, and the tables and the output after the call; None: as they were
 Outcome = namedtuple("Outcome", "number sites records value tables output", defaults=(0, 0, 0, None, None))
 
@@ -34,7 +34,7 @@ def has_lengths(t):
 
 
 def empty(n):
-    return Tables(n, 0, 0, (0,) * SITES, bytes(RECORDS * RECORD), filled((), OBJECTS * ENTRY),
+    return Tables(n, 0, 0, (0,) * SITES, 0, bytes(RECORDS * RECORD), filled((), OBJECTS * ENTRY),
                   filled((), OBJECTS * VERSIONS))
 
 
@@ -73,7 +73,7 @@ def built(n, data, edits, rows):
         entries += [place, len(drawing.sets(rules.name(edits[place]))), len(numbers)]
         groups += filled(numbers, VERSIONS)
     held = tuple(drawing.count(s) for s in range(SITES))
-    return Tables(n, len(edits), len(rows), held, data + bytes(RECORDS * RECORD - len(data)),
+    return Tables(n, len(edits), len(rows), held, drawing.sum(), data + bytes(RECORDS * RECORD - len(data)),
                   filled(entries, OBJECTS * ENTRY), filled(groups, OBJECTS * VERSIONS))
 
 
@@ -115,6 +115,8 @@ def sound_edits(t):
     drawing = rules.Drawing(t.sites, edits)
     creates = [i for i, e in enumerate(edits) if e.kind == rules.CREATE]
     if len(creates) != t.objects or t.held != tuple(drawing.count(s) for s in range(SITES)):
+        return None
+    if t.sum != drawing.sum():
         return None
     if any(t.entries[ENTRY * t.objects:]) or any(t.groups[VERSIONS * t.objects:]):
         return None

@@ -12,7 +12,7 @@ from independent_tables import as_numbers
 
 CALLS = ("open", "arrive", "read", "check", "write", "line", "list", "locate", "groups")
 SLOTS = ("counters", "records", "objects", "groups", "record", "file", "output")
-COUNTERS = struct.Struct("<BxHH8H")
+COUNTERS = struct.Struct("<BxHH8H2xI")
 MADE = struct.Struct("<cBBQQ")
 GIVEN = struct.Struct("<BBHQB")
 CHANGE = struct.Struct("<II")
@@ -25,7 +25,7 @@ Result = namedtuple("Result", "number sites records value touched slots")
 
 def as_slots(t):
     """Counters and tables as C keeps them."""
-    return {"counters": COUNTERS.pack(t.sites, t.records, t.objects, *t.held), "records": t.places,
+    return {"counters": COUNTERS.pack(t.sites, t.records, t.objects, *t.held, t.sum), "records": t.places,
             "objects": struct.pack("<%dH" % len(t.entries), *t.entries), "groups": as_numbers(t.groups)}
 
 

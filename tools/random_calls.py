@@ -50,7 +50,7 @@ def random_tables(rng):
     def numbers(below, length):
         return tuple(rng.randrange(below) for _ in range(length))
     return Tables(rng.randrange(BYTE), rng.randrange(HALF), rng.randrange(HALF), numbers(HALF, SITES),
-                  rng.randbytes(RECORDS * RECORD), numbers(HALF, OBJECTS * ENTRY),
+                  rng.randrange(rules.WRAP), rng.randbytes(RECORDS * RECORD), numbers(HALF, OBJECTS * ENTRY),
                   numbers(LARGEST + 1, OBJECTS * VERSIONS))
 
 

@@ -13,6 +13,11 @@ def record(kind, site, vector, target=(0, 0), key=0, value=0):
     return struct.pack("<BBH8HBBHI", kind, site, vector[site], *vector, target[0], key, target[1], value)
 
 
+def word_sum(records):
+    """The words of these records, four bytes each, added up and wrapped at the top of 32 bits."""
+    return sum(sum(struct.unpack("<%dI" % (RECORD // 4), r)) for r in records) % (1 << 32)
+
+
 def trailer(number, sites, zero=0, distance=None):
     """The trailer of so many records; the distance is the right one unless another is given."""
     return struct.pack("<HBBI", number, sites, zero, RECORD * number if distance is None else distance)

@@ -12,3 +12,4 @@ pub mod ReplayAccepted
 pub mod AnyOrderAccepted
 pub mod SameGroups
 pub mod SameDrawings
+pub mod SumAnyOrder

@@ -15,6 +15,7 @@ use Rattle.edit_record.specs.Layout.{mostSites}
 use Rattle.edit_record.specs.Answer1.{isCreate}
 use Rattle.edit_causal.specs.TotalOrder.{ranksBefore}
 use Rattle.edit_history.specs.EditsHeld.{editsOf, creates}
+use Rattle.edit_sum.specs.SumOfEdits.{sumOver}
 use Rattle.table_drawing.specs.Tables.{Tables, heldBy}
 use Rattle.table_replay.specs.Replay.{replayOf}
 use Rattle.table_replay.proofs.ReplayFaithful.{replay-faithful}
@@ -22,6 +23,7 @@ use Rattle.demand_any_order.specs.Rearranged.{Mem, Rearranged, recordsOf}
 use Rattle.demand_any_order.specs.Settled.{Causal, Apart}
 use Rattle.demand_any_order.specs.EqualEdits.{isEqual}
 use Rattle.demand_any_order.proofs.Rearranged.{turned, same-length, same-members, chosen-rearranged}
+use Rattle.demand_any_order.proofs.SumAnyOrder.{sum-any-order}
 use Rattle.demand_any_order.proofs.PairsInList.{pairs-chosen, pairs-rearranged}
 use Rattle.demand_any_order.proofs.Identities.{has-on, has-at}
 use Rattle.demand_any_order.proofs.ReplayAccepted.{replay-holds}
@@ -87,8 +89,10 @@ module _ (es fs : List Edit) (r : Rearranged es fs) (u : Apart es) (small : Numb
   same-lines-over : (n : ℕ) → linesOver n es ≡ linesOver n fs
   unfolding linesOver
   same-lines-over n =
-      ap₂ (λ (k : ℕ) (ls : List (List ℕ)). headLine n k (length ls) ∷ ls) (same-length creates-rearranged)
+      ap₂ (λ (k : ℕ) (ls : List (List ℕ)). headLine n k (length ls) (sumOver es) ∷ ls) (same-length creates-rearranged)
       same-version-lines
+      ∙ ap (λ (k : ℕ). headLine n (length (creates fs)) (length (versionLines fs)) k ∷ versionLines fs)
+      (sum-any-order r)
 
 -- ---- records
 

@@ -3,6 +3,7 @@ use mathlib.Core.Path.{_≡_, sym, ap, ap₂, _∙_}
 use mathlib.Core.List.{List, _∷_, flatMap}
 use Prim.Native.Nat.{ℕ}
 use lib.ListN.{length}
+use Rattle.edit_sum.proofs.SumOfRecords.{held-sum}
 use Rattle.table_drawing.specs.Tables.{Tables, heldBy}
 use Rattle.table_arrival.proofs.Faithful.{Faithful}
 use Rattle.list_text.specs.HeadAndRefusal.{headLine}
@@ -30,7 +31,8 @@ module _ (t : Tables) (f : Faithful t) where
   lines-over-list =
       let s = f .kept .isSound in
       let total : versionTotal t ≡ length (versionLines (heldBy t)) = sym (lines-total t s) ∙ ap length versions-over in
-      ap₂ (λ (k : ℕ) (ls : List (List ℕ)). headLine (t .counters .sites) (t .counters .objects) k ∷ ls) total
-      versions-over
-      ∙ ap (λ (m : ℕ). headLine (t .counters .sites) m (length (versionLines (heldBy t))) ∷ versionLines (heldBy t))
-      (s .objects)
+      let held = heldBy t in
+      ap₂ (λ (k : ℕ) (ls : List (List ℕ)).
+      headLine (t .counters .sites) (t .counters .objects) k (t .counters .sum) ∷ ls) total versions-over
+      ∙ ap₂ (λ (m k : ℕ). headLine (t .counters .sites) m (length (versionLines held)) k ∷ versionLines held)
+      (s .objects) (s .sum ∙ held-sum (t .records) (t .counters .records))

@@ -2,11 +2,11 @@
 -- the cases are computed over the edits alone. Assumes nothing.
 use mathlib.Core.Path.{_≡_, refl, sym, ap, _∙_}
 use mathlib.Core.Bool.{false}
-use mathlib.Core.List.{List, [], _∷_, map, flatMap}
-use Prim.Native.Nat.{ℕ, suc, _-_, _*_, _≤_}
+use mathlib.Core.List.{List, [], _∷_, _++_, map, flatMap}
+use Prim.Native.Nat.{ℕ, suc, _-_, _*_, _^_, _≤_, _<_}
 use native.Mathlib.Omega.{arith}
 use lib.Dec.{eqb}
-use lib.ListN.{length}
+use lib.ListN.{length, length-map, drop}
 use Rattle.math_lists.specs.NumbersBelow.{some, all, sum, keep}
 use Rattle.math_lists.specs.SortedLists.{any, filter, insertBy, gatherBy, insert, gather}
 use Rattle.edit_record.specs.declared.Edit.{Edit}
@@ -16,6 +16,7 @@ use Rattle.edit_record.specs.Answer1.{nonzeroPast, unfit}
 use Rattle.edit_causal.specs.TotalOrder.{vectorSum}
 use Rattle.edit_history.specs.EditsHeld.{editsOf, countFrom, creates, setsOn}
 use Rattle.edit_history.specs.Answers2to5.{isRepeated, isEarly, largerSomewhere, isTorn, isAstray}
+use Rattle.edit_sum.specs.SumOfEdits.{wordsIn, wordsOver, sumOver}
 use Rattle.math_maximal.specs.Groups.{bit, fits, isMaximal, groups}
 use Rattle.math_maximal.specs.GroupsByArrival.{rel, groupsOf}
 use Rattle.table_arrival.specs.Answers6and7.{firstOf}
@@ -24,7 +25,9 @@ use Rattle.group_true.specs.Disputed.{isDisputed}
 use Rattle.table_replay.specs.Replay.{replayOf}
 use Rattle.demand_any_order.specs.Settled.{fullOver, crowdedOver, listAnswer}
 use Rattle.list_text.specs.Decimal.{lastDigits, decimal}
+use Rattle.list_text.specs.Pieces.{newline, sitesWord, objectsWord, versionsWord, sumWord, wordDigits}
 use Rattle.list_text.specs.HeadAndRefusal.{headLine}
+use Rattle.list_text.proofs.OneDecimal.{all-digits}
 use Rattle.list_version.specs.Members.{membersOf}
 use Rattle.list_version.specs.Identifier.{identifierOf}
 use Rattle.list_version.specs.Values.{later, lastAfter, lastWith}
@@ -37,10 +40,32 @@ use Rattle.demand_list.proofs.ReplayAnswered.{answerOver, index-next, a
 
 -- ---- what is computed of a case
 
--- the edits that its records give; and what they are answered and print
+-- line 0, with the digits of the sum
+abbrev headWith : ℕ → ℕ → List ℕ → List ℕ
+headWith objects versions sum =
+    sitesWord ++ decimal sites
+    ++ objectsWord ++ decimal objects
+    ++ versionsWord ++ decimal versions
+    ++ sumWord ++ sum
+    ++ (newline ∷ [])
+
+head-with :
+    (objects versions : ℕ) (es : List Edit) →
+    headLine sites objects versions (sumOver es) ≡ headWith objects versions (lastDigits wordDigits (sumOver es))
+unfolding headLine
+head-with objects versions es =
+    let few : sumOver es < 10 ^ wordDigits = unfold sumOver in omega arith in
+    ap (headWith objects versions) (all-digits wordDigits (sumOver es) (omega arith) few)
+
+-- the edits that its records give; and what they are answered and print: the lines of the versions are computed once,
+-- and line 0 from their number
 abbrev Gives : List Edit → ℕ → Expected → Type 0
 Gives es k (refused a) = (answerOver sites es k ≡ 0) × (answerOver sites es (suc k) ≡ a) × (eqb a 0 ≡ false)
-Gives es k (prints ls) = (answerOver sites es (suc k) ≡ 0) × (linesOver sites es ≡ map bytesOf ls)
+Gives es k (prints []) = ⊥
+Gives es k (prints (l ∷ ls)) =
+    (answerOver sites es (suc k) ≡ 0)
+    × (versionLines es ≡ map bytesOf ls)
+    × (headWith (length (creates es)) (length ls) (lastDigits wordDigits (sumOver es)) ≡ bytesOf l)
 
 abbrev Computed : Case → Type 0
 Computed c =
@@ -85,10 +110,17 @@ by-computing c (some-edit, long, are, gives) = go (c .expected) gives
         = to-last (λ i. replayOf sites rs i .index)
         ∙ index-next sites rs k z (ap (λ (i : ℕ). eqb i 0) one-more ∙ some-answer) in
         (all, omega arith)
-    go (prints ls) (last, lines) =
+    go (prints []) none = absurd none
+    go (prints (l ∷ ls)) (last, lines, head) =
         let all : replayOf sites rs n .answer ≡ 0
         = answer n (omega arith) ∙ to-last (answerOver sites es) ∙ last in
-        (all, printed sites (omega arith) (omega arith) rs n (omega arith) es are all ∙ lines)
+        let whole : linesOver sites es ≡ bytesOf l ∷ map bytesOf ls
+        = unfold linesOver in
+        ap (λ (vs : List (List ℕ)). headLine sites (length (creates es)) (length vs) (sumOver es) ∷ vs) lines
+        ∙ ap (λ (h : List ℕ). h ∷ map bytesOf ls)
+        (ap (λ (v : ℕ). headLine sites (length (creates es)) v (sumOver es)) (length-map ls bytesOf)
+        ∙ head-with (length (creates es)) (length ls) es ∙ head) in
+        (all, printed sites (omega arith) (omega arith) rs n (omega arith) es are all ∙ whole)
 
 all-by-computing : (cs : List Case) → AllComputed cs → AllHold cs
 all-by-computing [] h = tt
@@ -100,37 +132,67 @@ infixr 20 _also_
 abbrev _also_ : {A B : Type 0} → A → B → A × B
 _also_ a b = (a, b)
 
+-- P10 to P12, and the example of 'The printed list'
+computed-last : AllComputed (drop 14 cases)
+unfolding cases bytesOf flatMap countBytes counts editsOf answerOver listAnswer firstOf unfit nonzeroPast isRepeated
+    isEarly countFrom isTorn largerSomewhere isAstray fullOver crowdedOver some all sum keep any filter creates
+    setsOn trueGroups groupsOf groups isMaximal fits rel bit linesOver versionLines linesIn gatherBy insertBy
+    gather insert vectorSum objectLines versionsOf isAhead lex identifierOf membersOf isDisputed versionLine
+    identifierText settingsText settingText lastWith lastAfter later headLine decimal lastDigits
+    sumOver wordsOver wordsIn
+computed-last =
+    (refl, refl, refl, (refl, refl, refl))
+    also (refl, refl, refl, (refl, refl, refl))
+    also (refl, refl, refl, (refl, refl, refl))
+    also (refl, refl, refl, (refl, refl, refl))
+    also tt
+
+-- P8 and P9
+computed-later : AllComputed (drop 12 cases)
+unfolding cases bytesOf flatMap countBytes counts editsOf answerOver listAnswer firstOf unfit nonzeroPast isRepeated
+    isEarly countFrom isTorn largerSomewhere isAstray fullOver crowdedOver some all sum keep any filter creates
+    setsOn trueGroups groupsOf groups isMaximal fits rel bit linesOver versionLines linesIn gatherBy insertBy
+    gather insert vectorSum objectLines versionsOf isAhead lex identifierOf membersOf isDisputed versionLine
+    identifierText settingsText settingText lastWith lastAfter later headLine decimal lastDigits
+    sumOver wordsOver wordsIn
+computed-later =
+    (refl, refl, refl, (refl, refl, refl))
+    also (refl, refl, refl, (refl, refl, refl))
+    also computed-last
+
+-- P7 in all six orders
+computed-seventh : AllComputed (drop 6 cases)
+unfolding cases bytesOf flatMap countBytes counts editsOf answerOver listAnswer firstOf unfit nonzeroPast isRepeated
+    isEarly countFrom isTorn largerSomewhere isAstray fullOver crowdedOver some all sum keep any filter creates
+    setsOn trueGroups groupsOf groups isMaximal fits rel bit linesOver versionLines linesIn gatherBy insertBy
+    gather insert vectorSum objectLines versionsOf isAhead lex identifierOf membersOf isDisputed versionLine
+    identifierText settingsText settingText lastWith lastAfter later headLine decimal lastDigits
+    sumOver wordsOver wordsIn
+computed-seventh =
+    (refl, refl, refl, (refl, refl, refl))
+    also (refl, refl, refl, (refl, refl, refl))
+    also (refl, refl, refl, (refl, refl, refl))
+    also (refl, refl, refl, (refl, refl, refl))
+    also (refl, refl, refl, (refl, refl, refl))
+    also (refl, refl, refl, (refl, refl, refl))
+    also computed-later
+
+-- P1 to P6
 computed : AllComputed cases
 unfolding cases bytesOf flatMap countBytes counts editsOf answerOver listAnswer firstOf unfit nonzeroPast isRepeated
     isEarly countFrom isTorn largerSomewhere isAstray fullOver crowdedOver some all sum keep any filter creates
     setsOn trueGroups groupsOf groups isMaximal fits rel bit linesOver versionLines linesIn gatherBy insertBy
     gather insert vectorSum objectLines versionsOf isAhead lex identifierOf membersOf isDisputed versionLine
     identifierText settingsText settingText lastWith lastAfter later headLine decimal lastDigits
+    sumOver wordsOver wordsIn
 computed =
-    -- P1 to P6
-    (refl, refl, refl, (refl, refl))
-    also (refl, refl, refl, (refl, refl))
-    also (refl, refl, refl, (refl, refl))
-    also (refl, refl, refl, (refl, refl))
-    also (refl, refl, refl, (refl, refl))
-    also (refl, refl, refl, (refl, refl))
-    -- P7 in all six orders
-    also (refl, refl, refl, (refl, refl))
-    also (refl, refl, refl, (refl, refl))
-    also (refl, refl, refl, (refl, refl))
-    also (refl, refl, refl, (refl, refl))
-    also (refl, refl, refl, (refl, refl))
-    also (refl, refl, refl, (refl, refl))
-    -- P8 and P9
-    also (refl, refl, refl, (refl, refl))
-    also (refl, refl, refl, (refl, refl))
-    -- P10 to P12
+    (refl, refl, refl, (refl, refl, refl))
     also (refl, refl, refl, (refl, refl, refl))
     also (refl, refl, refl, (refl, refl, refl))
     also (refl, refl, refl, (refl, refl, refl))
-    -- the example of 'The printed list'
-    also (refl, refl, refl, (refl, refl))
-    also tt
+    also (refl, refl, refl, (refl, refl, refl))
+    also (refl, refl, refl, (refl, refl, refl))
+    also computed-seventh
 
 pub worked-cases : AllHold cases
 worked-cases = all-by-computing cases computed

@@ -7,6 +7,7 @@ use Rattle.math_lists.specs.SortedLists.{gatherBy}
 use Rattle.edit_record.specs.declared.Edit.{Edit}
 use Rattle.edit_causal.specs.TotalOrder.{ranksBefore}
 use Rattle.edit_history.specs.EditsHeld.{creates, setsOn}
+use Rattle.edit_sum.specs.SumOfEdits.{sumOver}
 use Rattle.group_true.specs.TrueGroups.{trueGroups}
 use Rattle.list_text.specs.HeadAndRefusal.{headLine}
 use Rattle.list_line.specs.Line.{objectLines}
@@ -21,4 +22,4 @@ versionLines es = flatMap (linesIn es) (gatherBy ranksBefore [] (creates es))
 
 -- in a drawing of n sites, with line 0
 unfoldable pub linesOver : ℕ → List Edit → List (List ℕ)
-linesOver n es = headLine n (length (creates es)) (length (versionLines es)) ∷ versionLines es
+linesOver n es = headLine n (length (creates es)) (length (versionLines es)) (sumOver es) ∷ versionLines es

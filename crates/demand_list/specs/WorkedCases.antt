@@ -108,24 +108,20 @@ last9 = puts 0 2 (vector 2 1 1) 2 9
 
 -- ---- the cases
 
-abbrev pub single : String
-single = "sites 3 objects 1 versions 1\n"
-
-abbrev pub double : String
-double = "sites 3 objects 1 versions 2\n"
-
 abbrev pub seventh : Expected
-seventh = prints (double ∷ "0.1 0.2 2=9\n" ∷ "0.1 1.1+2.1 2=40\n" ∷ [])
+seventh = prints ("sites 3 objects 1 versions 2 sum 592230\n" ∷ "0.1 0.2 2=9\n" ∷ "0.1 1.1+2.1 2=40\n" ∷ [])
 
 unfoldable pub cases : List Case
 cases =
     -- P1 to P6
-    case [] (prints (single ∷ "0.1 -\n" ∷ []))
-    ∷ case (one40 ∷ []) (prints (single ∷ "0.1 - 2=40\n" ∷ []))
-    ∷ case (one40 ∷ two44 ∷ []) (prints (double ∷ "0.1 1.1 2=40\n" ∷ "0.1 2.1 2=44\n" ∷ []))
-    ∷ case (one40 ∷ two40 ∷ []) (prints (single ∷ "0.1 - 2=40\n" ∷ []))
-    ∷ case (one40 ∷ puts 2 1 (vector 1 0 1) 3 44 ∷ []) (prints (single ∷ "0.1 - 2=40 3=44\n" ∷ []))
-    ∷ case (one40 ∷ later44 ∷ []) (prints (single ∷ "0.1 - 2=44\n" ∷ []))
+    case [] (prints ("sites 3 objects 1 versions 1 sum 65538\n" ∷ "0.1 -\n" ∷ []))
+    ∷ case (one40 ∷ []) (prints ("sites 3 objects 1 versions 1 sum 262957\n" ∷ "0.1 - 2=40\n" ∷ []))
+    ∷ case (one40 ∷ two44 ∷ [])
+    (prints ("sites 3 objects 1 versions 2 sum 395101\n" ∷ "0.1 1.1 2=40\n" ∷ "0.1 2.1 2=44\n" ∷ []))
+    ∷ case (one40 ∷ two40 ∷ []) (prints ("sites 3 objects 1 versions 1 sum 395097\n" ∷ "0.1 - 2=40\n" ∷ []))
+    ∷ case (one40 ∷ puts 2 1 (vector 1 0 1) 3 44 ∷ [])
+    (prints ("sites 3 objects 1 versions 1 sum 395357\n" ∷ "0.1 - 2=40 3=44\n" ∷ []))
+    ∷ case (one40 ∷ later44 ∷ []) (prints ("sites 3 objects 1 versions 1 sum 460637\n" ∷ "0.1 - 2=44\n" ∷ []))
     -- P7 in all six orders
     ∷ case (alone9 ∷ one40 ∷ two40 ∷ []) seventh
     ∷ case (alone9 ∷ two40 ∷ one40 ∷ []) seventh
@@ -134,7 +130,8 @@ cases =
     ∷ case (two40 ∷ alone9 ∷ one40 ∷ []) seventh
     ∷ case (two40 ∷ one40 ∷ alone9 ∷ []) seventh
     -- P8 and P9
-    ∷ case (one40 ∷ two44 ∷ last9 ∷ []) (prints (double ∷ "0.1 1.1 2=9\n" ∷ "0.1 2.1 2=9\n" ∷ []))
+    ∷ case (one40 ∷ two44 ∷ last9 ∷ [])
+    (prints ("sites 3 objects 1 versions 2 sum 657771\n" ∷ "0.1 1.1 2=9\n" ∷ "0.1 2.1 2=9\n" ∷ []))
     ∷ case
     (puts 1 1 (vector 1 1 0) 1 10
     ∷ puts 2 1 (vector 1 0 1) 1 20
@@ -142,7 +139,7 @@ cases =
     ∷ puts 2 2 (vector 1 0 2) 2 40
     ∷ [])
     (prints
-    ("sites 3 objects 1 versions 4\n"
+    ("sites 3 objects 1 versions 4 sum 920693\n"
     ∷ "0.1 1.1+1.2 1=8 2=30\n"
     ∷ "0.1 1.1+2.2 1=8 2=40\n"
     ∷ "0.1 1.2+2.1 1=16 2=30\n"
@@ -154,5 +151,5 @@ cases =
     ∷ case (puts 1 1 (vector 0 1 0) 2 40 ∷ []) (refused 5)
     -- the example of 'The printed list'
     ∷ case (one40 ∷ two44 ∷ puts 0 2 (vector 2 0 0) 5 7 ∷ [])
-    (prints (double ∷ "0.1 1.1 2=40 5=7\n" ∷ "0.1 2.1 2=44 5=7\n" ∷ []))
+    (prints ("sites 3 objects 1 versions 2 sum 593000\n" ∷ "0.1 1.1 2=40 5=7\n" ∷ "0.1 2.1 2=44 5=7\n" ∷ []))
     ∷ []

@@ -93,7 +93,8 @@ unfolding trueGroups setsOn
 groups-grow es c e =
     let f = isSetOn (c .site) (c .seq) in
     rw (filter-snoc f es e)
-    (never-fewer-groups noEdit doConflict conflict-symmetric conflict-irreflexive (filter f es) (cond (f e) (e ∷ []) []))
+    (never-fewer-groups noEdit doConflict conflict-symmetric conflict-irreflexive (filter f es)
+    (cond (f e) (e ∷ []) []))
 
 -- ---- none of its Sets
 

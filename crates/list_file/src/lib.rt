@@ -28,6 +28,7 @@ pub fn print_file(out: &mut [u8], file: &[u8]) -> usize
         records: 0,
         objects: 0,
         held: [0u16; SITES],
+        sum: 0,
     };
     let r = block_store::read_file(none, &mut records, &mut objects, &mut groups, file);
     let answer = r.answer;

@@ -33,7 +33,7 @@ lineIn g v = lineBy (g .create) (take (g .sets) (g .tags)) (take (g .sets) (g .s
 
 -- line 0, from the counters and the objects as they are lent
 abbrev pub headOf : Counters → List ℕ → List ℕ
-headOf c os = headLine (c .sites) (c .objects) (sum (c .objects) (groupsAt os))
+headOf c os = headLine (c .sites) (c .objects) (sum (c .objects) (groupsAt os)) (c .sum)
 
 -- ---- a line by its number
 

@@ -20,4 +20,5 @@ versionTotal t = sum (t .counters .objects) (groupsAt (t .objects))
 -- all lines in their order
 unfoldable pub linesOf : Tables → List (List ℕ)
 linesOf t =
-    headLine (t .counters .sites) (t .counters .objects) (versionTotal t) ∷ flatMap (linesFor t) (objectsOf t)
+    headLine (t .counters .sites) (t .counters .objects) (versionTotal t) (t .counters .sum)
+    ∷ flatMap (linesFor t) (objectsOf t)

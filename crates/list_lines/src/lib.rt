@@ -63,7 +63,7 @@ pub fn head(out: &mut [u8], c: Counters, objects: &[u16]) -> usize
     ensures { λ r. ⌜ (take r (now (out .exit)) ≡ headOf c (now (objects .entry))) × (r ≤ lineLength) ⌝ }
 {
     let total = version_total(objects, c.objects as usize);
-    list_text::put_head(out, c.sites as u32, c.objects as u32, total)
+    list_text::put_head(out, c.sites as u32, c.objects as u32, total, c.sum)
 }
 
 // Where the k-th line of a version is found, line 0 left out.

@@ -154,6 +154,10 @@ one-decimal m l k i j = same-within (length l) m l k (le-refl (length l)) i j
 pub only-decimal : (m : ℕ) (l : List ℕ) → IsDecimal m l → l ≡ decimal m
 only-decimal m l i = one-decimal m l (decimal m) i (is-decimal m)
 
+-- where the last f digits are all, they may be computed instead
+pub all-digits : (f m : ℕ) → 0 < f → m < 10 ^ f → decimal m ≡ lastDigits f m
+all-digits f m p h = sym (only-decimal m (lastDigits f m) (last-digits f m p h))
+
 -- ---- so the decimal of a number is that of its tenth with one digit more
 
 pub decimal-one : (m : ℕ) → m < 10 → decimal m ≡ (zeroDigit + m) ∷ []

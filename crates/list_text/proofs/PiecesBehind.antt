@@ -79,8 +79,13 @@ pub four :
     v ≡ x ++ (a ++ (b ++ (c ++ d)))
 four x a b c d {y} {z} {w} {v} e f g h = two x a (b ++ (c ++ d)) e (three y b c d f g h)
 
--- three words with a number each, and an end
+pub five :
+    (x a b c d e : List ℕ) {y z w v u : List ℕ} → y ≡ x ++ a → z ≡ y ++ b → w ≡ z ++ c → v ≡ w ++ d → u ≡ v ++ e →
+    u ≡ x ++ (a ++ (b ++ (c ++ (d ++ e))))
+five x a b c d e {y} f g h i j = two x a (b ++ (c ++ (d ++ e))) f (four y b c d e g h i j)
+
+-- four words with a number each, and an end
 pub laid :
-    (a b c d e f g : List ℕ) →
-    (a ++ b) ++ ((c ++ d) ++ ((e ++ f) ++ g)) ≡ a ++ b ++ c ++ d ++ e ++ f ++ g
-laid a b c d e f g = simp append-assoc
+    (a b c d e f g h i : List ℕ) →
+    (a ++ b) ++ ((c ++ d) ++ ((e ++ f) ++ ((g ++ h) ++ i))) ≡ a ++ b ++ c ++ d ++ e ++ f ++ g ++ h ++ i
+laid a b c d e f g h i = simp append-assoc

@@ -23,7 +23,7 @@ equals = 61
 abbrev pub newline : ℕ
 newline = 10
 
--- ---- words: `sites `, ` objects `, ` versions `, `refused `
+-- ---- words: `sites `, ` objects `, ` versions `, ` sum `, `refused `
 
 abbrev pub sitesWord : List ℕ
 sitesWord = 115 ∷ 105 ∷ 116 ∷ 101 ∷ 115 ∷ space ∷ []
@@ -33,6 +33,9 @@ objectsWord = space ∷ 111 ∷ 98 ∷ 106 ∷ 101 ∷ 99 ∷ 116 ∷ 115 ∷ sp
 
 abbrev pub versionsWord : List ℕ
 versionsWord = space ∷ 118 ∷ 101 ∷ 114 ∷ 115 ∷ 105 ∷ 111 ∷ 110 ∷ 115 ∷ space ∷ []
+
+abbrev pub sumWord : List ℕ
+sumWord = space ∷ 115 ∷ 117 ∷ 109 ∷ space ∷ []
 
 abbrev pub refusedWord : List ℕ
 refusedWord = 114 ∷ 101 ∷ 102 ∷ 117 ∷ 115 ∷ 101 ∷ 100 ∷ space ∷ []

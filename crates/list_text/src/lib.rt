@@ -125,14 +125,15 @@ fn put_labelled(out: &mut [u8], n: usize, word: &[u8], m: u32) -> usize
 }
 
 // Puts line 0 at the front.
-pub fn put_head(out: &mut [u8], sites: u32, objects: u32, versions: u32) -> usize
+pub fn put_head(out: &mut [u8], sites: u32, objects: u32, versions: u32, sum: u32) -> usize
     requires { ⌜ headLength ≤ length (now out) ⌝ }
-    ensures { λ r. ⌜ (take r (now (out .exit)) ≡ headLine sites objects versions) × (r ≤ headLength) ⌝ }
+    ensures { λ r. ⌜ (take r (now (out .exit)) ≡ headLine sites objects versions sum) × (r ≤ headLength) ⌝ }
 {
     let a = put_labelled(out, 0, b"sites ", sites);
     let b = put_labelled(out, a, b" objects ", objects);
     let c = put_labelled(out, b, b" versions ", versions);
-    put_byte(out, c, NEWLINE)
+    let d = put_labelled(out, c, b" sum ", sum);
+    put_byte(out, d, NEWLINE)
 }
 
 // Puts the line of a refusal with the number m at the front.

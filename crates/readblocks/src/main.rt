@@ -67,6 +67,7 @@ fn tell(file: &[u8]) {
         records: 0,
         objects: 0,
         held: [0u16; SITES],
+        sum: 0,
     };
     let r = block_store::read_file(none, &mut records, &mut objects, &mut groups, file);
     let mut out = [0u8; RECORDS * RECORD + block_trailer::TRAILER];

@@ -7,13 +7,14 @@ use native.Mathlib.Omega.{arith}
 use lib.ListN.{length, getD, set, replicate, length-set, length-replicate}
 use lib.Dec.{eqb}
 use borrow.Author.Tests.{eqb-true}
-use Rattle.math_lists.specs.NumbersBelow.{all}
+use Rattle.math_lists.specs.NumbersBelow.{all, sum}
 use Rattle.math_lists.specs.SortedLists.{filter}
 use Rattle.edit_record.specs.Layout.{mostSites}
 use Rattle.edit_record.specs.RecordBytes.{decodeOf}
 use Rattle.edit_record.specs.Answer1.{isCreate}
 use Rattle.edit_history.specs.EditsHeld.{editsOf, countFrom, creates}
 use Rattle.edit_history.specs.Answers2to5.{recordsPass}
+use Rattle.edit_sum.specs.WordSum.{sumOf}
 use Rattle.table_drawing.specs.Tables.{Tables, emptyDrawing, recordsLength, objectsLength, groupsLength}
 use Rattle.table_drawing.specs.AnswerNumbers.{outcomeOf}
 use Rattle.table_soundness.specs.Sound.{sound}
@@ -33,7 +34,7 @@ pub record Kept (t : Tables) : Type 0 where
 -- ---- the empty drawing
 
 pub empty-kept : (n : ℕ) → 1 ≤ n → n ≤ mostSites → Kept (emptyDrawing n)
-unfolding emptyDrawing editsOf countFrom creates filter recordsPass all
+unfolding emptyDrawing editsOf countFrom creates filter recordsPass all sumOf sum
 empty-kept n some few =
     record {
       isSound =
@@ -46,6 +47,7 @@ empty-kept n some few =
             few-records = omega arith;
             few-objects = omega arith;
             held = λ s l. zero-anywhere mostSites s;
+            sum = refl;
             objects = refl;
             pass = refl;
             object = λ o l. absurd (omega arith);

@@ -79,7 +79,7 @@ module _ (t : Tables) (h : sound t ≡ true) where
       pub create-taken :
           isCreate e ≡ true →
           outcomeOf 0
-          (tablesOf (counted (t .counters) (e .site) 1) (putRecord (t .records) (t .counters .records) b)
+          (tablesOf (counted (t .counters) (e .site) b 1) (putRecord (t .records) (t .counters .records) b)
           (putEntry (t .objects) (t .counters .objects) (t .counters .records) 0 1)
           (t .groups))
           ≡ acceptanceOf t b

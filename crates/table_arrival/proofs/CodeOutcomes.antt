@@ -67,7 +67,7 @@ module _ (t : Tables) (b : List ℕ) where
 
       pub set-is : length after ≤ mostGroups →
           outcomeOf 0
-          (tablesOf (counted (t .counters) (e .site) 0) (putRecord (t .records) (t .counters .records) b)
+          (tablesOf (counted (t .counters) (e .site) b 0) (putRecord (t .records) (t .counters .records) b)
           (putCounts (t .objects) o (length (matesOf t e) + 1) (length after))
           (putRow o (t .groups) (settled after (row o (t .groups)))))
           ≡ acceptanceOf t b

@@ -32,7 +32,8 @@ use Rattle.edit_causal.proofs.Identities.{same-parts}
 use Rattle.table_arrival.proofs.ObjectsByNumber.{chosen-none}
 use Rattle.table_arrival.proofs.EntriesAfterStore.{object-of, entry-long, entry-past, entry-here, entry-other}
 use Rattle.table_arrival.proofs.UntouchedSound.{creates-snoc, sets-snoc, room, held-after, records-long-after}
-use Rattle.table_arrival.proofs.UntouchedSound.{counts-after, pass-after, records-zero-after, entry-kept}
+use Rattle.table_arrival.proofs.UntouchedSound.{counts-after, sum-after, pass-after, entry-kept}
+use Rattle.table_arrival.proofs.UntouchedSound.{records-zero-after}
 use Rattle.edit_record.proofs.WellFormed.{create-not-set}
 
 -- ---- an accepted edit is the first of its identity
@@ -145,6 +146,7 @@ module _ (t : Tables) (b : List ℕ) (s : Sound t) (wide : length (t .counters .
           few-records = omega (arith, a .room);
           few-objects = omega (arith, a .create-room k);
           held = counts-after t b s wide a;
+          sum = sum-after t b s wide a;
           objects =
               ap (λ (x : ℕ). x + 1) (s .objects)
               ∙ sym (ap (λ (es : List Edit). length (creates es)) (held-after t b s wide a) ∙ creates-snoc (heldBy t)

@@ -35,7 +35,8 @@ use Rattle.table_arrival.proofs.EntriesAfterStore.{counts-sets, counts-
 use Rattle.table_arrival.proofs.EntriesAfterStore.{other-groups}
 use Rattle.table_arrival.proofs.RowsAfterStore.{row-put-long, row-elsewhere, new-row, other-row}
 use Rattle.table_arrival.proofs.UntouchedSound.{creates-snoc, held-after, records-long-after, counts-after}
-use Rattle.table_arrival.proofs.UntouchedSound.{pass-after, records-zero-after, entry-kept, entry-grown}
+use Rattle.table_arrival.proofs.UntouchedSound.{sum-after, pass-after, entry-kept, entry-grown}
+use Rattle.table_arrival.proofs.UntouchedSound.{records-zero-after}
 use Rattle.edit_record.proofs.WellFormed.{set-not-create}
 
 -- ---- the row of its object
@@ -144,6 +145,7 @@ module _ (t : Tables) (b : List ℕ) (s : Sound t) (a : Accepted t b) (k : isSet
           few-records = omega (arith, a .admitted .room);
           few-objects = omega (arith, s .few-objects);
           held = counts-after t b s wide (a .admitted);
+          sum = sum-after t b s wide (a .admitted);
           objects =
               ap (λ (x : ℕ). x + 0) (s .objects)
               ∙ sym (ap (λ (es : List Edit). length (creates es)) (held-after t b s wide (a .admitted))

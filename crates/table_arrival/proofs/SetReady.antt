@@ -65,7 +65,7 @@ abbrev pub Stored : Tables → List ℕ → Edit → Surveyed → Type 0
 Stored t b e v =
     length (stepBy t v) ≤ mostGroups →
     outcomeOf 0
-    (tablesOf (counted (t .counters) (e .site) 0) (putRecord (t .records) (t .counters .records) b)
+    (tablesOf (counted (t .counters) (e .site) b 0) (putRecord (t .records) (t .counters .records) b)
     (putCounts (t .objects) (v .object) (v .sets + 1) (length (stepBy t v)))
     (putRow (v .object) (t .groups) (settled (stepBy t v) (row (v .object) (t .groups)))))
     ≡ acceptanceOf t b

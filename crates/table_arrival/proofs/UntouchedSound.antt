@@ -1,6 +1,6 @@
 -- What an accepted edit, Create or Set, leaves sound: the records and their counts, and the entries and rows of the
 -- objects that it does not touch. Assumes nothing.
-use mathlib.Core.Path.{_≡_, refl, sym, ap, _∙_}
+use mathlib.Core.Path.{_≡_, refl, sym, ap, ap₂, _∙_}
 use mathlib.Core.Logic.{inl, inr}
 use mathlib.Core.Bool.{Bool, true, false, cond}
 use mathlib.Core.List.{List, [], _∷_, _++_}
@@ -25,6 +25,9 @@ use Rattle.edit_record.specs.RecordBytes.{decodeOf}
 use Rattle.edit_record.specs.Answer1.{isCreate}
 use Rattle.edit_history.specs.EditsHeld.{recordAt, editsOf, countFrom, creates, isSetOn, setsOn}
 use Rattle.edit_history.specs.Answers2to5.{passes, recordsPass}
+use Rattle.edit_sum.specs.WordSum.{recordWords, wrapped, sumOf}
+use Rattle.edit_sum.specs.SumOfEdits.{sumOver}
+use Rattle.edit_sum.proofs.SumOfRecords.{joined-sum, held-sum, record-sum}
 use Rattle.group_step.specs.GroupRows.{mostSets}
 use Rattle.table_drawing.specs.Tables.{Tables, heldBy, recordsLength}
 use Rattle.table_soundness.proofs.SoundFacts.{Sound, ZeroFrom}
@@ -98,6 +101,12 @@ module _ (t : Tables) (b : List ℕ) (s : Sound t) (wide : length (t .counters .
             rw (grown, ne-eqb y x d, getD-set-other h y x (getD h y 0 + 1) 0 q)
             (s .held x l ∙ omega arith))
       ]
+
+  -- the sum is that of the records
+  pub sum-after : wrapped (t .counters .sum + sumOf recordWords b) ≡ sumOf ((n + 1) * recordWords) rs′
+  sum-after =
+      ap₂ (λ (x y : ℕ). wrapped (x + y)) (s .sum ∙ held-sum rs n) (record-sum b)
+      ∙ sym (held-sum rs′ (n + 1) ∙ ap sumOver held-after ∙ joined-sum (heldBy t) (e ∷ []))
 
   -- the records pass 1 to 5 in their order
   pub pass-after : recordsPass (t .counters .sites) rs′ (n + 1) ≡ true

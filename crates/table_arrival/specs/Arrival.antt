@@ -10,6 +10,7 @@ use Rattle.edit_record.specs.Layout.{recordLength}
 use Rattle.edit_record.specs.RecordBytes.{decodeOf}
 use Rattle.edit_record.specs.Answer1.{isCreate}
 use Rattle.edit_history.specs.EditsHeld.{objectOf}
+use Rattle.edit_sum.specs.WordSum.{recordWords, wrapped, sumOf}
 use Rattle.group_step.specs.GroupRows.{mostGroups, putRow}
 use Rattle.table_drawing.specs.declared.Counters.{Counters}
 use Rattle.table_drawing.specs.Tables.{Tables, tablesOf, entryLength, heldBy}
@@ -19,14 +20,15 @@ use Rattle.table_arrival.specs.Answers6and7.{answerTo, groupsAfter, mate
 
 -- ---- the tables after an accepted edit
 
--- one record more, of site s, and d objects more
-abbrev pub counted : Counters → Site → ℕ → Counters
-counted c s d =
+-- one record more, b of site s, and d objects more
+abbrev pub counted : Counters → Site → List ℕ → ℕ → Counters
+counted c s b d =
     record {
       sites = c .sites;
       records = c .records + 1;
       objects = c .objects + d;
       held = set (c .held) (s .0) (getD (c .held) (s .0) 0 + 1);
+      sum = wrapped (c .sum + sumOf recordWords b);
     }
 
 -- the record b in place p
@@ -44,7 +46,7 @@ putEntry os o p k g = putCounts (set os (o * entryLength) p) o k g
 unfoldable pub withCreate : Tables → List ℕ → Tables
 withCreate t b =
     let c = t .counters in
-    tablesOf (counted c (decodeOf b .site) 1) (putRecord (t .records) (c .records) b)
+    tablesOf (counted c (decodeOf b .site) b 1) (putRecord (t .records) (c .records) b)
     (putEntry (t .objects) (c .objects) (c .records) 0 1)
     (t .groups)
 
@@ -54,7 +56,7 @@ withSet t b =
     let e = decodeOf b in
     let o = objectOf e (heldBy t) in
     let gs = groupsAfter t e in
-    tablesOf (counted c (e .site) 0) (putRecord (t .records) (c .records) b)
+    tablesOf (counted c (e .site) b 0) (putRecord (t .records) (c .records) b)
     (putCounts (t .objects) o (length (matesOf t e) + 1) (length gs))
     (putRow o (t .groups) (gs ++ replicate (mostGroups - length gs) 0))
 

@@ -6,6 +6,7 @@ use edit_record::Edit;
 use edit_record::RECORD;
 use edit_record::SET;
 use edit_record::Site;
+use edit_sum::WORDS;
 use group_step::OBJECTS;
 use table_drawing::Answer;
 use table_drawing::Counters;
@@ -77,18 +78,23 @@ fn put_object(objects: &mut [u16], o: usize, p: u16)
     objects[at + 2] = 1;
 }
 
-// The counters with one record more, of site s, and d objects more.
-fn counted_with(c: Counters, s: Site, d: u16) -> Counters
-    requires { ⌜ (c .records < mostRecords) × (c .objects + d < twoBytes) × (getD (c .held) (s .0) 0 < mostRecords) ⌝ }
-    ensures { λ r. ⌜ r ≡ counted c s d ⌝ }
+// The counters with one record more, rec of site s, and d objects more.
+fn counted_with(c: Counters, s: Site, rec: &[u8], d: u16) -> Counters
+    requires { ⌜ (c .records < mostRecords)
+        × (c .objects + d < twoBytes)
+        × (length (now rec) ≡ recordLength)
+        × (getD (c .held) (s .0) 0 < mostRecords) ⌝ }
+    ensures { λ r. ⌜ r ≡ counted c s (now (rec .entry)) d ⌝ }
 {
     let v = c.held;
     let held = edit_history::bumped(v, s);
+    let sum = edit_sum::added(c.sum, edit_sum::sum_words(rec, WORDS));
     Counters {
         sites: c.sites,
         records: c.records + 1,
         objects: c.objects + d,
         held,
+        sum,
     }
 }
 
@@ -153,13 +159,13 @@ fn take_create(
         × (length (now objects) ≡ objectsLength)
         × (length (now rec) ≡ recordLength)
         × (getD (c .held) (s .0) 0 < mostRecords) ⌝ }
-    ensures { λ r. ⌜ (r ≡ counted c s 1)
+    ensures { λ r. ⌜ (r ≡ counted c s (now (rec .entry)) 1)
         × (now (records .exit) ≡ putRecord (now (records .entry)) (c .records) (now (rec .entry)))
         × (now (objects .exit) ≡ putEntry (now (objects .entry)) (c .objects) (c .records) 0 1) ⌝ }
 {
     put_record(records, c.records as usize, rec);
     put_object(objects, c.objects as usize, c.records);
-    counted_with(c, s, 1)
+    counted_with(c, s, rec, 1)
 }
 
 // Stores a Set on object o, which now has k Sets and g groups: its record, the entry's counts and the counters after
@@ -181,13 +187,13 @@ fn store_set(
         × (length (now objects) ≡ objectsLength)
         × (length (now rec) ≡ recordLength)
         × (getD (c .held) (s .0) 0 < mostRecords) ⌝ }
-    ensures { λ r. ⌜ (r ≡ counted c s 0)
+    ensures { λ r. ⌜ (r ≡ counted c s (now (rec .entry)) 0)
         × (now (records .exit) ≡ putRecord (now (records .entry)) (c .records) (now (rec .entry)))
         × (now (objects .exit) ≡ putCounts (now (objects .entry)) o k g) ⌝ }
 {
     put_record(records, c.records as usize, rec);
     put_counts(objects, o, k, g);
-    counted_with(c, s, 0)
+    counted_with(c, s, rec, 0)
 }
 
 // Takes a Set that passes 1 to 6, or refuses it with 7 and leaves everything as it was.

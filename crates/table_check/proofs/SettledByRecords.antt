@@ -11,6 +11,7 @@ use Rattle.math_lists.proofs.LastBelow.{by-rows}
 use Rattle.edit_record.specs.declared.Edit.{Edit}
 use Rattle.edit_record.specs.Layout.{mostSites, recordLength}
 use Rattle.edit_history.specs.EditsHeld.{recordAt, editsOf, countFrom, creates, setsOn}
+use Rattle.edit_sum.specs.WordSum.{recordWords, sumOf}
 use Rattle.group_step.specs.GroupRows.{mostGroups, row}
 use Rattle.table_drawing.specs.Tables.{Tables, entryLength, placeAt, setsAt, groupsAt, heldBy}
 use Rattle.table_soundness.proofs.EachObject.{Object}
@@ -108,6 +109,9 @@ module _ (t u : Tables) (s : Sound t) (w : Sound u) (true-t : RowsTrue t) (true-
 
   pub same-counts : (x : ℕ) → x < mostSites → getD (t .counters .held) x 0 ≡ getD (u .counters .held) x 0
   same-counts x l = s .held x l ∙ ap (countFrom x) same-held ∙ sym (w .held x l)
+
+  pub same-sum : t .counters .sum ≡ u .counters .sum
+  same-sum = s .sum ∙ ap₂ (λ (k : ℕ) (l : List ℕ). sumOf (k * recordWords) l) count same-records ∙ sym (w .sum)
 
   -- the objects of u over the records of t
   object-u : (o : ℕ) → o < m → Object rs n (u .objects) (u .groups) o

@@ -28,7 +28,8 @@ use Rattle.table_replay.proofs.ReplayFaithful.{replay-faithful}
 use Rattle.table_replay.proofs.OwnRecords.{Holds, records-same, going-of, holds}
 use Rattle.table_check.specs.Check.{sameCounters, sameTables, givesBack, isTrue, checkOf}
 use Rattle.table_check.specs.CheckForms.{rowTrue, rowsTrue}
-use Rattle.table_check.proofs.SettledByRecords.{same-records, same-number, same-counts, same-groups, same-objects}
+use Rattle.table_check.proofs.SettledByRecords.{same-records, same-number, same-counts, same-sum, same-groups}
+use Rattle.table_check.proofs.SettledByRecords.{same-objects}
 use Rattle.table_check.proofs.AllTaken.{all-taken}
 
 -- ---- the rows
@@ -68,11 +69,11 @@ module _ (t : Tables) where
   -- t with the counts of u
   abbrev counted : Tables
   counted =
-      tablesOf (record { sites = c .sites; records = c .records; objects = c .objects; held = d .held }) (t .records)
-      (t .objects) (t .groups)
+      tablesOf (record { sites = c .sites; records = c .records; objects = c .objects; held = d .held; sum = c .sum })
+      (t .records) (t .objects) (t .groups)
 
-  abbrev made : ℕ → ℕ → ℕ → List ℕ → List ℕ → List ℕ → Tables
-  made x n m rs os gs = tablesOf (record { sites = x; records = n; objects = m; held = d .held }) rs os gs
+  abbrev made : ℕ → ℕ → ℕ → ℕ → List ℕ → List ℕ → List ℕ → Tables
+  made x n m w rs os gs = tablesOf (record { sites = x; records = n; objects = m; held = d .held; sum = w }) rs os gs
 
   same-at : sameTables t u ≡ true → (counted ≡ u) × ((x : ℕ) → x < mostSites → getD (c .held) x 0 ≡ getD (d .held) x 0)
   same-at h =
@@ -84,14 +85,18 @@ module _ (t : Tables) where
       let x? = eqb (c .sites) (d .sites) in
       let n? = eqb (c .records) (d .records) in
       let m? = eqb (c .objects) (d .objects) in
-      let (c2, held) = both (x? && n? && m?) (all mostSites held?) hc in
+      let w? = eqb (c .sum) (d .sum) in
+      let (c3, w) = both (x? && n? && m? && all mostSites held?) w? hc in
+      let (c2, held) = both (x? && n? && m?) (all mostSites held?) c3 in
       let (c1, m) = both (x? && n?) m? c2 in
       let (x, n) = both x? n? c1 in (
-        ap₂ (λ (a b : ℕ). made a b (c .objects) (t .records) (t .objects) (t .groups))
+        ap₂ (λ (a b : ℕ). made a b (c .objects) (c .sum) (t .records) (t .objects) (t .groups))
             (eqb-true (c .sites) (d .sites) x) (eqb-true (c .records) (d .records) n)
-            ∙ ap₂ (λ (a : ℕ) (b : List ℕ). made (d .sites) (d .records) a b (t .objects) (t .groups))
-            (eqb-true (c .objects) (d .objects) m) (list-equal (t .records) (u .records) rs)
-            ∙ ap₂ (made (d .sites) (d .records) (d .objects) (u .records))
+            ∙ ap₂ (λ (a b : ℕ). made (d .sites) (d .records) a b (t .records) (t .objects) (t .groups))
+            (eqb-true (c .objects) (d .objects) m) (eqb-true (c .sum) (d .sum) w)
+            ∙ ap (λ (l : List ℕ). made (d .sites) (d .records) (d .objects) (d .sum) l (t .objects) (t .groups))
+            (list-equal (t .records) (u .records) rs)
+            ∙ ap₂ (made (d .sites) (d .records) (d .objects) (d .sum) (u .records))
             (list-equal (t .objects) (u .objects) os) (list-equal (t .groups) (u .groups) gs),
         λ i l. eqb-true (getD (c .held) i 0) (getD (d .held) i 0) (all-at mostSites held? held i l),
       )
@@ -121,6 +126,7 @@ module _ (t : Tables) where
           few-records = s .few-records;
           few-objects = s .few-objects;
           held = λ x l. held x l ∙ s .held x l;
+          sum = s .sum;
           objects = s .objects;
           pass = s .pass;
           object = s .object;
@@ -167,9 +173,10 @@ module _ (t : Tables) where
           eq-eqb (c .sites) (d .sites) (sym (its .sites-are)),
           eq-eqb (c .records) (d .records) count,
           eq-eqb (c .objects) (d .objects) number,
+          all-on mostSites held? (λ x l. eq-eqb (getD (c .held) x 0) (getD (d .held) x 0)
+              (same-counts t u s w rows (faithful .rows) count bytes x l)),
+          eq-eqb (c .sum) (d .sum) (same-sum t u s w rows (faithful .rows) count bytes),
         )
-        (all-on mostSites held? (λ x l.
-        eq-eqb (getD (c .held) x 0) (getD (d .held) x 0) (same-counts t u s w rows (faithful .rows) count bytes x l)))
 
     same-on : sameTables t u ≡ true
     same-on =

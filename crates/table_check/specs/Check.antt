@@ -17,6 +17,7 @@ sameCounters c d =
     && eqb (c .records) (d .records)
     && eqb (c .objects) (d .objects)
     && all mostSites (λ s. eqb (getD (c .held) s 0) (getD (d .held) s 0))
+    && eqb (c .sum) (d .sum)
 
 abbrev pub sameTables : Tables → Tables → Bool
 sameTables t u =

@@ -34,7 +34,7 @@ module _ (t : Tables) (n : ℕ) where
       os ≡ replicate (length (t .objects)) 0 →
       gs ≡ replicate (length (t .groups)) 0 →
       outcomeOf 0
-      (tablesOf (record { sites = n; records = 0; objects = 0; held = replicate mostSites 0 }) rs os gs)
+      (tablesOf (record { sites = n; records = 0; objects = 0; held = replicate mostSites 0; sum = 0 }) rs os gs)
       ≡ openingOf t n
   unfolding openingOf emptyDrawing
   opened h k p q r =

@@ -61,5 +61,5 @@ sitesRight n = leb 1 n && leb n mostSites
 -- the empty drawing of n sites: every entry is zero except N
 unfoldable pub emptyDrawing : ℕ → Tables
 emptyDrawing n =
-    tablesOf (record { sites = n; records = 0; objects = 0; held = replicate mostSites 0 }) (replicate recordsLength 0)
-    (replicate objectsLength 0) (replicate groupsLength 0)
+    tablesOf (record { sites = n; records = 0; objects = 0; held = replicate mostSites 0; sum = 0 })
+    (replicate recordsLength 0) (replicate objectsLength 0) (replicate groupsLength 0)

@@ -34,13 +34,15 @@ pub enum Answer {
     TooManySets,
 }
 
-// The counters of a drawing: N, the records held, the objects, and how many edits of each site are held.
+// The counters of a drawing: N, the records held, the objects, how many edits of each site are held, and the sum of the
+// records' words.
 #[repr(C)]
 pub struct Counters {
     pub sites: u8,
     pub records: u16,
     pub objects: u16,
     pub held: [u16; SITES],
+    pub sum: u32,
 }
 
 // An answer to a call that opens a drawing, and its counters.
@@ -118,6 +120,7 @@ pub fn open(
         records: 0,
         objects: 0,
         held,
+        sum: 0,
     };
     Opened {
         answer: Answer::Done,

@@ -155,6 +155,7 @@ pub fn replay(
         records: 0,
         objects: 0,
         held,
+        sum: 0,
     };
     let opened = table_drawing::open(none, records, objects, groups, sites);
     let empty = opened.counters;

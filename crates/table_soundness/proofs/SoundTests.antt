@@ -12,6 +12,7 @@ use Rattle.math_lists.proofs.NumbersBelow.{all-same}
 use Rattle.edit_record.specs.Layout.{mostSites, recordLength}
 use Rattle.edit_history.specs.Answers2to5.{recordsPass}
 use Rattle.edit_history.specs.EditsHeld.{mostRecords, recordAt, creates, countFrom}
+use Rattle.edit_sum.specs.WordSum.{recordWords, sumOf}
 use Rattle.edit_walk.specs.declared.Walked.{Walked}
 use Rattle.edit_walk.specs.WalkForms.{WalkedOver}
 use Rattle.edit_history.proofs.EditsHeld.{target-parts}
@@ -43,6 +44,12 @@ pub used-place : (g i : ℕ) (z a b : Bool) → i < g → (leb g i && z || ltb i
 used-place g i z a b l = rw (lt-leb g i l, lt-ltb i g l)
 
 -- ---- the lengths and the limits
+
+pub record-room : (rs os gs : List ℕ) → lengthsRight rs os gs ≡ true → length rs ≡ recordsLength
+record-room rs os gs h =
+    let (l, _) = both (eqb (length rs) recordsLength && eqb (length os) objectsLength) (eqb (length gs) groupsLength)
+    h in
+    eqb-true (length rs) recordsLength (both (eqb (length rs) recordsLength) (eqb (length os) objectsLength) l .0)
 
 pub group-room : (rs os gs : List ℕ) → lengthsRight rs os gs ≡ true → length gs ≡ groupsLength
 group-room rs os gs h =
@@ -119,6 +126,7 @@ module _ (t : Tables) (hs ps : List ℕ) (w : Passed t hs ps) where
   pub rest-is :
       let c = t .counters in
       (all mostSites (λ s. eqb (getD (c .held) s 0) (getD hs s 0))
+      && eqb (c .sum) (sumOf (c .records * recordWords) (t .records))
       && (eqb (c .objects) (length (creates (heldBy t)))
       && all (c .objects) (objectSound (t .records) (c .records) (t .objects) (t .groups)))
       && (zeroFrom (t .records) (c .records * recordLength)

@@ -6,6 +6,7 @@ mod unused;
 use edit_history::RECORDS;
 use edit_record::RECORD;
 use edit_record::SITES;
+use edit_sum::WORDS;
 use edit_walk::PLACES;
 use group_step::GROUPS;
 use group_step::OBJECTS;
@@ -73,12 +74,14 @@ fn rest_sound(
     ensures { λ r. ⌜ r ≡ sound (tablesOf c (now (records .entry)) (now (objects .entry)) (now (groups .entry))) ⌝ }
 {
     let given = c.held;
+    let kept = c.sum;
     let n = c.records as usize;
     let m = c.objects as usize;
     let agree = counts_agree(given, held);
+    let added = edit_sum::sum_words(records, n * WORDS);
     let drawing = objects::drawing_sound(records, n, places, objects, groups, m);
     let zero = unused_zero(records, objects, groups, n, m);
-    agree & drawing & zero
+    agree & (kept == added) & drawing & zero
 }
 
 // Whether the tables are sound, whatever stands in them; if they are, places is the index of their records. The records

@@ -6,14 +6,23 @@ use Rattle.table_arrival.proofs.counted_with.Tie as tie
 bumped-requires : tie.Need-bumped-requires
 bumped-requires c κs = search needs
 
-add-t6 : tie.Need-add-t6
-add-t6 c = search needs
+sum-words-requires : tie.Need-sum-words-requires
+sum-words-requires c κs = search needs
 
-add-t7 : tie.Need-add-t7
-add-t7 c = search needs
+added-requires : tie.Need-added-requires
+added-requires c κs = search needs
+
+add-t9 : tie.Need-add-t9
+add-t9 c = search needs
+
+add-t10 : tie.Need-add-t10
+add-t10 c = search needs
 
 returns : tie.Need-returns
-returns c = rw (c .before .before .bumped .ensures)
+returns c =
+    let add = c .before .before in
+    rw (add .added .ensures, add .before .sum-words .ensures, add .before .before .bumped .ensures)
 
 pub counted-with-spec : {M : Type 1} → statement M
-counted-with-spec = tie.close (tie.spec bumped-requires add-t6 add-t7 returns)
+counted-with-spec =
+    tie.close (tie.spec bumped-requires sum-words-requires added-requires add-t9 add-t10 returns)

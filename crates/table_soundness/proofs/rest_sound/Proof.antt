@@ -1,8 +1,9 @@
 -- `table_soundness::rest_sound` meets its contract. Assumes nothing.
+use native.Mathlib.Omega.{arith}
 use denote.Ref.{now}
 use borrow.Author.Needs.{needs}
 use Rattle.table_drawing.specs.Tables.{tablesOf}
-use Rattle.table_soundness.proofs.SoundTests.{few, group-room, rest-is}
+use Rattle.table_soundness.proofs.SoundTests.{few, record-room, group-room, rest-is}
 use Rattle.table_soundness.proofs.rest_sound.Statement.{statement}
 use Rattle.table_soundness.proofs.rest_sound.Tie as tie
 
@@ -15,9 +16,19 @@ cast-m c = search needs
 counts-agree-requires : tie.Need-counts-agree-requires
 counts-agree-requires c κs = search needs
 
+mul-sum-words : tie.Need-mul-sum-words
+mul-sum-words c = search needs
+
+sum-words-requires : tie.Need-sum-words-requires
+sum-words-requires c κs =
+    let s = c .before .before .before .before .before .before .before .before in
+    let (n, _) = few (s .args .c) (s .pre .limits) in
+    let a = s .args in
+    omega (arith, n, record-room (now (a .records)) (now (a .objects)) (now (a .groups)) (s .pre .lengths))
+
 drawing-sound-requires : tie.Need-drawing-sound-requires
 drawing-sound-requires c κs =
-    let s = c .before .before .before .before .before .before .before .before in
+    let s = c .before .before .before .before .before .before .before .before .before in
     let (n, m) = few (s .args .c) (s .pre .limits) in
     let a = s .args in
     let room = group-room (now (a .records)) (now (a .objects)) (now (a .groups)) (s .pre .lengths) in
@@ -25,15 +36,20 @@ drawing-sound-requires c κs =
 
 unused-zero-requires : tie.Need-unused-zero-requires
 unused-zero-requires c κs =
-    let s = c .before .before .before .before .before .before .before .before .before in
+    let s = c .before .before .before .before .before .before .before .before .before .before in
     few (s .args .c) (s .pre .limits)
 
 returns : tie.Need-returns
 returns c =
-    let s = c .before .before .before .before .before .before .before .before .before .before in
+    let s = c .before .before .before .before .before .before .before .before .before .before .before in
     let a = s .args in
     let t = tablesOf (a .c) (now (a .records)) (now (a .objects)) (now (a .groups)) in
-    rw (c .unused-zero .ensures, c .before .drawing-sound .ensures, c .before .before .counts-agree .ensures)
+    rw (
+      c .unused-zero .ensures,
+      c .before .drawing-sound .ensures,
+      c .before .before .sum-words .ensures,
+      c .before .before .before .counts-agree .ensures,
+    )
     (rest-is t (a .held) (now (a .places)) (s .pre))
 
 pub rest-sound-spec : {M : Type 1} → statement M
@@ -43,6 +59,8 @@ rest-sound-spec =
     cast-n
     cast-m
     counts-agree-requires
+    mul-sum-words
+    sum-words-requires
     drawing-sound-requires
     unused-zero-requires
     returns)

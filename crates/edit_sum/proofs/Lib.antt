@@ -1,0 +1,2 @@
+pub mod WordsAdded
+pub mod SumOfRecords

@@ -1,0 +1,2 @@
+pub mod WordSum
+pub mod SumOfEdits

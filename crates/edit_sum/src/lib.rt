@@ -1,0 +1,42 @@
+// The sum of document 02's Req 11: the words of the records, added up and wrapped at 32 bits.
+use edit_record::RECORD;
+ghost use mathlib.Core.Path.{_≡_};
+ghost use Prim.Native.Nat.{_*_, _+_, _≤_};
+ghost use lib.ListN.{length};
+ghost use Rattle.edit_sum.specs.WordSum.{wordLength, wordAt, wrapped, sumOf};
+
+// The bytes of a word, and the words of a record.
+const WORD: usize = 4;
+
+pub const WORDS: usize = RECORD / WORD;
+
+// The word that starts i words from the front.
+fn word_at(s: &[u8], i: usize) -> u32
+    requires { ⌜ i * wordLength + wordLength ≤ length (now s) ⌝ }
+    ensures { λ r. ⌜ r ≡ wordAt (now (s .entry)) i ⌝ }
+{
+    let low = edit_record::pair_at(s, i * WORD);
+    let high = edit_record::pair_at(s, i * WORD + 2);
+    low as u32 + high as u32 * 65536
+}
+
+// The sum of two numbers, wrapped at the top.
+pub fn added(a: u32, b: u32) -> u32
+    ensures { λ r. ⌜ r ≡ wrapped (a + b) ⌝ }
+{
+    std::num::wrapping_add_u32(a, b)
+}
+
+// The first n words added up, wrapped at the top.
+pub fn sum_words(s: &[u8], n: usize) -> u32
+    requires { ⌜ n * wordLength ≤ length (now s) ⌝ }
+    ensures { λ r. ⌜ r ≡ sumOf n (now (s .entry)) ⌝ }
+{
+    let mut sum: u32 = 0;
+    let mut i: usize = 0;
+    while i < n {
+        sum = added(sum, word_at(s, i));
+        i += 1;
+    }
+    sum
+}
