@@ -72,7 +72,7 @@ static void compare_engines(const struct drawing *d) {
     enum { PLACES = 4 };
     compare_groups(d, 0, 1, SPIRESLATE_ROW);
     for (unsigned i = 0; i < PLACES; i++) {
-        const uint8_t *record = d->records + random_below(d->counters.records % 256 + 1u) * SPIRESLATE_RECORD;
+        const uint8_t *record = d->records + random_below(d->counters.records % 256 + 1u) * SPIRESLATE_PLACE;
         unsigned site = record[1], seq = record[2] + 256u * record[3];
         compare_groups(d, site, seq, SPIRESLATE_ROW);
         compare_groups(d, site, seq, SPIRESLATE_ROW - 1 + random_below(3));
@@ -125,6 +125,27 @@ static int compare_open(struct drawing *d, unsigned n) {
     return a;
 }
 
+/* A file with one byte changed, every fourth time in its trailer; now and then cut as well. */
+static void compare_damaged(struct drawing *d, const uint8_t *given, size_t length) {
+    for (unsigned i = 0; i < DAMAGES; i++) {
+        uint8_t bytes[SPIRESLATE_BLOCK];
+        memcpy(bytes, given, length);
+        size_t at = i % 4 == 1 ? length - 1 - random_below(SPIRESLATE_TRAILER) : random_below((unsigned)length);
+        bytes[at] = (uint8_t)random_below(i % 2 == 0 ? 256 : 4);
+        compare_read(d, bytes, length - (i % 8 == 0 ? random_below((unsigned)length + 1) : 0));
+    }
+}
+
+/* The old block of a file of eight sites at most gives the same drawing; then it is damaged. */
+static void compare_old(const struct file *f, const struct drawing *same) {
+    static struct drawing d;
+    static struct old_file old;
+    file_shorten(&old, f);
+    must(compare_read(&d, old.bytes, old.length) == SPIRESLATE_DONE, "an old file is refused");
+    must_same(&d, same, "the drawings of an old file and of the long one");
+    compare_damaged(&d, old.bytes, old.length);
+}
+
 void compare_file(const struct file *f) {
     static struct drawing d, e;
     must(compare_read(&d, f->bytes, f->length) == SPIRESLATE_DONE, "a file of the benchmark is refused");
@@ -134,12 +155,8 @@ void compare_file(const struct file *f) {
         must(compare_arrive(&e, f->bytes + i * SPIRESLATE_RECORD, SPIRESLATE_RECORD) == SPIRESLATE_DONE,
              "an edit of the benchmark is refused");
     must_same(&d, &e, "a file and its records one by one");
-    for (unsigned i = 0; i < DAMAGES; i++) {
-        uint8_t bytes[SPIRESLATE_BLOCK];
-        memcpy(bytes, f->bytes, f->length);
-        bytes[random_below((unsigned)f->length)] = (uint8_t)random_below(i % 2 == 0 ? 256 : 4);
-        compare_read(&d, bytes, f->length - (i % 8 == 0 ? random_below((unsigned)f->length + 1) : 0));
-    }
+    if (f->sites <= SPIRESLATE_OLD_SITES) compare_old(f, &e);
+    compare_damaged(&d, f->bytes, f->length);
 }
 
 /* Puts sound groups, which the records do not give, in the row of an object. */
@@ -170,7 +187,7 @@ static void damage(struct drawing *d) {
     case 3: c->sites ^= (uint8_t)(1u << bit); break;
     case 8: c->sum ^= 1u << bit; break;
     case 4:
-        d->records[random_below((c->records + 1u) * SPIRESLATE_RECORD) % SPIRESLATE_RECORDS_LENGTH] ^=
+        d->records[random_below((c->records + 1u) * SPIRESLATE_PLACE) % SPIRESLATE_RECORDS_LENGTH] ^=
             (uint8_t)(1u << bit);
         break;
     case 5: d->objects[(3 * o + random_below(3)) % SPIRESLATE_OBJECTS_LENGTH] ^= (uint16_t)(1u << bit); break;
@@ -230,7 +247,7 @@ static void compare_drawing(unsigned sites, unsigned arrivals) {
     static struct drawing d, e;
     static struct file f, before;
     compare_open(&d, 0);
-    compare_open(&d, 9);
+    compare_open(&d, SPIRESLATE_SITES + 1);
     must(compare_open(&d, sites) == SPIRESLATE_DONE, "a drawing is not opened");
     file_open(&f, "random", sites);
     for (unsigned i = 0; i < arrivals && f.records < 256; i++) {
@@ -250,6 +267,10 @@ static void compare_drawing(unsigned sites, unsigned arrivals) {
     size_t length = (size_t)d.counters.records * SPIRESLATE_RECORD + SPIRESLATE_TRAILER;
     must(compare_read(&e, output_b, length) == SPIRESLATE_DONE, "a written drawing is not read");
     must_same(&d, &e, "a drawing and its block");
+    /* a wrong record may have been taken in place of the right one */
+    memcpy(f.bytes, output_b, length);
+    f.records = d.counters.records;
+    if (sites <= SPIRESLATE_OLD_SITES) compare_old(&f, &d);
 }
 
 void compare_box(const struct drawing *d, unsigned answer) {

@@ -7,7 +7,8 @@
 /* Whether counters and tables are the same; bytes between them that belong to nothing are not looked at. */
 int is_same_drawing(const struct drawing *a, const struct drawing *b);
 
-/* A file read; its records taken one by one; everything that is asked of the drawing; and the file damaged. */
+/* A file read, in the old form too where it has one; its records taken one by one; everything that is asked of the
+   drawing; and the file damaged. */
 void compare_file(const struct file *f);
 
 /* Everything that is asked of a drawing whose groups of the box 0.1 are answered so. */

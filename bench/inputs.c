@@ -4,7 +4,8 @@
 
 #include <string.h>
 
-enum { SITES = SPIRESLATE_SITES, AT_VECTOR = 4, AT_TARGET = 20, AT_VALUE = 24 };
+enum { SITES = SPIRESLATE_SITES, EIGHT = SPIRESLATE_OLD_SITES };
+enum { AT_VECTOR = 4, AT_TARGET = AT_VECTOR + 2 * SITES, AT_VALUE = AT_TARGET + 4 };
 
 static uint64_t random_state = 1;
 
@@ -62,25 +63,62 @@ const uint8_t *file_set(struct file *f, unsigned site, unsigned s, unsigned q, u
     return record;
 }
 
-void file_close(struct file *f) {
-    size_t distance = f->records * SPIRESLATE_RECORD;
-    uint8_t *trailer = f->bytes + distance;
+/* Puts the trailer of so many records of so many bytes each; says how long the file is. */
+static size_t put_trailer(uint8_t *bytes, unsigned records, unsigned sites, unsigned form, size_t size) {
+    size_t distance = records * size;
+    uint8_t *trailer = bytes + distance;
     memset(trailer, 0, SPIRESLATE_TRAILER);
-    put_two(trailer, f->records);
-    trailer[2] = (uint8_t)f->sites;
+    put_two(trailer, records);
+    trailer[2] = (uint8_t)sites;
+    trailer[3] = (uint8_t)form;
     put_two(trailer + 4, (unsigned)distance);
-    f->length = distance + SPIRESLATE_TRAILER;
+    return distance + SPIRESLATE_TRAILER;
 }
 
-void make_many(struct file *f) {
+void file_close(struct file *f) {
+    f->length = put_trailer(f->bytes, f->records, f->sites, SPIRESLATE_LONG_FORM, SPIRESLATE_RECORD);
+}
+
+void file_shorten(struct old_file *old, const struct file *f) {
+    enum { FRONT = AT_VECTOR + 2 * EIGHT };
+    for (unsigned i = 0; i < f->records; i++) {
+        uint8_t *to = old->bytes + i * SPIRESLATE_OLD_RECORD;
+        const uint8_t *from = f->bytes + i * SPIRESLATE_RECORD;
+        memcpy(to, from, FRONT);
+        memcpy(to + FRONT, from + AT_TARGET, SPIRESLATE_OLD_RECORD - FRONT);
+    }
+    old->length = put_trailer(old->bytes, f->records, f->sites, SPIRESLATE_OLD_FORM, SPIRESLATE_OLD_RECORD);
+}
+
+static void put_many(struct file *f, const char *name, unsigned sites) {
     enum { OBJECTS = 64, ROUNDS = 3, KEYS = 2 };
-    file_open(f, "256 records, 64 objects", SITES);
-    for (unsigned o = 0; o < OBJECTS; o++) file_create(f, o % SITES);
+    file_open(f, name, sites);
+    for (unsigned o = 0; o < OBJECTS; o++) file_create(f, o % sites);
     file_sync_all(f);
     for (unsigned i = 0; i < ROUNDS * OBJECTS; i++) {
-        unsigned site = random_below(SITES), o = i % OBJECTS;
-        if (random_below(4) == 0) file_sync(f, site, random_below(SITES));
-        file_set(f, site, o % SITES, o / SITES + 1, random_below(KEYS), random_value());
+        unsigned site = random_below(sites), o = i % OBJECTS;
+        if (random_below(4) == 0) file_sync(f, site, random_below(sites));
+        file_set(f, site, o % sites, o / sites + 1, random_below(KEYS), random_value());
+    }
+    file_close(f);
+}
+
+void make_many(struct file *f) { put_many(f, "256 records, 64 objects", EIGHT); }
+
+void make_many_wide(struct file *f) { put_many(f, "256 records, 16 sites", SITES); }
+
+/* A Create that all sites have seen. */
+static void open_box(struct file *f, const char *name, unsigned sites) {
+    file_open(f, name, sites);
+    file_create(f, 0);
+    file_sync_all(f);
+}
+
+/* Sets up to so many, each made when all before it had been seen. */
+static void settle_box(struct file *f, unsigned sets) {
+    for (unsigned i = f->records - 1; i < sets; i++) {
+        file_sync_all(f);
+        file_set(f, i % f->sites, 0, 1, random_below(16), random_value());
     }
     file_close(f);
 }
@@ -88,63 +126,47 @@ void make_many(struct file *f) {
 enum { SETS = 64, DISPUTED_KEYS = 5 };
 
 void make_settled(struct file *f) {
-    file_open(f, "64 Sets, 32 versions", SITES);
-    file_create(f, 0);
-    file_sync_all(f);
+    open_box(f, "64 Sets, 32 versions", EIGHT);
     for (unsigned i = 0; i < 2 * DISPUTED_KEYS; i++) file_set(f, 1 + i % 2, 0, 1, i / 2, random_value());
-    for (unsigned i = 2 * DISPUTED_KEYS; i < SETS; i++) {
-        file_sync_all(f);
-        file_set(f, i % SITES, 0, 1, random_below(16), random_value());
-    }
-    file_close(f);
+    settle_box(f, SETS);
 }
 
 void make_disputed(struct file *f) {
-    file_open(f, "64 Sets in dispute", SITES);
-    file_create(f, 0);
-    file_sync_all(f);
+    open_box(f, "64 Sets in dispute", EIGHT);
     for (unsigned i = 0; i < SETS; i++) file_set(f, 1 + i % 2, 0, 1, i / 2 % DISPUTED_KEYS, 1000000 * (1 + i % 2));
+    file_close(f);
+}
+
+void make_wide(struct file *f) {
+    enum { BY_ALL = 48 };
+    open_box(f, "64 Sets of 16 sites", SITES);
+    for (unsigned i = 0; i < BY_ALL; i++) file_set(f, i % SITES, 0, 1, 2, 1000000 * (1 + i % SITES));
+    for (unsigned i = BY_ALL; i < SETS; i++) file_set(f, 1 + i % 2, 0, 1, 3, 1000000 * (1 + i % 2));
     file_close(f);
 }
 
 /* Values that lie so far apart are in two squares of the grid, so that they differ under every key. */
 enum { BOX_SETS = 20, APART = 8 };
 
-/* A Create that all sites have seen. */
-static void open_box(struct file *f, const char *name) {
-    file_open(f, name, SITES);
-    file_create(f, 0);
-    file_sync_all(f);
-}
-
-/* Sets up to so many, each made when all before it had been seen. */
-static void settle_box(struct file *f) {
-    for (unsigned i = f->records - 1; i < BOX_SETS; i++) {
-        file_sync_all(f);
-        file_set(f, i % SITES, 0, 1, random_below(16), random_value());
-    }
-    file_close(f);
-}
-
 void make_calm(struct file *f) {
-    open_box(f, "20 Sets, no conflict");
-    settle_box(f);
+    open_box(f, "20 Sets, no conflict", EIGHT);
+    settle_box(f, BOX_SETS);
 }
 
 void make_row(struct file *f) {
-    open_box(f, "20 Sets, 32 groups");
+    open_box(f, "20 Sets, 32 groups", EIGHT);
     for (unsigned i = 0; i < 2 * DISPUTED_KEYS; i++) file_set(f, 1 + i % 2, 0, 1, i / 2, APART * i);
-    settle_box(f);
+    settle_box(f, BOX_SETS);
 }
 
-void make_eight(struct file *f) {
-    open_box(f, "20 Sets, 8 groups");
+void make_sixteen(struct file *f) {
+    open_box(f, "20 Sets, 16 groups", SITES);
     for (unsigned i = 0; i < BOX_SETS; i++) file_set(f, i % SITES, 0, 1, 0, APART * i);
     file_close(f);
 }
 
 void make_pairs(struct file *f) {
-    open_box(f, "20 Sets, 1,024 groups");
+    open_box(f, "20 Sets, 1,024 groups", EIGHT);
     for (unsigned i = 0; i < BOX_SETS; i++) file_set(f, 1 + i % 2, 0, 1, i / 2, APART * i);
     file_close(f);
 }
@@ -157,7 +179,7 @@ void make_hard(struct file *f) {
         {1, 1, 2}, {4, 0, 3}, {1, 3, 2}, {5, 2, 2}, {3, 1, SEES}, {5, 4, SEES}, {7, 0, 1}, {0, 3, SEES},
         {0, 3, 3}, {3, 3, 4}, {1, 5, SEES}, {0, 1, 0}, {3, 1, 1}, {7, 2, 5}, {1, 4, 6}, {7, 4, 0},
     };
-    open_box(f, "20 Sets, a long search");
+    open_box(f, "20 Sets, a long search", EIGHT);
     for (unsigned i = 0; i < sizeof made / sizeof *made; i++) {
         if (made[i][2] == SEES) file_sync(f, made[i][0], made[i][1]);
         else file_set(f, made[i][0], 0, 1, made[i][1], APART * made[i][2]);
@@ -173,7 +195,8 @@ void hold_untrue(struct drawing *d, const struct file *f) {
     for (unsigned i = 0; i < f->records; i++) d->counters.held[f->bytes[i * SPIRESLATE_RECORD + 1]]++;
     for (size_t i = 0; i < f->records * SPIRESLATE_RECORD; i++)
         d->counters.sum += (uint32_t)f->bytes[i] << 8 * (i % sizeof d->counters.sum);
-    memcpy(d->records, f->bytes, f->records * SPIRESLATE_RECORD);
+    for (unsigned i = 0; i < f->records; i++)
+        memcpy(d->records + i * SPIRESLATE_PLACE, f->bytes + i * SPIRESLATE_RECORD, SPIRESLATE_RECORD);
     d->objects[1] = (uint16_t)(f->records - 1);
     d->objects[2] = 1;
 }

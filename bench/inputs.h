@@ -16,7 +16,8 @@ struct drawing {
     (d)->records, SPIRESLATE_RECORDS_LENGTH, (d)->objects, SPIRESLATE_OBJECTS_LENGTH, (d)->groups,                   \
         SPIRESLATE_GROUPS_LENGTH
 
-/* A stored file: records made one after another, in an order in which they may arrive, and behind them a trailer. */
+/* A stored file, a long block: records made one after another, in an order in which they may arrive, and behind them a
+   trailer. */
 struct file {
     const char *name;
     unsigned sites, records;
@@ -42,19 +43,29 @@ const uint8_t *file_set(struct file *f, unsigned site, unsigned s, unsigned q, u
 /* Puts the trailer behind the records. */
 void file_close(struct file *f);
 
-/* 256 records of 8 sites over 64 objects, which have three Sets each, some of them made without sight of another. */
-void make_many(struct file *f);
+/* The old block of the same drawing, whose sites are eight at most. */
+struct old_file {
+    uint8_t bytes[SPIRESLATE_BLOCK];
+    size_t length;
+};
 
-/* One object of 64 Sets and 32 versions. Two sites that see nothing of each other set five keys. */
-void make_settled(struct file *f);  /* once each; the other 54 Sets have seen all before them */
-void make_disputed(struct file *f); /* again and again, so that all 64 Sets are in dispute */
+void file_shorten(struct old_file *old, const struct file *f);
+
+/* 256 records over 64 objects, which have three Sets each, some of them made without sight of another. */
+void make_many(struct file *f);      /* of eight sites */
+void make_many_wide(struct file *f); /* of sixteen */
+
+/* One object of 64 Sets and 32 versions. */
+void make_settled(struct file *f);  /* two of eight sites dispute five keys; the other 54 Sets have seen all before */
+void make_disputed(struct file *f); /* they do so again and again, so that all 64 Sets are in dispute */
+void make_wide(struct file *f);     /* all of sixteen sites dispute one key, and two of them another */
 
 /* One box of 20 Sets, for the engine that works out its groups with no arrival order. */
-void make_calm(struct file *f);  /* no conflict, one group */
-void make_row(struct file *f);   /* two sites disagree on five keys: 32 groups */
-void make_eight(struct file *f); /* eight sites disagree on one key: 8 groups */
-void make_pairs(struct file *f); /* two sites disagree on ten keys: 1,024 groups */
-void make_hard(struct file *f);  /* more than 32 groups, and of many random ones the longest way to the 33rd */
+void make_calm(struct file *f);    /* no conflict, one group */
+void make_row(struct file *f);     /* two sites disagree on five keys: 32 groups */
+void make_sixteen(struct file *f); /* sixteen sites disagree on one key: 16 groups */
+void make_pairs(struct file *f);   /* two sites disagree on ten keys: 1,024 groups */
+void make_hard(struct file *f);    /* more than 32 groups, and of many random ones the longest way to the 33rd */
 
 /* Sound tables of the file's records, which make one box: its row has the empty group alone, so that they need not be
    true. */

@@ -1,6 +1,7 @@
-/* The plain calls that open, take, read, check and write: document 01's rules on an index of the records. A record is
+/* The plain calls that open, take, read, check and write: the documents' rules on an index of the records. A record is
    judged against the index, the step is made on the object's row in the table, and reading a file or checking tables
    takes the records one after another into tables that were just opened, whose soundness needs no test. */
+#include <stddef.h>
 #include <string.h>
 
 #include "plain.h"
@@ -51,31 +52,28 @@ static unsigned step(uint64_t *row, unsigned n, uint64_t conflicts, unsigned k) 
     return count;
 }
 
-/* Judges a record of so many bytes, and takes it into index and tables where it is not refused. The bytes of the
-   record are left to the caller. */
-static unsigned take(struct index *x, uint16_t *objects, uint64_t *groups, const uint8_t *record, size_t length) {
-    if (length != SPIRESLATE_RECORD) return SPIRESLATE_MALFORMED;
-    struct edit e;
-    memcpy(&e, record, sizeof e);
-    unsigned answer = index_judge(x, &e);
+/* Judges an edit, and takes it into index and tables where it is not refused. The bytes of its record are left to the
+   caller. */
+static unsigned take(struct index *x, uint16_t *objects, uint64_t *groups, const struct edit *e) {
+    unsigned answer = index_judge(x, e);
     if (answer != SPIRESLATE_DONE) return answer;
     if (x->records == RECORDS) return SPIRESLATE_FULL;
-    if (e.kind == CREATE) {
+    if (e->kind == CREATE) {
         if (x->objects == OBJECTS) return SPIRESLATE_FULL;
         uint16_t *entry = objects + x->objects * ENTRY;
         entry[0] = (uint16_t)x->records;
         entry[1] = 0;
         entry[2] = 1;
     } else {
-        unsigned o = index_target(x, &e), k = x->sets[o];
+        unsigned o = index_target(x, e), k = x->sets[o];
         uint16_t *entry = objects + o * ENTRY;
         if (k == SETS) return SPIRESLATE_FULL;
-        unsigned many = step(groups + o * GROUPS, entry[2], conflicts_of(x, o, &e), k);
+        unsigned many = step(groups + o * GROUPS, entry[2], conflicts_of(x, o, e), k);
         if (many > GROUPS) return SPIRESLATE_CROWDED;
         entry[1]++;
         entry[2] = (uint16_t)many;
     }
-    index_add(x, &e);
+    index_add(x, e);
     return SPIRESLATE_DONE;
 }
 
@@ -107,20 +105,43 @@ uint8_t plain_arrive(struct spireslate_counters *counters, uint8_t *records, siz
                      uint16_t *objects, size_t objects_length, uint64_t *groups, size_t groups_length,
                      const uint8_t *record, size_t record_length) {
     struct index x;
+    struct edit e;
     if (!lengths_right(records_length, objects_length, groups_length)) return SPIRESLATE_UNSOUND;
     if (!index_sound(&x, counters, records, objects, groups)) return SPIRESLATE_UNSOUND;
-    unsigned answer = take(&x, objects, groups, record, record_length);
+    if (record_length != SPIRESLATE_RECORD) return SPIRESLATE_MALFORMED;
+    memcpy(&e, record, sizeof e);
+    unsigned answer = take(&x, objects, groups, &e);
     if (answer != SPIRESLATE_DONE) return (uint8_t)answer;
-    memcpy(records + counters->records * SPIRESLATE_RECORD, record, SPIRESLATE_RECORD);
+    memcpy(records + counters->records * SPIRESLATE_PLACE, record, SPIRESLATE_RECORD);
     put_counters(counters, &x);
     return SPIRESLATE_DONE;
 }
 
-/* Takes n records one after another into an empty drawing; says the answer to the first refused, and its index. */
+/* The record at the front of a stretch of this form as an edit; says how many bytes it has. Of the sites that an old
+   record has no entry for nothing was applied. */
+static size_t decode(struct edit *e, const uint8_t *stretch, unsigned form) {
+    enum { FRONT = offsetof(struct edit, vector[SPIRESLATE_OLD_SITES]), TAIL = offsetof(struct edit, tsite) };
+    if (form == SPIRESLATE_LONG_FORM) {
+        memcpy(e, stretch, sizeof *e);
+        return SPIRESLATE_RECORD;
+    }
+    memcpy(e, stretch, FRONT);
+    memset((uint8_t *)e + FRONT, 0, TAIL - FRONT);
+    memcpy((uint8_t *)e + TAIL, stretch + FRONT, sizeof *e - TAIL);
+    return SPIRESLATE_OLD_RECORD;
+}
+
+static int has_old_form(unsigned kind) { return kind == CREATE || kind == SET; }
+
+/* Takes n records of this form one after another into an empty drawing; says the answer to the first refused, and its
+   index. */
 static struct spireslate_file_answer take_all(struct index *x, uint16_t *objects, uint64_t *groups,
-                                              const uint8_t *records, unsigned n) {
+                                              const uint8_t *stretch, unsigned n, unsigned form) {
     for (unsigned i = 0; i < n; i++) {
-        unsigned answer = take(x, objects, groups, records + i * SPIRESLATE_RECORD, SPIRESLATE_RECORD);
+        struct edit e;
+        unsigned answer = SPIRESLATE_MALFORMED;
+        stretch += decode(&e, stretch, form);
+        if (form == SPIRESLATE_LONG_FORM || has_old_form(e.kind)) answer = take(x, objects, groups, &e);
         if (answer != SPIRESLATE_DONE) return (struct spireslate_file_answer){(uint8_t)answer, i};
     }
     return (struct spireslate_file_answer){SPIRESLATE_DONE, 0};
@@ -133,7 +154,7 @@ struct spireslate_file_answer plain_read(struct spireslate_counters *counters, u
     struct index x;
     struct {
         uint16_t records;
-        uint8_t sites, zero;
+        uint8_t sites, form;
         uint32_t distance;
     } trailer;
     struct spireslate_file_answer bad = {SPIRESLATE_BAD_FILE, 0};
@@ -142,19 +163,21 @@ struct spireslate_file_answer plain_read(struct spireslate_counters *counters, u
     if (file_length > SPIRESLATE_FILE_LIMIT || file_length < SPIRESLATE_TRAILER) return bad;
     size_t at = file_length - SPIRESLATE_TRAILER;
     memcpy(&trailer, file + at, sizeof trailer);
-    if (trailer.records > RECORDS || trailer.zero != 0) return bad;
-    if (trailer.distance != trailer.records * (uint32_t)SPIRESLATE_RECORD || trailer.distance > at) return bad;
-    if (trailer.sites < 1 || trailer.sites > SITES) return (struct spireslate_file_answer){SPIRESLATE_BAD_SITES, 0};
+    if (trailer.records > RECORDS || trailer.form > SPIRESLATE_LONG_FORM) return bad;
+    int is_old = trailer.form == SPIRESLATE_OLD_FORM;
+    unsigned size = is_old ? SPIRESLATE_OLD_RECORD : SPIRESLATE_RECORD, most = is_old ? SPIRESLATE_OLD_SITES : SITES;
+    if (trailer.distance != trailer.records * size || trailer.distance > at) return bad;
+    if (trailer.sites < 1 || trailer.sites > most) return (struct spireslate_file_answer){SPIRESLATE_BAD_SITES, 0};
 
     const uint8_t *stretch = file + at - trailer.distance;
     open_tables(counters, records, objects, groups, trailer.sites);
     index_open(&x, trailer.sites);
-    struct spireslate_file_answer answer = take_all(&x, objects, groups, stretch, trailer.records);
+    struct spireslate_file_answer answer = take_all(&x, objects, groups, stretch, trailer.records, trailer.form);
     if (answer.number != SPIRESLATE_DONE) {
         open_tables(counters, records, objects, groups, trailer.sites);
         return answer;
     }
-    memcpy(records, stretch, trailer.distance);
+    memcpy(records, x.edits, x.records * sizeof *x.edits);
     put_counters(counters, &x);
     return answer;
 }
@@ -166,9 +189,10 @@ uint8_t plain_check(struct spireslate_counters counters, const uint8_t *records,
     uint64_t given_groups[SPIRESLATE_GROUPS_LENGTH] = {0};
     if (!lengths_right(records_length, objects_length, groups_length)) return SPIRESLATE_UNSOUND;
     if (counters.sites < 1 || counters.sites > SITES || counters.records > RECORDS) return SPIRESLATE_UNSOUND;
-    size_t used = (size_t)counters.records * SPIRESLATE_RECORD;
+    size_t used = (size_t)counters.records * SPIRESLATE_PLACE;
     index_open(&x, counters.sites);
-    if (take_all(&x, given_objects, given_groups, records, counters.records).number != SPIRESLATE_DONE ||
+    if (take_all(&x, given_objects, given_groups, records, counters.records, SPIRESLATE_LONG_FORM).number !=
+            SPIRESLATE_DONE ||
         counters.objects != x.objects || memcmp(counters.held, x.held, sizeof x.held) != 0 ||
         counters.sum != x.sum || !zero_bytes(records + used, SPIRESLATE_RECORDS_LENGTH - used) ||
         memcmp(objects, given_objects, sizeof given_objects) != 0 ||
@@ -188,7 +212,8 @@ struct spireslate_write_answer plain_write(struct spireslate_counters counters, 
     size_t used = (size_t)counters.records * SPIRESLATE_RECORD, bytes = used + SPIRESLATE_TRAILER;
     if (start > out_length || bytes > out_length - start)
         return (struct spireslate_write_answer){SPIRESLATE_NO_ROOM, 0};
-    uint32_t trailer[2] = {counters.records | (uint32_t)counters.sites << 16, (uint32_t)used};
+    uint32_t trailer[2] = {
+        counters.records | (uint32_t)counters.sites << 16 | (uint32_t)SPIRESLATE_LONG_FORM << 24, (uint32_t)used};
     memcpy(out + start, records, used);
     memcpy(out + start + used, trailer, sizeof trailer);
     return (struct spireslate_write_answer){SPIRESLATE_DONE, bytes};

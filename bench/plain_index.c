@@ -21,11 +21,17 @@ static int is_unfit(unsigned sites, const struct edit *e) {
     return (e->tsite | e->key | e->tseq) != 0 || e->value != 0;
 }
 
-/* Whether v has an entry above w's. Without a branch inside, so that the eight are compared at once. */
-static int is_above(const uint16_t *v, const uint16_t *w) {
+/* Whether v has one of its first n entries above w's. Without a branch inside, so that many are compared at once. */
+static inline int is_first_above(const uint16_t *v, const uint16_t *w, unsigned n) {
     int above = 0;
-    for (unsigned s = 0; s < SITES; s++) above |= v[s] > w[s];
+    for (unsigned s = 0; s < n; s++) above |= v[s] > w[s];
     return above;
+}
+
+/* Whether v has an entry above w's, where the entries of v at or past N are 0: half of them are left out where they
+   can be. */
+static int is_above(const struct index *x, const uint16_t *v, const uint16_t *w) {
+    return x->sites <= SITES / 2 ? is_first_above(v, w, SITES / 2) : is_first_above(v, w, SITES);
 }
 
 /* Answer 4. The edits held have seen what those that they had seen had seen, so the latest edit of each site that e
@@ -33,7 +39,7 @@ static int is_above(const uint16_t *v, const uint16_t *w) {
 static int is_torn(const struct index *x, const struct edit *e) {
     for (unsigned s = 0; s < x->sites; s++) {
         unsigned seen = e->vector[s] - (s == e->site);
-        if (seen != 0 && is_above(x->edits[x->place[s][seen]].vector, e->vector)) return 1;
+        if (seen != 0 && is_above(x, x->edits[x->place[s][seen]].vector, e->vector)) return 1;
     }
     return 0;
 }
@@ -50,7 +56,7 @@ unsigned index_judge(const struct index *x, const struct edit *e) {
     uint16_t next[SITES];
     memcpy(next, x->held, sizeof next);
     next[e->site]++;
-    if (is_above(e->vector, next)) return SPIRESLATE_EARLY;
+    if (is_above(x, e->vector, next)) return SPIRESLATE_EARLY;
     if (is_torn(x, e)) return SPIRESLATE_TORN;
     if (e->kind == SET && is_astray(x, e)) return SPIRESLATE_ASTRAY;
     return SPIRESLATE_DONE;
@@ -107,7 +113,7 @@ static int is_row_sound(const uint64_t *row, unsigned sets, unsigned many) {
 static int walk(struct index *x, const uint8_t *records, unsigned n, unsigned objects) {
     for (unsigned i = 0; i < n; i++) {
         struct edit e;
-        memcpy(&e, records + i * SPIRESLATE_RECORD, sizeof e);
+        memcpy(&e, records + i * SPIRESLATE_PLACE, sizeof e);
         if (index_judge(x, &e) != SPIRESLATE_DONE) return 0;
         if (e.kind == CREATE ? x->objects == objects : x->sets[index_target(x, &e)] == SETS) return 0;
         index_add(x, &e);
@@ -128,7 +134,7 @@ int index_sound(struct index *x, const struct spireslate_counters *c, const uint
     }
     for (unsigned i = x->objects * ENTRY; i < SPIRESLATE_OBJECTS_LENGTH; i++)
         if (objects[i] != 0) return 0;
-    size_t used = x->records * SPIRESLATE_RECORD, rows = x->objects * GROUPS;
+    size_t used = x->records * SPIRESLATE_PLACE, rows = x->objects * GROUPS;
     return zero_bytes(records + used, SPIRESLATE_RECORDS_LENGTH - used) &&
            zero_groups(groups + rows, SPIRESLATE_GROUPS_LENGTH - rows);
 }

@@ -5,10 +5,10 @@
 
 #include "spireslate.h"
 
-enum { CREATE = 1, SET = 2, SITES = 8, RECORDS = 256, OBJECTS = 64, SETS = 64, GROUPS = 32, KEYS = 16, ENTRY = 3 };
-enum { SQUARE = 8, SQUARE_KEYS = 2 };
+enum { CREATE = 1, SET = 2, RECORDS = 256, OBJECTS = 64, SETS = 64, GROUPS = 32, KEYS = 16, ENTRY = 3 };
+enum { SITES = SPIRESLATE_SITES, SQUARE = 8, SQUARE_KEYS = 2 };
 
-/* An edit as its record lays it out, so that copying the 28 bytes decodes it on a little-endian processor. */
+/* An edit as its record lays it out, so that copying the bytes decodes it on a little-endian processor. */
 struct edit {
     uint8_t kind, site;
     uint16_t seq;
@@ -19,6 +19,7 @@ struct edit {
 };
 
 _Static_assert(sizeof(struct edit) == SPIRESLATE_RECORD, "an edit is laid out as its record");
+_Static_assert(SPIRESLATE_PLACE == SPIRESLATE_RECORD, "the records of a block and their places are copied at once");
 #if __BYTE_ORDER__ != __ORDER_LITTLE_ENDIAN__
 #error "records are little-endian, and are copied into edits as they are"
 #endif

@@ -8,7 +8,7 @@
 
 #include "inputs.h"
 
-enum { PAINTED = 1 << 20, MARGIN = 4096, FILES = 3, ROW = 32 };
+enum { PAINTED = 1 << 20, MARGIN = 4096, FILES = 5, ROW = 32 };
 
 static _Alignas(64) uint8_t painted[PAINTED];
 static uint8_t *stack_pointer; /* with which the call was made */
@@ -93,10 +93,17 @@ static void measure_views(void) {
     }
 }
 
-/* Every call on the drawing of a file: whole, one record short with that record arriving, full, and with a damage in
-   each table, at its front and at its end. */
+/* Every call on the drawing of a file, whose old block is read too where it has one: whole, one record short with that
+   record arriving, full, and with a damage in each table, at its front and at its end. */
 static void measure_file(const struct file *f) {
     static struct drawing whole;
+    static struct old_file old;
+    if (f->sites <= SPIRESLATE_OLD_SITES) {
+        file_shorten(&old, f);
+        input = old.bytes, input_length = old.length;
+        measure(LOCATE);
+        measure(READ);
+    }
     input = f->bytes, input_length = f->length;
     measure(LOCATE);
     measure(READ);
@@ -114,7 +121,7 @@ static void measure_file(const struct file *f) {
         unsigned last = work.counters.objects - 1u;
         switch (damage) {
         case 0: work.counters.held[SPIRESLATE_SITES - 1]++; break;
-        case 1: work.records[(work.counters.records - 1u) * SPIRESLATE_RECORD] = 9; break;
+        case 1: work.records[(work.counters.records - 1u) * SPIRESLATE_PLACE] = 9; break;
         case 2: work.objects[3 * last + 1]++; break;
         case 3: work.groups[(size_t)ROW * last] = 0; break;
         case 4: work.groups[SPIRESLATE_GROUPS_LENGTH - 1] = 1; break;
@@ -148,7 +155,7 @@ static void measure_crowded(void) {
 
 /* Boxes of 20 Sets: the search goes 20 calls deep. */
 static void measure_boxes(void) {
-    static void (*const makers[])(struct file *) = {make_calm, make_row, make_eight, make_pairs, make_hard};
+    static void (*const makers[])(struct file *) = {make_calm, make_row, make_sixteen, make_pairs, make_hard};
     static struct file f;
     for (unsigned i = 0; i < sizeof makers / sizeof *makers; i++) {
         makers[i](&f);
@@ -168,7 +175,9 @@ int main(int argc, char **argv) {
     make_many(&files[0]);
     make_settled(&files[1]);
     make_disputed(&files[2]);
-    for (line = 0; line < 10; line += 3) measure(OPEN);
+    make_many_wide(&files[3]);
+    make_wide(&files[4]);
+    for (line = 0; line <= SPIRESLATE_SITES + 1; line++) measure(OPEN);
     for (unsigned i = 0; i < FILES; i++) measure_file(&files[i]);
     measure_crowded();
     measure_boxes();

@@ -1,15 +1,15 @@
 /* Makes calls of spireslate.h as a script on standard input asks for them, thousands in one process, and writes the
    outcome of each to standard output. All that is lent to a call (counters, three tables, record, file, output) stands
    in slots. Each slot lies between guard bytes, and is compared with a copy from before the call, whether or not the
-   call may write there. tools/compare-calls writes the script and holds each outcome to document 01. All numbers are
+   call may write there. tools/compare-calls writes the script and holds each outcome to the documents. All numbers are
    little-endian, as the processor has them.
 
    The script:  'F', slot (1), length in bytes (4), the bytes: the slot holds these from now on.
                 'C', call (1), n (1), line (8), start (8): the call is made with what the slots hold. For the call
                 that gives groups, n and line are the site and the sequence number of a Create.
-   An outcome:  number (1), sites (1), records (2), value (8): what the call gave; 0 where it gives no such thing.
-                The value is the index of a refused record, the bytes written, the start of a located block, or how
-                many groups there are.
+   An outcome:  number (1), sites (1), form (1), records (2), value (8): what the call gave; 0 where it gives no such
+                thing. The value is the index of a refused record, the bytes written, the start of a located block, or
+                how many groups there are.
                 Touched guards (1): a bit for each slot.
                 For each slot: first (4), length (4), so many bytes: the stretch from the first byte that changed to
                 the last one, as it is now; 0 and 0 where none did. */
@@ -39,7 +39,7 @@ struct request {
 };
 
 struct outcome {
-    uint8_t number, sites;
+    uint8_t number, sites, form;
     uint16_t records;
     uint64_t value;
 };
@@ -102,7 +102,8 @@ static struct outcome read_file(struct spireslate_counters *counters) {
 
 static struct outcome locate(void) {
     struct spireslate_located l = spireslate_locate(bytes_of(STORED), slots[STORED].length);
-    return (struct outcome){.number = l.number, .sites = l.sites, .records = l.records, .value = l.start};
+    return (struct outcome){
+        .number = l.number, .sites = l.sites, .form = l.form, .records = l.records, .value = l.start};
 }
 
 static struct outcome enumerate(const struct spireslate_counters *counters, const struct request *r) {
@@ -154,6 +155,7 @@ static void give_outcome(const struct outcome *o) {
         if (is_touched(&slots[s])) touched |= (uint8_t)(1 << s);
     give(&o->number, sizeof o->number);
     give(&o->sites, sizeof o->sites);
+    give(&o->form, sizeof o->form);
     give(&o->records, sizeof o->records);
     give(&o->value, sizeof o->value);
     give(&touched, sizeof touched);

@@ -1,14 +1,14 @@
 /* Document 01's example through the C interface: a drawing of three sites takes four edits one by one, its list is
    printed by lines and whole, its box's groups are worked out a second time, its block is written behind other bytes,
-   located, read into other tables and checked. Then some inputs that are refused, each with its number. `run` compares
-   what is printed with example.expected. */
+   located, read into other tables and checked, and so is a block of the same edits in the old form. Then some inputs
+   that are refused, each with its number. `run` compares what is printed with example.expected. */
 #include <stdio.h>
 #include <string.h>
 
 #include "spireslate.h"
 
 /* The layouts that the library was compiled with. */
-_Static_assert(sizeof(struct spireslate_counters) == 28, "counters");
+_Static_assert(sizeof(struct spireslate_counters) == 44, "counters");
 _Static_assert(sizeof(struct spireslate_file_answer) == 16, "answer to a file");
 _Static_assert(sizeof(struct spireslate_write_answer) == 16, "answer to a call that writes");
 _Static_assert(sizeof(struct spireslate_groups_answer) == 16, "answer to a call that gives groups");
@@ -27,20 +27,24 @@ struct drawing {
         SPIRESLATE_GROUPS_LENGTH
 
 enum { EDITS = 4, PICTURE = 16, BEHIND = 4, BLOCK = EDITS * SPIRESLATE_RECORD + SPIRESLATE_TRAILER, MARK = 0xAA };
+enum { OLD_BLOCK = EDITS * SPIRESLATE_OLD_RECORD + SPIRESLATE_TRAILER };
+
+/* Where a record has its vector, and where what stands behind that. */
+enum { VECTOR = 4, TARGET = VECTOR + 2 * SPIRESLATE_SITES, OLD_TARGET = VECTOR + 2 * SPIRESLATE_OLD_SITES };
 
 static const char *const names[EDITS] = {"0.1", "1.1", "2.1", "0.2"};
 
-/* Kind, site, sequence number; the vector; target site, key, target sequence number, value. */
+/* Kind, site, sequence number; the vector; target site, key, target sequence number, value. What is left out is 0. */
 static const uint8_t edits[EDITS][SPIRESLATE_RECORD] = {
-    {1, 0, 1, 0, /**/ 1, 0, 0, 0, 0, 0, 0, 0, 0, 0, 0, 0, 0, 0, 0, 0, /**/ 0, 0, 0, 0, 0, 0, 0, 0},
-    {2, 1, 1, 0, /**/ 1, 0, 1, 0, 0, 0, 0, 0, 0, 0, 0, 0, 0, 0, 0, 0, /**/ 0, 2, 1, 0, 40, 0, 0, 0},
-    {2, 2, 1, 0, /**/ 1, 0, 0, 0, 1, 0, 0, 0, 0, 0, 0, 0, 0, 0, 0, 0, /**/ 0, 2, 1, 0, 44, 0, 0, 0},
-    {2, 0, 2, 0, /**/ 2, 0, 0, 0, 0, 0, 0, 0, 0, 0, 0, 0, 0, 0, 0, 0, /**/ 0, 5, 1, 0, 7, 0, 0, 0},
+    {1, 0, 1, 0, [VECTOR] = 1, 0, 0, 0, 0, 0},
+    {2, 1, 1, 0, [VECTOR] = 1, 0, 1, 0, 0, 0, [TARGET] = 0, 2, 1, 0, 40, 0, 0, 0},
+    {2, 2, 1, 0, [VECTOR] = 1, 0, 0, 0, 1, 0, [TARGET] = 0, 2, 1, 0, 44, 0, 0, 0},
+    {2, 0, 2, 0, [VECTOR] = 2, 0, 0, 0, 0, 0, [TARGET] = 0, 5, 1, 0, 7, 0, 0, 0},
 };
 
-static struct drawing first, second, damaged;
+static struct drawing first, second, third, damaged;
 static uint8_t output[SPIRESLATE_LIST];
-static uint8_t file[PICTURE + BLOCK + BEHIND];
+static uint8_t file[PICTURE + BLOCK + BEHIND], old_file[OLD_BLOCK];
 
 static void print_bytes(const uint8_t *bytes, size_t n) { fwrite(bytes, 1, n, stdout); }
 
@@ -106,12 +110,34 @@ static void store(const struct drawing *d) {
     printf("\n");
 }
 
-static void load(struct drawing *d, size_t length) {
-    struct spireslate_located l = spireslate_locate(file, length);
-    printf("locate: %d, sites %d, records %d, start %zu\n", l.number, l.sites, l.records, l.start);
-    struct spireslate_file_answer r = spireslate_read(&d->counters, TABLES(d), file, length);
+static void load(struct drawing *d, const uint8_t *bytes, size_t length) {
+    struct spireslate_located l = spireslate_locate(bytes, length);
+    printf("locate: %d, sites %d, form %d, records %d, start %zu\n", l.number, l.sites, l.form, l.records, l.start);
+    struct spireslate_file_answer r = spireslate_read(&d->counters, TABLES(d), bytes, length);
     printf("read: %d, index %zu\n", r.number, r.index);
     printf("check: %d\n", spireslate_check(d->counters, TABLES(d)));
+}
+
+/* An old block of the edits: of each vector it has the first eight entries alone. */
+static void store_old(void) {
+    static const uint8_t trailer[] = {EDITS, 0, 3, SPIRESLATE_OLD_FORM, EDITS * SPIRESLATE_OLD_RECORD, 0, 0, 0};
+    for (int i = 0; i < EDITS; i++) {
+        uint8_t *record = old_file + i * SPIRESLATE_OLD_RECORD;
+        memcpy(record, edits[i], OLD_TARGET);
+        memcpy(record + OLD_TARGET, edits[i] + TARGET, SPIRESLATE_OLD_RECORD - OLD_TARGET);
+    }
+    memcpy(old_file + OLD_BLOCK - SPIRESLATE_TRAILER, trailer, sizeof trailer);
+}
+
+/* Reads the old block; what it opens to is the drawing of the long one, and is written as that. */
+static void load_old(struct drawing *d, const struct drawing *same) {
+    load(d, old_file, OLD_BLOCK);
+    printf("the same tables: %d\n", memcmp(d->records, same->records, sizeof d->records) == 0 &&
+                                         memcmp(d->objects, same->objects, sizeof d->objects) == 0 &&
+                                         memcmp(d->groups, same->groups, sizeof d->groups) == 0);
+    struct spireslate_write_answer w = spireslate_write(d->counters, TABLES(d), output, BLOCK, 0);
+    printf("write: %d, %zu bytes\n", w.number, w.bytes);
+    printf("the same block: %d\n", memcmp(output, file + PICTURE, BLOCK) == 0);
 }
 
 /* Tables one element short, one after another, then a damaged group, and a number of sites that is none. */
@@ -131,15 +157,16 @@ static void refuse_tables(struct drawing *d) {
     struct spireslate_write_answer w = spireslate_line(damaged.counters, TABLES(&damaged), 0, output, 0, 0);
     printf("equal groups: %d, %zu bytes\n", w.number, w.bytes);
     printf("0 sites: %d\n", spireslate_open(c, TABLES(d), 0));
-    printf("9 sites: %d\n", spireslate_open(c, TABLES(d), SPIRESLATE_SITES + 1));
+    printf("17 sites: %d\n", spireslate_open(c, TABLES(d), SPIRESLATE_SITES + 1));
 }
 
 static void refuse_edits(struct drawing *d) {
     uint8_t late[SPIRESLATE_RECORD];
     memcpy(late, edits[1], sizeof late);
     late[2] = late[6] = 3;
-    printf("a record of 27 bytes: %d\n",
+    printf("a record of 43 bytes: %d\n",
            spireslate_arrive(&d->counters, TABLES(d), edits[0], SPIRESLATE_RECORD - 1));
+    printf("an old record: %d\n", spireslate_arrive(&d->counters, TABLES(d), old_file, SPIRESLATE_OLD_RECORD));
     printf("edit 1.1 again: %d\n", spireslate_arrive(&d->counters, TABLES(d), edits[1], SPIRESLATE_RECORD));
     printf("edit 1.3 before 1.2: %d\n", spireslate_arrive(&d->counters, TABLES(d), late, SPIRESLATE_RECORD));
 }
@@ -157,10 +184,10 @@ static void refuse_outputs(const struct drawing *d) {
 /* A file that ends inside its trailer, which leaves the drawing; then one whose third record has no kind, which leaves
    an empty drawing. */
 static void refuse_files(struct drawing *d) {
-    load(d, PICTURE + BLOCK - 1);
+    load(d, file, PICTURE + BLOCK - 1);
     print_counters(d);
     file[PICTURE + 2 * SPIRESLATE_RECORD] = 0;
-    load(d, PICTURE + BLOCK);
+    load(d, file, PICTURE + BLOCK);
     print_counters(d);
     print_list(d);
 }
@@ -172,9 +199,12 @@ int main(void) {
     print_list(&first);
     compare_engines(&first);
     store(&first);
-    load(&second, PICTURE + BLOCK);
+    load(&second, file, PICTURE + BLOCK);
     print_counters(&second);
     print_list(&second);
+    store_old();
+    load_old(&third, &second);
+    print_counters(&third);
     refuse_tables(&second);
     refuse_edits(&second);
     refuse_outputs(&second);

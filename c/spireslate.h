@@ -26,7 +26,7 @@ enum {
     SPIRESLATE_FULL = 6,          /* 256 records, 64 objects or 64 Sets of the object are held */
     SPIRESLATE_CROWDED = 7,       /* the object would have, or has, more than 32 versions */
     SPIRESLATE_UNSOUND = 8,       /* the tables are unsound, or not of their lengths */
-    SPIRESLATE_BAD_SITES = 9,     /* the number of sites is not 1 to 8 */
+    SPIRESLATE_BAD_SITES = 9,     /* N is not 1 to 16, or to 8 in an old block */
     SPIRESLATE_BAD_FILE = 10,     /* the file is over the limit, or its trailer is unfit */
     SPIRESLATE_NO_ROOM = 11,      /* the output has no room at the start given, or is not 32 groups long */
     SPIRESLATE_NO_LINE = 12,      /* the list has no line of that number */
@@ -35,17 +35,27 @@ enum {
 
 /* Lengths: of the three tables and of an output of groups in elements, all others in bytes. */
 enum {
-    SPIRESLATE_SITES = 8,             /* entries of a vector, and the most sites of a drawing */
-    SPIRESLATE_RECORD = 28,           /* an edit record */
-    SPIRESLATE_RECORDS_LENGTH = 7168, /* the records' table: 256 places of 28 bytes */
-    SPIRESLATE_OBJECTS_LENGTH = 192,  /* the objects' table: 64 entries of 3 numbers */
-    SPIRESLATE_GROUPS_LENGTH = 2048,  /* the groups' table: 64 rows of 32 groups */
-    SPIRESLATE_ROW = 32,              /* the groups of one object, and the output for them */
-    SPIRESLATE_TRAILER = 8,           /* the trailer of a block */
-    SPIRESLATE_BLOCK = 7176,          /* the longest block: 256 records and the trailer */
-    SPIRESLATE_FILE_LIMIT = 65536,    /* the longest file that is read */
-    SPIRESLATE_LINE = 874,            /* no line of the list is longer */
-    SPIRESLATE_LIST = 1790826         /* no list is longer: 2,049 lines */
+    SPIRESLATE_SITES = 16,             /* entries of a vector, and the most sites of a drawing */
+    SPIRESLATE_RECORD = 44,            /* an edit record */
+    SPIRESLATE_PLACE = 44,             /* a place of the records' table, which holds one record */
+    SPIRESLATE_RECORDS_LENGTH = 11264, /* the records' table: 256 places */
+    SPIRESLATE_OBJECTS_LENGTH = 192,   /* the objects' table: 64 entries of 3 numbers */
+    SPIRESLATE_GROUPS_LENGTH = 2048,   /* the groups' table: 64 rows of 32 groups */
+    SPIRESLATE_ROW = 32,               /* the groups of one object, and the output for them */
+    SPIRESLATE_TRAILER = 8,            /* the trailer of a block */
+    SPIRESLATE_BLOCK = 11272,          /* the longest block: 256 records and the trailer */
+    SPIRESLATE_FILE_LIMIT = 65536,     /* the longest file that is read */
+    SPIRESLATE_LINE = 874,             /* no line of the list is longer */
+    SPIRESLATE_LIST = 1790826          /* no list is longer: 2,049 lines */
+};
+
+/* The form of a block, which is the fourth byte of its trailer. Blocks are written in the long form, and read in both.
+   Only a stored block has old records: one that arrives is a long one, and so is one in the table. */
+enum {
+    SPIRESLATE_OLD_FORM = 0,
+    SPIRESLATE_LONG_FORM = 1,
+    SPIRESLATE_OLD_SITES = 8,  /* entries of an old record's vector, and the most sites of an old block */
+    SPIRESLATE_OLD_RECORD = 28 /* an old record, in bytes: the same fields in the same order */
 };
 
 /* The counters of a drawing, which the caller keeps beside its three tables: N, the records and the objects held, how
@@ -79,11 +89,12 @@ struct spireslate_groups_answer {
     size_t count;
 };
 
-/* The answer to a file in which a block is located, N, the number of records, and where the first record starts in the
-   file; the last three are 0 when refused. */
+/* The answer to a file in which a block is located, N, the block's form, the number of records, and where the first
+   record starts in the file; the last four are 0 when refused. */
 struct spireslate_located {
     uint8_t number;
     uint8_t sites;
+    uint8_t form;
     uint16_t records;
     size_t start;
 };
@@ -92,13 +103,14 @@ struct spireslate_located {
 uint8_t spireslate_open(struct spireslate_counters *counters, uint8_t *records, size_t records_length,
                         uint16_t *objects, size_t objects_length, uint64_t *groups, size_t groups_length, uint8_t n);
 
-/* Takes an edit record: 8, then 1 to 7, the first that applies. */
+/* Takes an edit record: 8, then 1 to 7, the first that applies. One that is not SPIRESLATE_RECORD long is 1. */
 uint8_t spireslate_arrive(struct spireslate_counters *counters, uint8_t *records, size_t records_length,
                           uint16_t *objects, size_t objects_length, uint64_t *groups, size_t groups_length,
                           const uint8_t *record, size_t record_length);
 
-/* Reads a file whose last bytes are a block into the tables: 8 for lengths alone, 10, 9, then the answer to the first
-   record that is refused, 1 to 7, in which case the tables are left as an empty drawing of the file's sites. */
+/* Reads a file whose last bytes are a block, of either form, into the tables: 8 for lengths alone, 10, 9, then the
+   answer to the first record that is refused, 1 to 7, in which case the tables are left as an empty drawing of the
+   file's sites. */
 struct spireslate_file_answer spireslate_read(struct spireslate_counters *counters, uint8_t *records,
                                               size_t records_length, uint16_t *objects, size_t objects_length,
                                               uint64_t *groups, size_t groups_length, const uint8_t *file,
@@ -109,7 +121,8 @@ uint8_t spireslate_check(struct spireslate_counters counters, const uint8_t *rec
                          const uint16_t *objects, size_t objects_length, const uint64_t *groups,
                          size_t groups_length);
 
-/* Writes the block into the output from the start on: 8, then 11. Bytes before and after the block stay. */
+/* Writes the block, in the long form, into the output from the start on: 8, then 11. Bytes before and after the block
+   stay. */
 struct spireslate_write_answer spireslate_write(struct spireslate_counters counters, const uint8_t *records,
                                                 size_t records_length, const uint16_t *objects,
                                                 size_t objects_length, const uint64_t *groups, size_t groups_length,
@@ -140,7 +153,8 @@ struct spireslate_groups_answer spireslate_groups(struct spireslate_counters cou
                                                   size_t groups_length, uint8_t site, uint16_t seq, uint64_t *out,
                                                   size_t out_length);
 
-/* Locates the block of a file: 10, then 9. Its records are so many times 28 bytes of the file, from the start on. */
+/* Locates the block of a file: 10, then 9. Its records stand one after another in the file, from the start on, each of
+   SPIRESLATE_RECORD bytes, or of SPIRESLATE_OLD_RECORD in the old form. */
 struct spireslate_located spireslate_locate(const uint8_t *file, size_t file_length);
 
 #ifdef __cplusplus

@@ -3,9 +3,11 @@
 Each changes one thing and leaves all else as sound tables have it, as far as that can be, so that no other test of
 soundness finds it. A kind that tables have no place for gives None.
 """
-from independent_tables import ENTRY, OBJECTS, RECORD, RECORDS, SETS, SITES, VERSIONS, built, history, row, rules
+from independent_tables import (ENTRY, OBJECTS, PLACE, RECORD, RECORDS, SETS, SITES, VERSIONS, built, history,
+                                records_in, row, rules)
 from random_calls import BYTE, HALF, astray, lowered, malformed, random_tables
 from random_files import full
+from stored import old
 
 
 def changed(values, at, value):
@@ -88,7 +90,8 @@ def spoilt(rng, n, records, number):
 def record_damage(number):
     """A record in place that fails with this number, in tables that have counted it as any other."""
     def damage(rng, t):
-        records = [t.places[RECORD * i:RECORD * (i + 1)] for i in range(t.records)]
+        data = records_in(t)
+        records = [data[at:at + RECORD] for at in range(0, len(data), RECORD)]
         for _ in range(10 if records else 0):
             bad = spoilt(rng, t.sites, records, number)
             if first_misfit(t.sites, bad) == number:
@@ -97,6 +100,16 @@ def record_damage(number):
                 return built(t.sites, b"".join(bad), edits, [(0,)] * objects) if objects <= OBJECTS else None
         return None
     return damage
+
+
+def old_set(rng, t):
+    """A Set in its place as an old record and zeros: its words are the same, so that its sum is."""
+    starts = [at for at in range(0, PLACE * t.records, PLACE) if t.places[at] == rules.SET]
+    if not starts:
+        return None
+    at = rng.choice(starts)
+    stored = old(t.places[at:at + RECORD]).ljust(PLACE, b"\0")
+    return t._replace(places=t.places[:at] + stored + t.places[at + PLACE:])
 
 
 def of_one_site(made, rows):
@@ -225,7 +238,7 @@ KINDS = {
     "anything": lambda rng, t: random_tables(rng),
     **length_damage(),
     "no sites": counter("sites", lambda rng, t: 0),
-    "nine sites": counter("sites", lambda rng, t: SITES + 1),
+    "seventeen sites": counter("sites", lambda rng, t: SITES + 1),
     "one record too many": counter("records", lambda rng, t: t.records + 1),
     "one record too few": counter("records", lambda rng, t: t.records - 1),
     "records above 256": counter("records", lambda rng, t: rng.choice((RECORDS + 1, HALF // 2, HALF - 1))),
@@ -238,6 +251,7 @@ KINDS = {
     "a wrong sum": counter("sum", lambda rng, t: (t.sum + rng.choice((1, 1 << 16, 1 << 31, -1))) % rules.WRAP),
     "the sum of no records": counter("sum", lambda rng, t: 0 if t.sum else -1),
     **{"a record fails %d" % number: record_damage(number) for number in range(1, 6)},
+    "a Set as an old record": old_set,
     "65 Creates": too_many_objects,
     "65 Sets of an object": too_many_sets,
     "a Create's place": place_damage,
@@ -254,9 +268,9 @@ KINDS = {
     "the bit after the last Set": bit_damage(lambda sets: sets),
     "the highest bit": bit_damage(lambda sets: SETS - 1),
     "first unused record place": unused("places", lambda rng, t: (
-        RECORD * t.records + rng.randrange(RECORD) if t.records < RECORDS else None)),
+        PLACE * t.records + rng.randrange(PLACE) if t.records < RECORDS else None)),
     "last unused record byte": unused("places", lambda rng, t: (
-        RECORDS * RECORD - 1 if t.records < RECORDS else None)),
+        RECORDS * PLACE - 1 if t.records < RECORDS else None)),
     "first unused object entry": unused("entries", lambda rng, t: (
         ENTRY * t.objects + rng.randrange(ENTRY) if t.objects < OBJECTS else None)),
     "last unused object number": unused("entries", lambda rng, t: (

@@ -14,6 +14,8 @@ rules = module("independent")
 RECORD, TRAILER, SITES = rules.RECORD, rules.TRAILER, rules.SITES
 RECORDS, OBJECTS, SETS, VERSIONS = rules.RECORDS, rules.OBJECTS, rules.SETS, rules.VERSIONS
 ENTRY = 3
+# the bytes of a place in the table of records
+PLACE = RECORD
 # the most Sets of a box whose groups are enumerated
 DECIDED = 20
 # the room that the call for all lines asks for: 2,049 lines of 874 bytes
@@ -22,7 +24,7 @@ LONGEST_LIST = 2049 * 874
 # the counters N, records, objects, held (a count per site) and sum; then bytes, and two tuples of numbers
 Tables = namedtuple("Tables", "sites records objects held sum places entries groups")
 # the number given back, what else is given back, and the tables and the output after the call; None: as they were
-Outcome = namedtuple("Outcome", "number sites records value tables output", defaults=(0, 0, 0, None, None))
+Outcome = namedtuple("Outcome", "number sites form records value tables output", defaults=(0, 0, 0, 0, None, None))
 
 
 def filled(values, length):
@@ -30,12 +32,23 @@ def filled(values, length):
 
 
 def has_lengths(t):
-    return (len(t.places), len(t.entries), len(t.groups)) == (RECORDS * RECORD, OBJECTS * ENTRY, OBJECTS * VERSIONS)
+    return (len(t.places), len(t.entries), len(t.groups)) == (RECORDS * PLACE, OBJECTS * ENTRY, OBJECTS * VERSIONS)
 
 
 def empty(n):
-    return Tables(n, 0, 0, (0,) * SITES, 0, bytes(RECORDS * RECORD), filled((), OBJECTS * ENTRY),
+    return Tables(n, 0, 0, (0,) * SITES, 0, bytes(RECORDS * PLACE), filled((), OBJECTS * ENTRY),
                   filled((), OBJECTS * VERSIONS))
+
+
+def placed(data):
+    """The table of records that holds these, each at the front of its place."""
+    places = [data[at:at + RECORD].ljust(PLACE, b"\0") for at in range(0, len(data), RECORD)]
+    return b"".join(places).ljust(RECORDS * PLACE, b"\0")
+
+
+def records_in(t):
+    """The records in the used places, one after another."""
+    return b"".join(t.places[PLACE * i:PLACE * i + RECORD] for i in range(t.records))
 
 
 @lru_cache(maxsize=20000)
@@ -73,8 +86,8 @@ def built(n, data, edits, rows):
         entries += [place, len(drawing.sets(rules.name(edits[place]))), len(numbers)]
         groups += filled(numbers, VERSIONS)
     held = tuple(drawing.count(s) for s in range(SITES))
-    return Tables(n, len(edits), len(rows), held, drawing.sum(), data + bytes(RECORDS * RECORD - len(data)),
-                  filled(entries, OBJECTS * ENTRY), filled(groups, OBJECTS * VERSIONS))
+    return Tables(n, len(edits), len(rows), held, drawing.sum(), placed(data), filled(entries, OBJECTS * ENTRY),
+                  filled(groups, OBJECTS * VERSIONS))
 
 
 @lru_cache(maxsize=2000)
@@ -109,8 +122,9 @@ def sound_edits(t):
     """The edits of sound tables; None where the tables are unsound, or not of the stated lengths."""
     if not has_lengths(t) or not 1 <= t.sites <= SITES or t.records > RECORDS or t.objects > OBJECTS:
         return None
-    edits = history(t.sites, t.places[:RECORD * t.records])
-    if edits is None or any(t.places[RECORD * t.records:]):
+    data = records_in(t)
+    edits = history(t.sites, data)
+    if edits is None or t.places != placed(data):
         return None
     drawing = rules.Drawing(t.sites, edits)
     creates = [i for i, e in enumerate(edits) if e.kind == rules.CREATE]
@@ -146,7 +160,7 @@ def arrived(t, record):
     if drawing.is_full(new):
         return Outcome(6)
     after = taken(t, drawing, new, record)
-    data = t.places[:RECORD * t.records]
+    data = records_in(t)
     if t == replayed(t.sites, data) and after != replayed(t.sites, data + record):
         raise AssertionError("the step from true groups does not give those of the definition")
     return Outcome(0, tables=after) if after else Outcome(7)
@@ -163,7 +177,7 @@ def taken(t, drawing, new, record):
         rows[k] = stepped(rows[k], drawing.sets(new.target), new)
         if len(rows[k]) > VERSIONS:
             return None
-    return built(t.sites, t.places[:RECORD * t.records] + record, tuple(drawing.edits) + (new,), rows)
+    return built(t.sites, records_in(t) + record, tuple(drawing.edits) + (new,), rows)
 
 
 def opened(t, n):
@@ -176,27 +190,26 @@ def read(t, data):
     if not has_lengths(t):
         return Outcome(8)
     try:
-        n, records, first = rules.locate(data)
+        n, *stretch = rules.locate(data)
         rules.read(data)
     except rules.Refused as refusal:
         # 1 to 7 are of a record, and leave an empty drawing
         after = empty(n) if refusal.number < 8 else None
         return Outcome(refusal.number, value=refusal.index, tables=after)
-    return Outcome(0, tables=replayed(n, data[first:first + RECORD * records]))
+    return Outcome(0, tables=replayed(n, b"".join(rules.long_records(data, *stretch))))
 
 
 def located(data):
     try:
-        n, records, first = rules.locate(data)
+        return Outcome(0, *rules.locate(data))
     except rules.Refused as refusal:
         return Outcome(refusal.number)
-    return Outcome(0, n, records, first)
 
 
 def checked(t):
     if not has_lengths(t) or not 1 <= t.sites <= SITES or t.records > RECORDS:
         return Outcome(8)
-    return Outcome(0 if t == replayed(t.sites, t.places[:RECORD * t.records]) else 8)
+    return Outcome(0 if t == replayed(t.sites, records_in(t)) else 8)
 
 
 def as_numbers(values):
@@ -233,8 +246,8 @@ def put(data, room, output, start):
 def written(t, output, start):
     if sound_edits(t) is None:
         return Outcome(8)
-    data = t.places[:RECORD * t.records]
-    trailer = (t.records.to_bytes(2, "little") + bytes((t.sites, 0)) + len(data).to_bytes(4, "little"))
+    data = records_in(t)
+    trailer = t.records.to_bytes(2, "little") + bytes((t.sites, rules.LONG)) + len(data).to_bytes(4, "little")
     return put(data + trailer, len(data) + TRAILER, output, start)
 
 

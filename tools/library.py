@@ -12,15 +12,15 @@ from independent_tables import as_numbers
 
 CALLS = ("open", "arrive", "read", "check", "write", "line", "list", "locate", "groups")
 SLOTS = ("counters", "records", "objects", "groups", "record", "file", "output")
-COUNTERS = struct.Struct("<BxHH8H2xI")
+COUNTERS = struct.Struct("<BxHH16H2xI")
 MADE = struct.Struct("<cBBQQ")
-GIVEN = struct.Struct("<BBHQB")
+GIVEN = struct.Struct("<BBBHQB")
 CHANGE = struct.Struct("<II")
 
 # what the slots are to hold, by name, and the numbers that the call takes beside them
 Call = namedtuple("Call", "name slots n line start", defaults=(0, 0, 0))
 # what was given back, which slots' guards were touched, and what each slot holds
-Result = namedtuple("Result", "number sites records value touched slots")
+Result = namedtuple("Result", "number sites form records value touched slots")
 
 
 def as_slots(t):

@@ -1,7 +1,8 @@
 """Random input for the calls: drawings, sound tables whose groups are not true, records that are refused, outputs."""
-from independent_tables import (ENTRY, OBJECTS, RECORD, RECORDS, SETS, SITES, VERSIONS, Tables, as_numbers,
+from independent_tables import (ENTRY, OBJECTS, PLACE, RECORD, RECORDS, SETS, SITES, VERSIONS, Tables, as_numbers,
                                 built, history, replayed, row, rules, sound_edits)
-from random_files import Edits, edited, full, pairs
+from random_files import disputed, edited, full, no_kind, pairs
+from stored import KEY, OLD_SITES, TARGET_SEQ, TARGET_SITE, VECTOR, old
 from stored import record as stored_record
 
 BYTE, HALF, LARGEST = 1 << 8, 1 << 16, (1 << 64) - 1
@@ -15,19 +16,6 @@ ROW_LENGTHS = {"a row": VERSIONS, "one number short": VERSIONS - 1, "one number 
 NAMELESS = ("a Set", "the next edit of a site", "sequence number 0", "no site of the drawing", "largest name")
 
 
-def disputed(rng, sites):
-    """The edits of sites that all have one box and seldom see each other."""
-    edits = Edits(sites)
-    edits.make(0, rules.CREATE)
-    for site in range(1, sites):
-        edits.merge(site, 0)
-    for _ in range(rng.randrange(6, 24)):
-        if rng.random() < 0.3:
-            edits.merge(rng.randrange(sites), rng.randrange(sites))
-        edits.make(rng.randrange(sites), rules.SET, (0, 1), rng.randrange(4), rng.randrange(3))
-    return edits.made
-
-
 def random_drawing(rng):
     """N and the records of a drawing in an order of arrival; now and then one that goes past a limit."""
     shape = rng.random()
@@ -35,11 +23,11 @@ def random_drawing(rng):
         made, sites = pairs(rng, rng.choice((3, 4, 5, 6, 6)), rng.randrange(4)), 3
     elif shape < 0.3:
         sites = rng.randint(2, SITES)
-        made = disputed(rng, sites)
+        made = disputed(rng, sites, 4, 3)
     elif shape < 0.35:
         made, sites = full(*rng.choice(((257, 5, 64), (257, 64, 3), (65, 65, 0), (80, 2, 65)))), 1
     else:
-        sites = rng.randint(1, SITES)
+        sites = rng.randint(1, rng.choice((OLD_SITES, SITES)))
         made = edited(rng, sites, rng.randrange(8, 60), rng.choice((1, 2, 4, 16)), rng.choice((2, 3, 1 << 32)))
     # a site more than there are authors, where it can be
     return min(SITES, sites + rng.choice((0, 1, 1))), [e[2] for e in made]
@@ -50,7 +38,7 @@ def random_tables(rng):
     def numbers(below, length):
         return tuple(rng.randrange(below) for _ in range(length))
     return Tables(rng.randrange(BYTE), rng.randrange(HALF), rng.randrange(HALF), numbers(HALF, SITES),
-                  rng.randrange(rules.WRAP), rng.randbytes(RECORDS * RECORD), numbers(HALF, OBJECTS * ENTRY),
+                  rng.randrange(rules.WRAP), rng.randbytes(RECORDS * PLACE), numbers(HALF, OBJECTS * ENTRY),
                   numbers(LARGEST + 1, OBJECTS * VERSIONS))
 
 
@@ -90,32 +78,33 @@ def altered(record, changes):
 def malformed(rng, n, record):
     """The record with one of its fields as no record has it."""
     site = min(record[1], SITES - 1)
-    own = 4 + 2 * site
-    choices = [{0: rng.choice((0, 3, 255))}, {1: rng.choice((n, 8, 255))}, {2: 0, 3: 0, own: 0, own + 1: 0},
-               {2: record[2] + 1}, {own + 1: 1}, {21: rng.choice((16, 255))}]
+    own = VECTOR + 2 * site
+    choices = [{0: no_kind(rng)}, {1: rng.choice((n, SITES, 255))}, {2: 0, 3: 0, own: 0, own + 1: 0},
+               {2: record[2] + 1}, {own + 1: 1}, {KEY: rng.choice((16, 255))}]
     if n < SITES:
-        choices.append({4 + 2 * rng.randrange(n, SITES) + rng.randrange(2): rng.randrange(1, BYTE)})
+        choices.append({VECTOR + 2 * rng.randrange(n, SITES) + rng.randrange(2): rng.randrange(1, BYTE)})
     if record[0] == rules.SET:
-        choices.append({22: 0, 23: 0})
+        choices.append({TARGET_SEQ: 0, TARGET_SEQ + 1: 0})
     else:
-        choices.append({rng.randrange(20, RECORD): rng.randrange(1, BYTE)})
+        choices.append({rng.randrange(TARGET_SITE, 0): rng.randrange(1, BYTE)})
     return altered(record, rng.choice(choices))
 
 
 def lowered(rng, record):
     """The record as if its author had seen less of another site."""
-    others = [s for s in range(SITES) if s != record[1] and record[4 + 2 * s] > 0]
+    others = [s for s in range(SITES) if s != record[1] and record[VECTOR + 2 * s] > 0]
     if not others:
         return record
-    at = 4 + 2 * rng.choice(others)
+    at = VECTOR + 2 * rng.choice(others)
     return altered(record, {at: rng.randrange(record[at])})
 
 
 def astray(rng, record):
     """The record as a Set of what is no Create that it has seen: another site, itself, a later edit, a Set."""
-    target = rng.choice(((250, 1), (record[1], record[2]), (record[20], record[22] + 1), (record[20], 200),
+    site, seq = record[TARGET_SITE], record[TARGET_SEQ]
+    target = rng.choice(((250, 1), (record[1], record[2]), (site, seq + 1), (site, 200),
                          (rng.randrange(SITES), rng.randrange(1, 9))))
-    return altered(record, {0: rules.SET, 20: target[0], 22: target[1] or 1})
+    return altered(record, {0: rules.SET, TARGET_SITE: target[0], TARGET_SEQ: target[1] or 1})
 
 
 def late(rng, t):
@@ -135,7 +124,7 @@ def late(rng, t):
 def tries(rng, n, held, coming):
     """Records that may arrive when these are held and these are to come; most are refused."""
     one = coming[0] if coming else held[-1] if held else bytes(RECORD)
-    out = [one[:-1], one + b"\0", b"", rng.randbytes(RECORD), malformed(rng, n, one), lowered(rng, one),
+    out = [one[:-1], one + b"\0", b"", old(one), rng.randbytes(RECORD), malformed(rng, n, one), lowered(rng, one),
            lowered(rng, one), astray(rng, one), rng.choice(coming or [one]), rng.choice(held or [one])]
     return rng.sample(out, 3)
 

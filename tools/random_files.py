@@ -1,5 +1,7 @@
-"""Random stored drawings: laptops that edit and merge, orders of one set of edits, and damage of every kind."""
-from stored import CREATE, RECORD, SET, SITES, block, record, trailer
+"""Random stored drawings in both forms: laptops that edit and merge, orders of one set of edits, and damage of every
+kind."""
+from stored import (CREATE, KEY, LONG, OLD, OLD_RECORD, OLD_SITES, RECORD, SET, SITES, TARGET_SEQ, TARGET_SITE, VECTOR,
+                    block, forms, old, record, trailer)
 
 
 class Edits:
@@ -36,6 +38,19 @@ def edited(rng, sites, steps, keys, values):
             # near values too, some of them in one square of the grid
             value = rng.randrange(values) * rng.choice((1, 5, 8)) % (1 << 32)
             edits.make(site, SET, rng.choice(edits.boxes[site]), rng.randrange(keys), value)
+    return edits.made
+
+
+def disputed(rng, sites, keys, values):
+    """Laptops that all have one box and seldom see each other."""
+    edits = Edits(sites)
+    edits.make(0, CREATE)
+    for site in range(1, sites):
+        edits.merge(site, 0)
+    for _ in range(rng.randrange(6, 24)):
+        if rng.random() < 0.3:
+            edits.merge(rng.randrange(sites), rng.randrange(sites))
+        edits.make(rng.randrange(sites), SET, (0, 1), rng.randrange(keys), rng.randrange(values))
     return edits.made
 
 
@@ -80,53 +95,77 @@ def full(records, boxes, sets):
     return edits.made
 
 
-def damaged(rng, sites, records):
-    """One thing wrong among the records, or in the trailer."""
-    records = list(records)
+def no_kind(rng):
+    """A first byte that no record has."""
+    return rng.choice((0, 3, 4, 5, rng.randrange(3, 256)))
+
+
+def damaged(rng, sites, records, form):
+    """One thing wrong among the records, or in the trailer of a block in this form."""
+    records = [old(r) for r in records] if form == OLD else list(records)
     i = rng.randrange(len(records))
     bad = bytearray(records[i])
-    kind = rng.randrange(11)
+    kind = rng.randrange(13)
     if kind == 0:
-        bad[rng.choice((0, 1, 21))] = rng.choice((0, 3, 16, 200))
+        bad[rng.choice((1, KEY))] = rng.choice((0, 3, 16, 200))
     elif kind == 1:
-        bad[rng.randrange(RECORD)] ^= 1 << rng.randrange(8)
+        bad[rng.randrange(len(bad))] ^= 1 << rng.randrange(8)
     elif kind == 2:
         records.insert(rng.randrange(i, len(records)) + 1, records[i])
     elif kind == 3 and len(records) > 1:
         del records[i]
-        return block(sites, records)
+        return closed(sites, records, form)
     elif kind == 4:
         records.insert(rng.randrange(len(records)), records.pop(i))
-        return block(sites, records)
+        return closed(sites, records, form)
     elif kind in (5, 6):
-        return torn(rng, sites, records)
+        return torn(rng, sites, records, form)
     elif kind == 7:
-        bad[20], bad[22] = rng.choice(((bad[20], bad[22] + 1 & 255), (250, 1), (bad[1], bad[2]), (bad[20], 0)))
+        bad[TARGET_SITE], bad[TARGET_SEQ] = rng.choice((
+            (bad[TARGET_SITE], bad[TARGET_SEQ] + 1 & 255), (250, 1), (bad[1], bad[2]), (bad[TARGET_SITE], 0)))
+    elif kind == 8:
+        bad[0] = no_kind(rng)
     else:
-        return bad_trailer(rng, sites, records)
+        return bad_trailer(rng, sites, records, form)
     records[i] = bytes(bad)
-    return block(sites, records)
+    return closed(sites, records, form)
 
 
-def torn(rng, sites, records):
+def closed(sites, stored, form):
+    """Records that are in this form already, and their trailer."""
+    return b"".join(stored) + trailer(len(stored), sites, form)
+
+
+def torn(rng, sites, records, form):
     """An edit that has seen another one, but no longer all that this one had seen."""
-    late = [i for i, r in enumerate(records) if sum(r[4 + 2 * s] > 0 for s in range(sites)) > 2]
+    late = [i for i, r in enumerate(records) if sum(r[VECTOR + 2 * s] > 0 for s in range(sites)) > 2]
     i = rng.choice(late) if late else rng.randrange(len(records))
     bad = bytearray(records[i])
-    others = [s for s in range(sites) if s != bad[1] and bad[4 + 2 * s] > 0]
+    others = [s for s in range(sites) if s != bad[1] and bad[VECTOR + 2 * s] > 0]
     if others:
-        bad[4 + 2 * rng.choice(others)] = 0
+        bad[VECTOR + 2 * rng.choice(others)] = 0
     records[i] = bytes(bad)
-    return block(sites, records)
+    return closed(sites, records, form)
 
 
-def bad_trailer(rng, sites, records):
+def bad_trailer(rng, sites, records, form):
+    """The records with another trailer than theirs, or cut."""
     body, number = b"".join(records), len(records)
-    return rng.choice((
-        body + trailer(number, 0), body + trailer(number, 9), body + trailer(number, 255),
-        body + trailer(number, sites, zero=1), body + trailer(number, sites, distance=RECORD * number - 1),
-        body + trailer(number + 1, sites), body + trailer(257, sites), body, body[1:] + trailer(number, sites),
-        b"", b"1234567", (body + trailer(number, sites))[:-1]))
+    right, switched = trailer(number, sites, form), LONG if form == OLD else OLD
+    own, other = (OLD_RECORD, RECORD) if form == OLD else (RECORD, OLD_RECORD)
+    wrong = rng.choice((
+        # N: none, one too many, and more than an old block has
+        trailer(number, 0, form), trailer(number, SITES + 1, form), trailer(number, 255, form),
+        trailer(number, rng.randint(OLD_SITES + 1, SITES), form),
+        # the form: none, or the other one
+        trailer(number, sites, 2, own * number), trailer(number, sites, rng.randint(2, 255), own * number),
+        trailer(number, sites, switched, own * number), trailer(number, sites, switched),
+        # the distance and the number of records
+        trailer(number, sites, form, own * number - 1), trailer(number, sites, form, other * number),
+        trailer(number + 1, sites, form), trailer(257, sites, form), trailer(257, sites, form, own * number)))
+    # bytes ahead, so that a distance does not reach before the start
+    more = bytes(RECORD * (number + 1)) if rng.random() < 0.5 else b""
+    return rng.choice((more + body + wrong,) * 6 + (body, body[1:] + right, b"", b"1234567", (body + right)[:-1]))
 
 
 def ahead(rng, stored):
@@ -138,20 +177,23 @@ def ahead(rng, stored):
 
 def random_file(rng):
     """One file, and whether other orders of the same edits may be tried: then its sites and edits."""
-    sites = rng.randint(1, SITES)
+    sites = rng.randint(1, rng.choice((OLD_SITES, SITES)))
     shape = rng.random()
     if shape < 0.08:
         made, sites = pairs(rng, rng.choice((1, 2, 4, 5, 5, 6, 6)), rng.randrange(5)), 3
     elif shape < 0.13:
         made, sites = full(*rng.choice(((256, 2, 64), (256, 64, 3), (65, 65, 0), (80, 2, 65), (130, 65, 2)))), 1
+    elif shape < 0.25:
+        made = disputed(rng, sites, rng.choice((1, 3, 4)), rng.choice((3, 99)))
     else:
         made = edited(rng, sites, rng.randrange(1, 60), rng.choice((1, 2, 4, 16)), rng.choice((1, 2, 3, 1 << 32)))
+    form = rng.choice(forms(sites))
     if not made:
-        return block(sites, []), None
+        return block(sites, [], form), None
     records = [e[2] for e in made]
     if shape >= 0.13 and rng.random() < 0.5:
-        return damaged(rng, sites, records), None
-    stored = block(sites, records)
+        return damaged(rng, sites, records, form), None
+    stored = block(sites, records, form)
     if rng.random() < 0.08:
         return ahead(rng, stored), None
     return stored, (sites, made)

@@ -17,13 +17,13 @@ use Rattle.block_store.specs.Writing.{blockOf}
 
 -- the record of the Create 0.1, which has seen nothing but itself
 abbrev create : List ℕ
-create = 1 ∷ 0 ∷ 1 ∷ 0 ∷ 1 ∷ 0 ∷ replicate 22 0
+create = 1 ∷ 0 ∷ 1 ∷ 0 ∷ 1 ∷ 0 ∷ replicate 38 0
 
 -- for N = 3: with no edits, and with the one Create 0.1, which is accepted
 pub example-blocks :
-    (blockOf (emptyDrawing 3) ≡ 0 ∷ 0 ∷ 3 ∷ 0 ∷ 0 ∷ 0 ∷ 0 ∷ 0 ∷ [])
+    (blockOf (emptyDrawing 3) ≡ 0 ∷ 0 ∷ 3 ∷ 1 ∷ 0 ∷ 0 ∷ 0 ∷ 0 ∷ [])
     × (acceptanceOf (emptyDrawing 3) create .answer ≡ 0)
-    × (blockOf (acceptanceOf (emptyDrawing 3) create .after) ≡ create ++ (1 ∷ 0 ∷ 3 ∷ 0 ∷ 28 ∷ 0 ∷ 0 ∷ 0 ∷ []))
+    × (blockOf (acceptanceOf (emptyDrawing 3) create .after) ≡ create ++ (1 ∷ 0 ∷ 3 ∷ 1 ∷ 44 ∷ 0 ∷ 0 ∷ 0 ∷ []))
 unfolding blockOf trailerOf countBytes emptyDrawing withCreate acceptanceOf answerTo firstOf isFull isCrowded
 example-blocks =
     unfold malformed unfit nonzeroPast isRepeated isEarly isTorn isAstray some any filter counts editsOf countFrom in

@@ -3,3 +3,4 @@ pub mod WrittenLocated
 pub mod ExampleBlocks
 pub mod ReadingOutcomes
 pub mod RoundTrips
+pub mod OldAsLong

@@ -5,6 +5,7 @@ use Prim.Native.Nat.{ℕ}
 use mathlib.Core.List.{List}
 use mathlib.Core.Bool.{cond}
 use lib.Dec.{eqb}
+use Rattle.edit_form.specs.OldForm.{storedIn}
 use Rattle.table_drawing.specs.Tables.{Tables, emptyDrawing, lengthsRight}
 use Rattle.table_replay.specs.Replay.{Replayed, replayed, replayOf}
 use Rattle.block_trailer.specs.Locating.{located}
@@ -13,13 +14,14 @@ use Rattle.block_trailer.specs.Locating.{located}
 abbrev pub orEmpty : ℕ → Replayed → Replayed
 orEmpty sites r = cond (eqb (r .answer) 0) r (replayed (r .answer) (r .index) (emptyDrawing sites))
 
-unfoldable pub recordsRead : ℕ → List ℕ → ℕ → Replayed
-recordsRead sites rs n = orEmpty sites (replayOf sites rs n)
+-- the first n records of a stretch in a form
+unfoldable pub recordsRead : ℕ → ℕ → List ℕ → ℕ → Replayed
+recordsRead sites form stretch n = orEmpty sites (replayOf sites (storedIn form stretch) n)
 
 unfoldable pub readingOf : Tables → List ℕ → Replayed
 readingOf t file =
     let l = located file in
     let f = l .trailer in
     cond (lengthsRight (t .records) (t .objects) (t .groups))
-    (cond (eqb (f .answer) 0) (recordsRead (f .sites) (l .stretch) (f .records)) (replayed (f .answer) 0 t))
+    (cond (eqb (f .answer) 0) (recordsRead (f .sites) (f .form) (l .stretch) (f .records)) (replayed (f .answer) 0 t))
     (replayed 8 0 t)

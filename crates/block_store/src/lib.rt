@@ -12,6 +12,7 @@ ghost use mathlib.Core.List.{_++_};
 ghost use Prim.Native.Nat.{_+_, _-_, _*_, _≤_};
 ghost use lib.ListN.{length, take, drop};
 ghost use Rattle.edit_record.specs.Layout.{recordLength};
+ghost use Rattle.edit_form.specs.OldForm.{lengthBy};
 ghost use Rattle.edit_history.specs.EditsHeld.{mostRecords};
 ghost use Rattle.table_drawing.specs.Tables.{tablesOf, lengthsRight, sitesRight};
 ghost use Rattle.table_drawing.specs.AnswerNumbers.{numberOf};
@@ -74,24 +75,25 @@ pub struct FileRead {
     pub counters: Counters,
 }
 
-// Takes the n records of a located stretch into tables of the stated lengths; a refused record leaves an empty drawing.
+// Takes the n records of a located stretch in its form into tables of the stated lengths; a refused record leaves an empty drawing.
 fn read_records(
     sites: u8,
     records: &mut [u8],
     objects: &mut [u16],
     groups: &mut [u64],
     stretch: &[u8],
+    form: u8,
     n: usize,
 ) -> FileRead
     requires { ⌜ (lengthsRight (now records) (now objects) (now groups) ≡ true)
         × (sitesRight sites ≡ true)
         × (n ≤ mostRecords)
-        × (n * recordLength ≤ length (now stretch)) ⌝ }
+        × (n * lengthBy form ≤ length (now stretch)) ⌝ }
     ensures { λ r. ⌜ replayed (numberOf (r .answer)) (r .index)
         (tablesOf (r .counters) (now (records .exit)) (now (objects .exit)) (now (groups .exit)))
-        ≡ recordsRead sites (now (stretch .entry)) n ⌝ }
+        ≡ recordsRead sites form (now (stretch .entry)) n ⌝ }
 {
-    let t = table_replay::replay(sites, records, objects, groups, stretch, n);
+    let t = table_replay::replay(sites, records, objects, groups, stretch, form, n);
     let answer = t.answer;
     let after = t.counters;
     if table_drawing::number(answer) == 0 {
@@ -146,6 +148,7 @@ pub fn read_file(
         objects,
         groups,
         stretch,
+        f.form,
         f.records as usize,
     )
 }

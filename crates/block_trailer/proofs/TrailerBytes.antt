@@ -1,4 +1,5 @@
--- The eight bytes of a trailer: written and read back, read and written back. Assumes nothing.
+-- The eight bytes of a trailer: written and read back; and, of a block in the long form, read and written back. Assumes
+-- nothing.
 use mathlib.Core.Path.{_≡_, refl, _∙_}
 use mathlib.Core.Bool.{false}
 use mathlib.Core.List.{List, [], _∷_, _++_}
@@ -12,9 +13,10 @@ use Rattle.edit_record.specs.Layout.{recordLength}
 use Rattle.edit_record.specs.RecordBytes.{two, four, counts, countBytes}
 use Rattle.edit_record.proofs.NumbersInBytes.{Bytes, two-drop, two-below, bytes-drop, count-back, value-back, low-half}
 use Rattle.edit_record.proofs.NumbersInBytes.{high-half, bytes-back}
+use Rattle.edit_form.specs.OldForm.{longForm}
 use Rattle.edit_history.specs.EditsHeld.{mostRecords}
-use Rattle.block_trailer.specs.Trailer.{trailerLength, trailerOf, trailerAt, sitesAt, zeroAt, distanceAt}
-use Rattle.block_trailer.specs.Trailer.{recordsIn, sitesIn, zeroIn, distanceIn, unfitTrailer}
+use Rattle.block_trailer.specs.Trailer.{trailerLength, trailerOf, trailerAt, sitesAt, formAt, distanceAt}
+use Rattle.block_trailer.specs.Trailer.{recordsIn, sitesIn, formIn, distanceIn, unfitTrailer}
 
 pub trailer-long : (n sites : ℕ) → length (trailerOf n sites) ≡ trailerLength
 unfolding trailerOf countBytes
@@ -22,7 +24,7 @@ trailer-long n sites = refl
 
 -- ---- written and read back
 
--- a file that ends with the trailer behind n records
+-- a file that ends with the trailer behind n long records
 module _ (front : List ℕ) (n sites : ℕ) where
   abbrev file : List ℕ
   file = front ++ trailerOf n sites
@@ -37,9 +39,9 @@ module _ (front : List ℕ) (n sites : ℕ) where
   unfolding trailerOf countBytes
   sites-back = byte sitesAt (trailerAt file + sitesAt) (omega (arith, trailer-at))
 
-  zero-back : zeroIn file ≡ 0
+  pub form-back : formIn file ≡ longForm
   unfolding trailerOf countBytes
-  zero-back = byte zeroAt (trailerAt file + zeroAt) (omega (arith, trailer-at))
+  form-back = byte formAt (trailerAt file + formAt) (omega (arith, trailer-at))
 
   module _ (few : n ≤ mostRecords) where
     pub records-back : recordsIn file ≡ n
@@ -73,7 +75,7 @@ module _ (front : List ℕ) (n sites : ℕ) where
           le-ltb (length file) trailerLength long,
           records-back,
           le-ltb mostRecords n few,
-          zero-back,
+          form-back,
           distance-back,
           eqb-self (n * recordLength),
           trailer-at,
@@ -83,10 +85,10 @@ module _ (front : List ℕ) (n sites : ℕ) where
 -- ---- read and written back
 
 pub trailer-again :
-    (s : List ℕ) → length s ≡ trailerLength → Bytes s → getD s zeroAt 0 ≡ 0 →
+    (s : List ℕ) → length s ≡ trailerLength → Bytes s → getD s formAt 0 ≡ longForm →
     four s distanceAt ≡ two s 0 * recordLength → trailerOf (two s 0) (getD s sitesAt 0) ≡ s
 unfolding trailerOf counts
-trailer-again s long h zero distance =
+trailer-again s long h form distance =
     let low : two s 0 * recordLength % 65536 ≡ two s 4 =
     rw (← distance) (low-half (two s 4) (two s 6) (two-below s h 4)) in
     let high : two s 0 * recordLength / 65536 ≡ two s 6 =
@@ -97,5 +99,5 @@ trailer-again s long h zero distance =
     (bytes-back 2 (drop 4 s) (simp length-drop (omega arith)) (bytes-drop 4 s h)
     ∙ take-all 4 (drop 4 s) (simp length-drop (omega arith))) in
     let third : drop 2 s ≡ getD s 2 0 ∷ drop 3 s = drop-cons s 2 0 (omega arith) in
-    let fourth : drop 3 s ≡ 0 ∷ drop 4 s = drop-cons s 3 0 (omega arith) ∙ rw zero in
+    let fourth : drop 3 s ≡ longForm ∷ drop 4 s = drop-cons s 3 0 (omega arith) ∙ rw form in
     rw (low, high, front, back) (rw (← fourth, ← third) (take-append-drop 2 s))

@@ -2,21 +2,26 @@
 -- stretch of the records alone. Assumes nothing.
 use Prim.Native.Nat.{ℕ, _+_, _-_, _*_}
 use mathlib.Core.List.{List}
-use mathlib.Core.Bool.{_||_, cond}
+use mathlib.Core.Bool.{Bool, _&&_, _||_, cond}
 use lib.ListN.{length, take, drop}
-use lib.Dec.{ltb}
-use Rattle.edit_record.specs.Layout.{recordLength}
-use Rattle.table_drawing.specs.Tables.{sitesRight}
-use Rattle.block_trailer.specs.Trailer.{fileLimit, recordsIn, sitesIn, trailerAt, unfitTrailer}
+use lib.Dec.{leb, ltb}
+use Rattle.edit_form.specs.OldForm.{sitesBy, lengthBy}
+use Rattle.block_trailer.specs.Trailer.{fileLimit, recordsIn, sitesIn, formIn, trailerAt}
+use Rattle.block_trailer.specs.Trailer.{unfitTrailer}
 
--- the answer, N and the number of records
+-- the answer, N, the form and the number of records
 pub record Found : Type 0 where
   pub answer : ℕ
   pub sites : ℕ
+  pub form : ℕ
   pub records : ℕ
 
-abbrev pub found : ℕ → ℕ → ℕ → Found
-found a n k = record { answer = a; sites = n; records = k }
+abbrev pub found : ℕ → ℕ → ℕ → ℕ → Found
+found a n f k = record { answer = a; sites = n; form = f; records = k }
+
+-- the bytes of the records
+abbrev pub bytesIn : Found → ℕ
+bytesIn f = f .records * lengthBy (f .form)
 
 -- what is found, and the stretch of the file that holds the records alone: where it starts, and its bytes
 pub record Located : Type 0 where
@@ -26,22 +31,27 @@ pub record Located : Type 0 where
 
 abbrev pub locatedAt : List ℕ → Found → ℕ → Located
 locatedAt file f start =
-    record { trailer = f; start = start; stretch = take (f .records * recordLength) (drop start file) }
+    record { trailer = f; start = start; stretch = take (bytesIn f) (drop start file) }
 
 -- refused: the empty stretch at the file's start
 abbrev pub refusedWith : ℕ → List ℕ → Located
-refusedWith a file = locatedAt file (found a 0 0) 0
+refusedWith a file = locatedAt file (found a 0 0 0) 0
 
 -- accepted: the stretch that ends where the trailer starts
 abbrev pub acceptedIn : List ℕ → Located
 acceptedIn file =
-    locatedAt file (found 0 (sitesIn file) (recordsIn file)) (trailerAt file - recordsIn file * recordLength)
+    let f = found 0 (sitesIn file) (formIn file) (recordsIn file) in
+    locatedAt file f (trailerAt file - bytesIn f)
+
+-- N is 1 to 16, and in an old block 1 to 8
+abbrev pub sitesFit : List ℕ → Bool
+sitesFit file = leb 1 (sitesIn file) && leb (sitesIn file) (sitesBy (formIn file))
 
 -- 10, then 9
 unfoldable pub located : List ℕ → Located
 located file =
     cond (ltb fileLimit (length file) || unfitTrailer file) (refusedWith 10 file)
-    (cond (sitesRight (sitesIn file)) (acceptedIn file) (refusedWith 9 file))
+    (cond (sitesFit file) (acceptedIn file) (refusedWith 9 file))
 
 -- the place in memory that is i bytes further on
 abbrev pub further : ℕ × ℕ → ℕ → ℕ × ℕ

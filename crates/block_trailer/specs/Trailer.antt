@@ -6,6 +6,7 @@ use lib.ListN.{getD, length}
 use lib.Dec.{eqb, ltb}
 use Rattle.edit_record.specs.Layout.{recordLength}
 use Rattle.edit_record.specs.RecordBytes.{two, four, countBytes}
+use Rattle.edit_form.specs.OldForm.{longForm, lengthBy}
 use Rattle.edit_history.specs.EditsHeld.{mostRecords}
 
 -- the bytes of a trailer
@@ -18,12 +19,12 @@ fileLimit = 65536
 
 -- ---- as it is written
 
--- the trailer behind n records of a drawing of so many sites: the number of records, N, zero, and the distance from
--- the trailer's start back to the first record
+-- the trailer behind n long records of a drawing of so many sites: the number of records, N, the form, and the distance
+-- from the trailer's start back to the first record
 unfoldable pub trailerOf : ℕ → ℕ → List ℕ
 trailerOf n sites =
     let distance = n * recordLength in
-    countBytes (n ∷ []) ++ (sites ∷ 0 ∷ countBytes (distance % 65536 ∷ distance / 65536 ∷ []))
+    countBytes (n ∷ []) ++ (sites ∷ longForm ∷ countBytes (distance % 65536 ∷ distance / 65536 ∷ []))
 
 -- ---- as it stands in a file
 
@@ -35,8 +36,8 @@ trailerAt file = length file - trailerLength
 abbrev pub sitesAt : ℕ
 sitesAt = 2
 
-abbrev pub zeroAt : ℕ
-zeroAt = 3
+abbrev pub formAt : ℕ
+formAt = 3
 
 abbrev pub distanceAt : ℕ
 distanceAt = 4
@@ -48,18 +49,18 @@ recordsIn file = two file (trailerAt file)
 abbrev pub sitesIn : List ℕ → ℕ
 sitesIn file = getD file (trailerAt file + sitesAt) 0
 
-abbrev pub zeroIn : List ℕ → ℕ
-zeroIn file = getD file (trailerAt file + zeroAt) 0
+abbrev pub formIn : List ℕ → ℕ
+formIn file = getD file (trailerAt file + formAt) 0
 
 abbrev pub distanceIn : List ℕ → ℕ
 distanceIn file = four file (trailerAt file + distanceAt)
 
--- file shorter than 8, more than 256 records, nonzero fourth byte, distance not 28 times the number, or reaching
--- before the file's start
+-- file shorter than 8, more than 256 records, fourth byte above 1, distance not the number times the bytes of a record
+-- in that form, or reaching before the file's start
 unfoldable pub unfitTrailer : List ℕ → Bool
 unfitTrailer file =
     ltb (length file) trailerLength
     || ltb mostRecords (recordsIn file)
-    || not (eqb (zeroIn file) 0)
-    || not (eqb (distanceIn file) (recordsIn file * recordLength))
+    || ltb longForm (formIn file)
+    || not (eqb (distanceIn file) (recordsIn file * lengthBy (formIn file)))
     || ltb (trailerAt file) (distanceIn file)

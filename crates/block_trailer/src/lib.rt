@@ -1,4 +1,5 @@
 // The trailer of document 01's stored block, its last 8 bytes, and locating a block in a file by it.
+use edit_form::LONG;
 use edit_history::RECORDS;
 use edit_record::RECORD;
 use table_drawing::Answer;
@@ -22,14 +23,15 @@ pub const FILE_LIMIT: usize = 65536;
 // Where the fields of a trailer start, the first of which is the number of records.
 const AT_SITES: usize = 2;
 
-const AT_ZERO: usize = 3;
+const AT_FORM: usize = 3;
 
 const AT_DISTANCE: usize = 4;
 
-// What a file's trailer says: an answer, N and the number of records.
+// What a file's trailer says: an answer, N, the form and the number of records.
 pub struct Trailer {
     pub answer: Answer,
     pub sites: u8,
+    pub form: u8,
     pub records: u16,
 }
 
@@ -56,29 +58,31 @@ fn is_unfit(file: &[u8]) -> bool
     let n = file.len();
     let at = trailer_at(n);
     let records = edit_record::two_at(file, at) as usize;
-    let zero = edit_record::byte_at(file, at + AT_ZERO);
+    let form = edit_record::byte_at(file, at + AT_FORM);
     let distance = distance_at(file, at + AT_DISTANCE);
     (n < TRAILER)
         | (RECORDS < records)
-        | (zero != 0)
-        | (distance != records * RECORD)
+        | (LONG < form)
+        | (distance != records * edit_form::length_by(form))
         | (at < distance)
 }
 
 // The answer to a file that is refused.
 fn refused(a: Answer) -> Trailer
-    ensures { λ r. ⌜ found (numberOf (r .answer)) (r .sites) (r .records) ≡ found (numberOf a) 0 0 ⌝ }
+    ensures { λ r. ⌜ found (numberOf (r .answer)) (r .sites) (r .form) (r .records) ≡ found (numberOf a) 0 0 0 ⌝ }
 {
     Trailer {
         answer: a,
         sites: 0,
+        form: 0,
         records: 0,
     }
 }
 
 // What the trailer of a file says; a file over the limit is not looked into.
 pub fn read_trailer(file: &[u8]) -> Trailer
-    ensures { λ r. ⌜ found (numberOf (r .answer)) (r .sites) (r .records) ≡ located (now (file .entry)) .trailer ⌝ }
+    ensures { λ r. ⌜ found (numberOf (r .answer)) (r .sites) (r .form) (r .records)
+        ≡ located (now (file .entry)) .trailer ⌝ }
 {
     if FILE_LIMIT < file.len() {
         return refused(Answer::BadFile);
@@ -88,13 +92,15 @@ pub fn read_trailer(file: &[u8]) -> Trailer
     }
     let at = trailer_at(file.len());
     let sites = edit_record::byte_at(file, at + AT_SITES);
-    if !table_drawing::sites_right(sites) {
+    let form = edit_record::byte_at(file, at + AT_FORM);
+    if (sites < 1) | (edit_form::sites_by(form) < sites) {
         return refused(Answer::BadSites);
     }
     let records = edit_record::two_at(file, at);
     Trailer {
         answer: Answer::Done,
         sites,
+        form,
         records,
     }
 }
@@ -118,11 +124,11 @@ pub fn locate(file: &[u8]) -> &[u8]
     let t = read_trailer(file);
     let answer = t.answer;
     let end = stretch_end(answer, file.len());
-    let start = end - t.records as usize * RECORD;
+    let start = end - t.records as usize * edit_form::length_by(t.form);
     &file[start..end]
 }
 
-// The bytes of the trailer behind n records of a drawing of so many sites.
+// The bytes of the trailer behind n long records of a drawing of so many sites.
 pub fn trailer_bytes(n: u16, sites: u8) -> [u8; TRAILER]
     requires { ⌜ n ≤ mostRecords ⌝ }
     ensures { λ r. ⌜ r ≡ trailerOf n sites ⌝ }
@@ -136,5 +142,5 @@ pub fn trailer_bytes(n: u16, sites: u8) -> [u8; TRAILER]
     let d = (near / 256 % 256) as u8;
     let e = (far % 256) as u8;
     let f = (far / 256 % 256) as u8;
-    [a, b, sites, 0, c, d, e, f]
+    [a, b, sites, LONG, c, d, e, f]
 }

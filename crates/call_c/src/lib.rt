@@ -3,7 +3,6 @@
 // says. Answers are the documents' numbers. A call that changes the counters takes them by `&mut`, where the caller
 // keeps them; any other takes them by value.
 use call_by_value::FileAnswer;
-use edit_record::RECORD;
 use edit_record::Seq;
 use edit_record::Site;
 use table_drawing::Counters;
@@ -207,23 +206,25 @@ pub extern "C" fn spireslate_groups(
 pub struct Located {
     pub number: u8,
     pub sites: u8,
+    pub form: u8,
     pub records: u16,
     pub start: usize,
 }
 
 #[no_mangle]
-// Locates the block of a file, any bytes: 10, then 9; refused, N, the records and the start are 0.
+// Locates the block of a file, any bytes: 10, then 9; refused, N, the form, the records and the start are 0.
 pub extern "C" fn spireslate_locate(file: &[u8]) -> Located
-    ensures { λ r. ⌜ (found (r .number) (r .sites) (r .records) ≡ located (now (file .entry)) .trailer)
+    ensures { λ r. ⌜ (found (r .number) (r .sites) (r .form) (r .records) ≡ located (now (file .entry)) .trailer)
         × (r .start ≡ located (now (file .entry)) .start) ⌝ }
 {
     let t = block_trailer::read_trailer(file);
     let said = t.answer;
     let end = block_trailer::stretch_end(said, file.len());
-    let start = end - t.records as usize * RECORD;
+    let start = end - t.records as usize * edit_form::length_by(t.form);
     Located {
         number: table_drawing::number(said),
         sites: t.sites,
+        form: t.form,
         records: t.records,
         start,
     }

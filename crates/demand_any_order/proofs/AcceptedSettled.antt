@@ -1,4 +1,4 @@
--- A list of edits that is accepted throughout is settled, and its order is causal. Assumes at most eight sites.
+-- A list of edits that is accepted throughout is settled, and its order is causal. Assumes at most sixteen sites.
 use mathlib.Core.Path.{_≡_, refl, sym, subst, _∙_}
 use mathlib.Core.Logic.{inl, inr}
 use mathlib.Core.Bool.{true, false, not, and-false}

@@ -1,5 +1,5 @@
 -- Demand 3, acceptance: a list of edits is accepted throughout exactly when it is settled and its order is causal; so
--- the records of an accepted replay are accepted in every causal order. Assumes at most 8 sites, and for a replay at
+-- the records of an accepted replay are accepted in every causal order. Assumes at most 16 sites, and for a replay at
 -- least 1.
 use mathlib.Core.Path.{_≡_, refl, ap₂, _∙_}
 use mathlib.Core.Logic.{_↔_}
@@ -8,9 +8,7 @@ use Prim.Native.Nat.{ℕ, zero, suc, _≤_}
 use Rattle.edit_record.specs.declared.Edit.{Edit}
 use Rattle.edit_record.specs.Layout.{mostSites}
 use Rattle.edit_record.specs.RecordBytes.{decodeOf}
-use Rattle.edit_history.specs.EditsHeld.{bytesAt, editsOf}
-use Rattle.edit_history.proofs.FieldsInPlace.{bytes-decoded}
-use Rattle.table_replay.specs.Replay.{replayOf}
+use Rattle.table_replay.specs.Replay.{replayOf, editsIn}
 use Rattle.demand_any_order.specs.Rearranged.{Rearranged, recordsOf}
 use Rattle.demand_any_order.specs.Settled.{AllAccepted, Causal, Settled}
 use Rattle.demand_any_order.proofs.Rearranged.{turned, same-members, made-rearranged}
@@ -34,26 +32,26 @@ any-order n few es fs r c a =
 
 -- ---- records
 
-edits-decoded : (rs : List ℕ) (n : ℕ) → map decodeOf (recordsOf rs n) ≡ editsOf rs n
-unfolding recordsOf editsOf
+edits-decoded : (rs : ℕ → List ℕ) (n : ℕ) → map decodeOf (recordsOf rs n) ≡ editsIn rs n
+unfolding recordsOf editsIn
 edits-decoded rs zero = refl
 edits-decoded rs (suc n) =
-    map-append decodeOf (recordsOf rs n) (bytesAt rs n ∷ [])
-    ∙ ap₂ (λ (es : List Edit) (e : Edit). es ++ (e ∷ [])) (edits-decoded rs n) (bytes-decoded rs n)
+    map-append decodeOf (recordsOf rs n) (rs n ∷ [])
+    ∙ ap₂ (λ (es : List Edit) (e : Edit). es ++ (e ∷ [])) (edits-decoded rs n) refl
 
 pub edits-rearranged :
-    (rs rs′ : List ℕ) (n : ℕ) → Rearranged (recordsOf rs n) (recordsOf rs′ n) →
-    Rearranged (editsOf rs n) (editsOf rs′ n)
+    (rs rs′ : ℕ → List ℕ) (n : ℕ) → Rearranged (recordsOf rs n) (recordsOf rs′ n) →
+    Rearranged (editsIn rs n) (editsIn rs′ n)
 edits-rearranged rs rs′ n r = rw (← edits-decoded rs n, ← edits-decoded rs′ n) (made-rearranged decodeOf r)
 
 -- the same records in another order, each after those that its author had seen, are accepted too
 pub any-order-accepted :
-    (sites : ℕ) → 1 ≤ sites → sites ≤ mostSites → (rs rs′ : List ℕ) (n : ℕ) →
-    Rearranged (recordsOf rs n) (recordsOf rs′ n) → Causal (editsOf rs′ n) →
+    (sites : ℕ) → 1 ≤ sites → sites ≤ mostSites → (rs rs′ : ℕ → List ℕ) (n : ℕ) →
+    Rearranged (recordsOf rs n) (recordsOf rs′ n) → Causal (editsIn rs′ n) →
     replayOf sites rs n .answer ≡ 0 → replayOf sites rs′ n .answer ≡ 0
 any-order-accepted sites some few rs rs′ n r c h =
     let (whole, all) = refuses-none-exactly sites some few rs n .0 h in
     refuses-none-exactly sites some few rs′ n .1 (
       (λ b m. whole b (same-members (turned r) b m)),
-      any-order sites few (editsOf rs n) (editsOf rs′ n) (edits-rearranged rs rs′ n r) c all,
+      any-order sites few (editsIn rs n) (editsIn rs′ n) (edits-rearranged rs rs′ n r) c all,
     )

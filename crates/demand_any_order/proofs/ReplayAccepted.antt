@@ -1,5 +1,5 @@
 -- A replay of records refuses none of them exactly when each is of the right length and each edit is answered 0 over
--- the list of those before it. Assumes 1 to 8 sites.
+-- the list of those before it. Assumes 1 to 16 sites.
 use mathlib.Core.Path.{_≡_, refl, sym, ap, ap₂, _∙_}
 use mathlib.Core.Logic.{_↔_, inl, inr}
 use mathlib.Core.Bool.{Bool, true, false, cond}
@@ -22,15 +22,14 @@ use borrow.Author.Tests.{eqb-true, eqb-false}
 use Rattle.edit_record.specs.declared.Edit.{Edit}
 use Rattle.edit_record.specs.Layout.{mostSites, recordLength}
 use Rattle.edit_record.specs.RecordBytes.{decodeOf}
-use Rattle.edit_history.specs.EditsHeld.{bytesAt, recordAt, editsOf}
-use Rattle.edit_history.proofs.FieldsInPlace.{bytes-decoded}
+use Rattle.edit_history.specs.EditsHeld.{editsOf}
 use Rattle.table_drawing.specs.Tables.{Tables, heldBy, emptyDrawing}
 use Rattle.table_drawing.specs.AnswerNumbers.{Outcome, outcomeOf}
 use Rattle.table_arrival.specs.Answers6and7.{answerTo}
 use Rattle.table_arrival.specs.Arrival.{taken, acceptanceOf}
 use Rattle.table_arrival.proofs.Admitted.{accepted, taken-records}
 use Rattle.table_arrival.proofs.Faithful.{Faithful}
-use Rattle.table_replay.specs.Replay.{Replayed, replayed, replayOf}
+use Rattle.table_replay.specs.Replay.{Replayed, replayed, replayOf, editsIn}
 use Rattle.table_replay.proofs.ReplayFaithful.{replay-faithful}
 use Rattle.demand_any_order.specs.Rearranged.{recordsOf, Whole}
 use Rattle.demand_any_order.specs.Settled.{listAnswer, AllAccepted}
@@ -55,7 +54,7 @@ accepted-more n us x a h xs ys e q = elim (split-snoc us xs ys x e q) [
 
 -- ---- one record more
 
-module _ (sites : ℕ) (rs : List ℕ) (n : ℕ) where
+module _ (sites : ℕ) (rs : ℕ → List ℕ) (n : ℕ) where
   abbrev r : Replayed
   r = replayOf sites rs n
 
@@ -63,7 +62,7 @@ module _ (sites : ℕ) (rs : List ℕ) (n : ℕ) where
   t = r .after
 
   abbrev b : List ℕ
-  b = bytesAt rs n
+  b = rs n
 
   refuses-none-before :
       replayOf sites rs (suc n) .answer ≡ 0 → (replayOf sites rs n .answer ≡ 0) × (answerTo t b ≡ 0)
@@ -91,63 +90,63 @@ module _ (sites : ℕ) (rs : List ℕ) (n : ℕ) where
 
 -- ---- from an empty drawing
 
-module _ (sites : ℕ) (some : 1 ≤ sites) (few : sites ≤ mostSites) (rs : List ℕ) where
+module _ (sites : ℕ) (some : 1 ≤ sites) (few : sites ≤ mostSites) (rs : ℕ → List ℕ) where
   faithful : (n : ℕ) → Faithful (replayOf sites rs n .after)
   faithful n = replay-faithful sites some few rs n
 
   -- while none is refused, the drawing holds the edits of the records
   pub replay-holds :
       (n : ℕ) → replayOf sites rs n .answer ≡ 0 →
-      (heldBy (replayOf sites rs n .after) ≡ editsOf rs n) × (replayOf sites rs n .after .counters .sites ≡ sites)
-  unfolding editsOf
-  replay-holds zero h = unfold replayOf emptyDrawing in (refl, refl)
+      (heldBy (replayOf sites rs n .after) ≡ editsIn rs n) × (replayOf sites rs n .after .counters .sites ≡ sites)
+  unfolding editsIn
+  replay-holds zero h = unfold replayOf emptyDrawing editsOf in (refl, refl)
   replay-holds (suc n) h =
       let t = replayOf sites rs n .after in
-      let b = bytesAt rs n in
+      let b = rs n in
       let (z, a) = refuses-none-before sites rs n h in
       let (held, same) = replay-holds n z in
       let next : replayOf sites rs (suc n) .after ≡ taken t b = taken-next sites rs n z a in (
         ap heldBy next ∙ taken-holds t (faithful n) b a
-            ∙ ap₂ (λ (es : List Edit) (e : Edit). es ++ (e ∷ [])) held (bytes-decoded rs n),
+            ∙ ap₂ (λ (es : List Edit) (e : Edit). es ++ (e ∷ [])) held refl,
         ap (λ (u : Tables). u .counters .sites) next ∙ taken-records t b .2 ∙ same,
       )
 
   -- the next record's answer is the answer over the list
   pub next-answer :
-      (n : ℕ) → replayOf sites rs n .answer ≡ 0 → length (bytesAt rs n) ≡ recordLength →
-      answerTo (replayOf sites rs n .after) (bytesAt rs n) ≡ listAnswer sites (editsOf rs n) (recordAt rs n)
+      (n : ℕ) → replayOf sites rs n .answer ≡ 0 → length (rs n) ≡ recordLength →
+      answerTo (replayOf sites rs n .after) (rs n) ≡ listAnswer sites (editsIn rs n) (decodeOf (rs n))
   next-answer n z w =
       let t = replayOf sites rs n .after in
       let (held, same) = replay-holds n z in
-      answer-over-list t (faithful n) (bytesAt rs n) w
-      ∙ ap (λ (k : ℕ). listAnswer k (heldBy t) (decodeOf (bytesAt rs n))) same
-      ∙ ap₂ (listAnswer sites) held (bytes-decoded rs n)
+      answer-over-list t (faithful n) (rs n) w
+      ∙ ap (λ (k : ℕ). listAnswer k (heldBy t) (decodeOf (rs n))) same
+      ∙ ap₂ (listAnswer sites) held refl
 
   refuses-none-at :
-      (n : ℕ) → replayOf sites rs n .answer ≡ 0 → Whole (recordsOf rs n) × AllAccepted sites (editsOf rs n)
-  unfolding recordsOf editsOf
+      (n : ℕ) → replayOf sites rs n .answer ≡ 0 → Whole (recordsOf rs n) × AllAccepted sites (editsIn rs n)
+  unfolding recordsOf editsIn
   refuses-none-at zero h = ((λ b m. absurd (List·Memᴰ·not-nil m)), accepted-none sites)
   refuses-none-at (suc n) h =
       let t = replayOf sites rs n .after in
       let (z, a) = refuses-none-before sites rs n h in
       let (whole, all) = refuses-none-at n z in
-      let w : length (bytesAt rs n) ≡ recordLength = accepted t (bytesAt rs n) a .admitted .whole in (
+      let w : length (rs n) ≡ recordLength = accepted t (rs n) a .admitted .whole in (
         (λ b m. elim (List·Memᴰ·append-cases (recordsOf rs n) m)
             [ inl k ↦ whole b k | inr k ↦ rw (List·Memᴰ·eq-of-singleton k) w ]),
-        accepted-more sites (editsOf rs n) (recordAt rs n) all (sym (next-answer n z w) ∙ a),
+        accepted-more sites (editsIn rs n) (decodeOf (rs n)) all (sym (next-answer n z w) ∙ a),
       )
 
   refuses-none-on :
-      (n : ℕ) → Whole (recordsOf rs n) → AllAccepted sites (editsOf rs n) → replayOf sites rs n .answer ≡ 0
-  unfolding recordsOf editsOf
+      (n : ℕ) → Whole (recordsOf rs n) → AllAccepted sites (editsIn rs n) → replayOf sites rs n .answer ≡ 0
+  unfolding recordsOf editsIn
   refuses-none-on zero w a = unfold replayOf in refl
   refuses-none-on (suc n) w a =
-      let z = refuses-none-on n (λ b m. w b (Memᴰ·append-left (bytesAt rs n ∷ []) m))
-      (accepted-front sites (editsOf rs n) (recordAt rs n ∷ []) a) in
+      let z = refuses-none-on n (λ b m. w b (Memᴰ·append-left (rs n ∷ []) m))
+      (accepted-front sites (editsIn rs n) (decodeOf (rs n) ∷ []) a) in
       takes-next sites rs n z
-      (next-answer n z (w (bytesAt rs n) (mem-middle (recordsOf rs n) [] (bytesAt rs n)))
-      ∙ a (editsOf rs n) [] (recordAt rs n) refl)
+      (next-answer n z (w (rs n) (mem-middle (recordsOf rs n) [] (rs n)))
+      ∙ a (editsIn rs n) [] (decodeOf (rs n)) refl)
 
   pub refuses-none-exactly :
-      (n : ℕ) → (replayOf sites rs n .answer ≡ 0) ↔ (Whole (recordsOf rs n) × AllAccepted sites (editsOf rs n))
+      (n : ℕ) → (replayOf sites rs n .answer ≡ 0) ↔ (Whole (recordsOf rs n) × AllAccepted sites (editsIn rs n))
   refuses-none-exactly n = (refuses-none-at n, λ (w, a). refuses-none-on n w a)

@@ -1,5 +1,5 @@
 -- Two drawings of the same records, taken in two orders: they have the same objects, and an object has the same groups
--- in both. Assumes 1 to 8 sites, that no record is refused in either order, and that the order of the keys is strict.
+-- in both. Assumes 1 to 16 sites, that no record is refused in either order, and that the order of the keys is strict.
 use mathlib.Core.Path.{_≡_, sym, subst, _∙_}
 use mathlib.Core.Bool.{Bool}
 use mathlib.Core.List.{List}
@@ -11,14 +11,14 @@ use Rattle.edit_record.specs.declared.Edit.{Edit}
 use Rattle.edit_record.specs.Layout.{mostSites}
 use Rattle.edit_record.specs.Answer1.{isCreate}
 use Rattle.math_maximal.proofs.Renumbered.{Keys}
-use Rattle.edit_history.specs.EditsHeld.{recordAt, editsOf, creates}
+use Rattle.edit_history.specs.EditsHeld.{recordAt, creates}
 use Rattle.table_drawing.specs.Tables.{Tables, placeAt, heldBy}
 use Rattle.table_arrival.specs.Answers6and7.{rowOf}
 use Rattle.edit_record.specs.RecordBytes.{noEdit}
 use Rattle.group_true.specs.TrueGroups.{trueGroups}
 use Rattle.table_arrival.proofs.ObjectsByNumber.{object-create}
 use Rattle.table_arrival.proofs.Faithful.{Faithful}
-use Rattle.table_replay.specs.Replay.{replayOf}
+use Rattle.table_replay.specs.Replay.{replayOf, editsIn}
 use Rattle.table_replay.proofs.ReplayFaithful.{replay-faithful}
 use Rattle.demand_any_order.specs.Rearranged.{Rearranged, recordsOf}
 use Rattle.demand_any_order.specs.Settled.{Apart}
@@ -34,7 +34,7 @@ use Rattle.demand_any_order.proofs.SameGroups.{membersOf, same-keys}
 abbrev pub createIn : Tables → ℕ → Edit
 createIn t o = recordAt (t .records) (placeAt (t .objects) o)
 
-module _ (sites : ℕ) (some : 1 ≤ sites) (few : sites ≤ mostSites) (rs rs′ : List ℕ) (n : ℕ)
+module _ (sites : ℕ) (some : 1 ≤ sites) (few : sites ≤ mostSites) (rs rs′ : ℕ → List ℕ) (n : ℕ)
     (r : Rearranged (recordsOf rs n) (recordsOf rs′ n))
     (h : replayOf sites rs n .answer ≡ 0) (h′ : replayOf sites rs′ n .answer ≡ 0) where
   abbrev t : Tables
@@ -56,7 +56,7 @@ module _ (sites : ℕ) (some : 1 ≤ sites) (few : sites ≤ mostSites) (rs rs�
   pub held-apart : Apart (heldBy t)
   held-apart =
       subst Apart (sym (replay-holds sites some few rs n h .0))
-      (accepted-apart sites few (editsOf rs n) (refuses-none-exactly sites some few rs n .0 h .1))
+      (accepted-apart sites few (editsIn rs n) (refuses-none-exactly sites some few rs n .0 h .1))
 
   -- ---- the objects
 

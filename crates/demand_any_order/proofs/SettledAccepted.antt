@@ -1,4 +1,4 @@
--- A settled list in a causal order is accepted throughout. Assumes at most eight sites.
+-- A settled list in a causal order is accepted throughout. Assumes at most sixteen sites.
 use mathlib.Core.Path.{_≡_, sym, ap, ap₂, subst, _∙_}
 use mathlib.Core.Logic.{inl, inr}
 use mathlib.Core.Bool.{true}

@@ -1,10 +1,9 @@
--- One list rearranged into another, and the records of a table as the bytes that arrive. Assumes nothing.
+-- One list rearranged into another, and records as the bytes that arrive. Assumes nothing.
 use mathlib.Core.Path.{_≡_}
 use mathlib.Core.List.{List, [], _∷_, _++_, List·Memᴰ}
 use Prim.Native.Nat.{ℕ, zero, suc}
 use lib.ListN.{length}
 use Rattle.edit_record.specs.Layout.{recordLength}
-use Rattle.edit_history.specs.EditsHeld.{bytesAt}
 
 -- x is an element of xs
 abbrev pub Mem : {A : Type 0} → A → List A → Type 0
@@ -17,10 +16,10 @@ pub data Rearranged {A : Type 0} : List A → List A → Type 0 where
   swap : {x y : A} {xs : List A} → Rearranged (x ∷ y ∷ xs) (y ∷ x ∷ xs)
   then : {xs ys zs : List A} → Rearranged xs ys → Rearranged ys zs → Rearranged xs zs
 
--- the bytes of the first n records
-unfoldable pub recordsOf : List ℕ → ℕ → List (List ℕ)
+-- the first n of the records rs, each its bytes
+unfoldable pub recordsOf : (ℕ → List ℕ) → ℕ → List (List ℕ)
 recordsOf rs zero = []
-recordsOf rs (suc n) = recordsOf rs n ++ (bytesAt rs n ∷ [])
+recordsOf rs (suc n) = recordsOf rs n ++ (rs n ∷ [])
 
 -- each is of the right length
 abbrev pub Whole : List (List ℕ) → Type 0

@@ -12,7 +12,7 @@ use Rattle.math_lists.proofs.GrownAtEnd.{filter-snoc}
 use Rattle.edit_record.specs.declared.Edit.{Edit}
 use Rattle.edit_record.specs.Layout.{mostSites}
 use Rattle.edit_record.specs.RecordBytes.{decodeOf}
-use Rattle.edit_history.specs.EditsHeld.{bytesAt, isSetOn, setsOn}
+use Rattle.edit_history.specs.EditsHeld.{isSetOn, setsOn}
 use Rattle.table_drawing.specs.Tables.{Tables, heldBy}
 use Rattle.table_drawing.specs.AnswerNumbers.{Outcome, outcomeOf}
 use Rattle.table_soundness.proofs.SoundFacts.{sound-on}
@@ -99,7 +99,7 @@ arrivals-lead t f (b ∷ bs) =
 
 -- the first k of a file's records, and the first n of them
 pub replay-leads :
-    (sites : ℕ) → 1 ≤ sites → sites ≤ mostSites → (rs : List ℕ) (k n : ℕ) → k ≤ n →
+    (sites : ℕ) → 1 ≤ sites → sites ≤ mostSites → (rs : ℕ → List ℕ) (k n : ℕ) → k ≤ n →
     Later (replayOf sites rs k .after) (replayOf sites rs n .after)
 replay-leads sites some few rs k zero l =
     let e : k ≡ 0 = omega arith in
@@ -114,5 +114,5 @@ replay-leads sites some few rs k (suc n) l = elim (decLt n k) [
       where
         go : (x : Bool) → Later (replayOf sites rs n .after)
             (cond x (oneMore rs n (replayOf sites rs n .after)) (replayOf sites rs n) .after)
-        go true = acceptance-later (replayOf sites rs n .after) (bytesAt rs n) (replay-faithful sites some few rs n)
+        go true = acceptance-later (replayOf sites rs n .after) (rs n) (replay-faithful sites some few rs n)
         go false = later-self (replayOf sites rs n .after)

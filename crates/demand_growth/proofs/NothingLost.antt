@@ -117,7 +117,7 @@ nothing-lost-since-opening sites some few bs cs =
 
 -- the first k of a file's records, and the first n of them
 pub nothing-lost-in-a-file :
-    (sites : ℕ) → 1 ≤ sites → sites ≤ mostSites → (rs : List ℕ) (k n : ℕ) → k ≤ n → (o : ℕ) →
+    (sites : ℕ) → 1 ≤ sites → sites ≤ mostSites → (rs : ℕ → List ℕ) (k n : ℕ) → k ≤ n → (o : ℕ) →
     o < replayOf sites rs k .after .counters .objects →
     NothingLost (replayOf sites rs k .after) (replayOf sites rs n .after) o
 nothing-lost-in-a-file sites some few rs k n m =

@@ -1,5 +1,5 @@
 -- Demand 3: the records of an accepted replay, in any order that keeps each after those that its author had seen, are
--- accepted too and give the same printed list, byte for byte. Assumes 1 to 8 sites.
+-- accepted too and give the same printed list, byte for byte. Assumes 1 to 16 sites.
 use mathlib.Core.Path.{_≡_, sym, ap, ap₂, _∙_}
 use mathlib.Core.Logic.{inl, inr}
 use mathlib.Core.Bool.{true}
@@ -14,10 +14,10 @@ use Rattle.edit_record.specs.declared.Edit.{Edit}
 use Rattle.edit_record.specs.Layout.{mostSites}
 use Rattle.edit_record.specs.Answer1.{isCreate}
 use Rattle.edit_causal.specs.TotalOrder.{ranksBefore}
-use Rattle.edit_history.specs.EditsHeld.{editsOf, creates}
+use Rattle.edit_history.specs.EditsHeld.{creates}
 use Rattle.edit_sum.specs.SumOfEdits.{sumOver}
 use Rattle.table_drawing.specs.Tables.{Tables, heldBy}
-use Rattle.table_replay.specs.Replay.{replayOf}
+use Rattle.table_replay.specs.Replay.{replayOf, editsIn}
 use Rattle.table_replay.proofs.ReplayFaithful.{replay-faithful}
 use Rattle.demand_any_order.specs.Rearranged.{Mem, Rearranged, recordsOf}
 use Rattle.demand_any_order.specs.Settled.{Causal, Apart}
@@ -96,8 +96,8 @@ module _ (es fs : List Edit) (r : Rearranged es fs) (u : Apart es) (small : Numb
 
 -- ---- records
 
-module _ (sites : ℕ) (some : 1 ≤ sites) (few : sites ≤ mostSites) (rs rs′ : List ℕ) (n : ℕ)
-    (r : Rearranged (recordsOf rs n) (recordsOf rs′ n)) (c : Causal (editsOf rs′ n))
+module _ (sites : ℕ) (some : 1 ≤ sites) (few : sites ≤ mostSites) (rs rs′ : ℕ → List ℕ) (n : ℕ)
+    (r : Rearranged (recordsOf rs n) (recordsOf rs′ n)) (c : Causal (editsIn rs′ n))
     (h : replayOf sites rs n .answer ≡ 0) where
   abbrev t : Tables
   t = replayOf sites rs n .after

@@ -1,5 +1,5 @@
 -- Demand 3: an accepted edit leaves the lines of every other object as they were, and those objects in their order.
--- Assumes tables that are sound, with a count for each of 8 sites as the code's arrays have.
+-- Assumes tables that are sound, with a count for each of 16 sites as the code's arrays have.
 use mathlib.Core.Path.{_≡_, refl, sym, ap, ap₂, subst, _∙_}
 use mathlib.Core.Bool.{Bool, true, false, not, cond}
 use mathlib.Core.List.{List, [], _∷_, _++_, flatMap, List·Memᴰ·not-nil}

@@ -1,25 +1,26 @@
--- The answer of a replay from the list of its edits alone, record by record, and where a refusal stands. Assumes 1 to 8
--- sites, and records of the right length.
+-- The answer of a replay from the list of its edits alone, record by record, and where a refusal stands. Assumes a right
+-- number of sites, and records of the right length.
+use mathlib.Core.Logic.{inl, inr}
 use mathlib.Core.Path.{_≡_, refl, sym, ap, ap₂, _∙_}
 use mathlib.Core.Bool.{Bool, true, false, cond}
 use mathlib.Core.List.{List, [], _∷_, _++_}
-use Prim.Native.Nat.{ℕ, zero, suc, _*_, _≤_, _<_}
+use Prim.Native.Nat.{ℕ, zero, suc, _+_, _≤_, _<_}
 use native.Mathlib.Omega.{arith}
-use lib.ListN.{length, getD, take, drop, length-drop}
-use lib.Seq.{length-take-le, take-suc}
+use lib.ListN.{length, getD, take, List·getD-append}
+use lib.Seq.{take-suc, getD-append-add}
+use Rattle.math_lists.proofs.LastBelow.{last}
 use lib.Dec.{eqb}
 use borrow.Author.Tests.{eqb-true}
 use Rattle.edit_record.specs.declared.Edit.{Edit}
 use Rattle.edit_record.specs.Layout.{mostSites, recordLength}
-use Rattle.edit_history.specs.EditsHeld.{bytesAt, recordAt, editsOf}
-use Rattle.edit_history.proofs.EditsHeld.{edits-length}
+use Rattle.edit_record.specs.RecordBytes.{decodeOf}
 use Rattle.table_drawing.specs.Tables.{Tables}
 use Rattle.edit_record.specs.RecordBytes.{noEdit}
 use Rattle.table_arrival.specs.Answers6and7.{answerTo}
 use Rattle.table_arrival.specs.Arrival.{acceptanceOf}
-use Rattle.table_arrival.proofs.VersionValues.{edits-at}
-use Rattle.table_replay.specs.Replay.{oneMore, replayOf}
+use Rattle.table_replay.specs.Replay.{oneMore, replayOf, editsIn}
 use Rattle.table_replay.proofs.ReplayFaithful.{replay-faithful}
+use Rattle.table_replay.proofs.RoomForAll.{edits-in-length}
 use Rattle.demand_any_order.specs.Settled.{listAnswer}
 use Rattle.demand_any_order.proofs.ReplayAccepted.{next-answer, replay-holds}
 use Rattle.list_lines.specs.List.{linesOf}
@@ -34,10 +35,10 @@ answerOver n es (suc k) =
 
 -- ---- one record more
 
-module _ (sites : ℕ) (rs : List ℕ) (k : ℕ) where
+module _ (sites : ℕ) (rs : ℕ → List ℕ) (k : ℕ) where
   answer-next :
       replayOf sites rs k .answer ≡ 0 →
-      replayOf sites rs (suc k) .answer ≡ answerTo (replayOf sites rs k .after) (bytesAt rs k)
+      replayOf sites rs (suc k) .answer ≡ answerTo (replayOf sites rs k .after) (rs k)
   unfolding replayOf acceptanceOf
   answer-next z = rw z (go (eqb a 0) refl)
     where
@@ -45,9 +46,9 @@ module _ (sites : ℕ) (rs : List ℕ) (k : ℕ) where
       t = replayOf sites rs k .after
 
       a : ℕ
-      a = answerTo t (bytesAt rs k)
+      a = answerTo t (rs k)
 
-      go : (x : Bool) → eqb a 0 ≡ x → acceptanceOf t (bytesAt rs k) .answer ≡ a
+      go : (x : Bool) → eqb a 0 ≡ x → acceptanceOf t (rs k) .answer ≡ a
       go true e = rw e (sym (eqb-true a 0 e))
       go false e = rw e
 
@@ -69,21 +70,31 @@ module _ (sites : ℕ) (rs : List ℕ) (k : ℕ) where
 
 -- ---- over the edits
 
-module _ (sites : ℕ) (some : 1 ≤ sites) (few : sites ≤ mostSites) (rs : List ℕ) (n : ℕ)
-    (whole : n * recordLength ≤ length rs) (es : List Edit) (are : editsOf rs n ≡ es) where
-  edit-at : (k : ℕ) → k < n → recordAt rs k ≡ getD es k noEdit
-  edit-at k l = sym (edits-at noEdit rs n k l) ∙ ap (λ (l : List Edit). getD l k noEdit) are
+edits-in-at : (rs : ℕ → List ℕ) (n k : ℕ) → k < n → getD (editsIn rs n) k noEdit ≡ decodeOf (rs k)
+unfolding editsIn
+edits-in-at rs zero k l = absurd (omega arith)
+edits-in-at rs (suc n) k l = elim (last l) [
+  | inl m ↦
+      List·getD-append (editsIn rs n) (decodeOf (rs n) ∷ []) noEdit k (omega (arith, edits-in-length rs n))
+      ∙ edits-in-at rs n k m
+  | inr e ↦
+      let at : k ≡ length (editsIn rs n) + 0 = omega (arith, edits-in-length rs n) in
+      ap (λ (i : ℕ). getD (editsIn rs n ++ (decodeOf (rs n) ∷ [])) i noEdit) at
+      ∙ getD-append-add (editsIn rs n) (decodeOf (rs n) ∷ []) 0 noEdit
+      ∙ ap (λ (i : ℕ). decodeOf (rs i)) (sym e)
+]
 
-  edits-below : (k : ℕ) → k ≤ n → editsOf rs k ≡ take k es
-  unfolding editsOf
+module _ (sites : ℕ) (some : 1 ≤ sites) (few : sites ≤ mostSites) (rs : ℕ → List ℕ) (n : ℕ)
+    (whole : (k : ℕ) → k < n → length (rs k) ≡ recordLength) (es : List Edit) (are : editsIn rs n ≡ es) where
+  edit-at : (k : ℕ) → k < n → decodeOf (rs k) ≡ getD es k noEdit
+  edit-at k l = sym (edits-in-at rs n k l) ∙ ap (λ (l : List Edit). getD l k noEdit) are
+
+  edits-below : (k : ℕ) → k ≤ n → editsIn rs k ≡ take k es
+  unfolding editsIn
   edits-below zero l = refl
   edits-below (suc k) l =
       ap₂ (λ (us : List Edit) (e : Edit). us ++ (e ∷ [])) (edits-below k (omega arith)) (edit-at k (omega arith))
-      ∙ sym (take-suc es k noEdit (omega (arith, ap length are, edits-length rs n)))
-
-  record-whole : (k : ℕ) → k < n → length (bytesAt rs k) ≡ recordLength
-  record-whole k l =
-      length-take-le recordLength (drop (k * recordLength) rs) (omega (arith, length-drop (k * recordLength) rs))
+      ∙ sym (take-suc es k noEdit (omega (arith, ap length are, edits-in-length rs n)))
 
   pub answered : (k : ℕ) → k ≤ n → replayOf sites rs k .answer ≡ answerOver sites es k
   unfolding answerOver
@@ -96,7 +107,7 @@ module _ (sites : ℕ) (some : 1 ≤ sites) (few : sites ≤ mostSites) (rs : Li
       go true e ih =
           let z : replayOf sites rs k .answer ≡ 0 = ih ∙ eqb-true (answerOver sites es k) 0 e in
           answer-next sites rs k z
-          ∙ next-answer sites some few rs k z (record-whole k (omega arith))
+          ∙ next-answer sites some few rs k z (whole k (omega arith))
           ∙ ap₂ (listAnswer sites) (edits-below k (omega arith)) (edit-at k (omega arith))
       go false e ih = answer-stays sites rs k (ap (λ (a : ℕ). eqb a 0) ih ∙ e) ∙ ih
 

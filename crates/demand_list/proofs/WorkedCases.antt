@@ -6,15 +6,17 @@ use mathlib.Core.List.{List, [], _∷_, _++_, map, flatMap}
 use Prim.Native.Nat.{ℕ, suc, _-_, _*_, _^_, _≤_, _<_}
 use native.Mathlib.Omega.{arith}
 use lib.Dec.{eqb}
-use lib.ListN.{length, length-map, drop}
+use lib.ListN.{length, length-map, drop, length-drop}
+use lib.Seq.{length-take-le}
 use Rattle.math_lists.specs.NumbersBelow.{some, all, sum, keep}
 use Rattle.math_lists.specs.SortedLists.{any, filter, insertBy, gatherBy, insert, gather}
 use Rattle.edit_record.specs.declared.Edit.{Edit}
 use Rattle.edit_record.specs.Layout.{recordLength}
+use Rattle.edit_form.specs.OldForm.{longForm, longFrom, storedIn}
 use Rattle.edit_record.specs.RecordBytes.{counts, countBytes}
 use Rattle.edit_record.specs.Answer1.{nonzeroPast, unfit}
 use Rattle.edit_causal.specs.TotalOrder.{vectorSum}
-use Rattle.edit_history.specs.EditsHeld.{editsOf, countFrom, creates, setsOn}
+use Rattle.edit_history.specs.EditsHeld.{countFrom, creates, setsOn}
 use Rattle.edit_history.specs.Answers2to5.{isRepeated, isEarly, largerSomewhere, isTorn, isAstray}
 use Rattle.edit_sum.specs.SumOfEdits.{wordsIn, wordsOver, sumOver}
 use Rattle.math_maximal.specs.Groups.{bit, fits, isMaximal, groups}
@@ -22,7 +24,7 @@ use Rattle.math_maximal.specs.GroupsByArrival.{rel, groupsOf}
 use Rattle.table_arrival.specs.Answers6and7.{firstOf}
 use Rattle.group_true.specs.TrueGroups.{trueGroups}
 use Rattle.group_true.specs.Disputed.{isDisputed}
-use Rattle.table_replay.specs.Replay.{replayOf}
+use Rattle.table_replay.specs.Replay.{replayOf, editsIn}
 use Rattle.demand_any_order.specs.Settled.{fullOver, crowdedOver, listAnswer}
 use Rattle.list_text.specs.Decimal.{lastDigits, decimal}
 use Rattle.list_text.specs.Pieces.{newline, sitesWord, objectsWord, versionsWord, sumWord, wordDigits}
@@ -72,7 +74,7 @@ Computed c =
     let es = c .arrivals in
     (length es ≡ suc (length es - 1))
     × (length (recordBytes es) ≡ length es * recordLength)
-    × (editsOf (recordBytes es) (length es) ≡ es)
+    × (editsIn (storedIn longForm (recordBytes es)) (length es) ≡ es)
     × Gives es (length es - 1) (c .expected)
 
 abbrev AllComputed : List Case → Type 0
@@ -85,8 +87,14 @@ by-computing c (some-edit, long, are, gives) = go (c .expected) gives
     es : List Edit
     es = c .arrivals
 
-    rs : List ℕ
-    rs = recordBytes es
+    rs : ℕ → List ℕ
+    rs = storedIn longForm (recordBytes es)
+
+    records-whole : (k : ℕ) → k < length es → length (rs k) ≡ recordLength
+    records-whole k l =
+        unfold longFrom in
+        let bs = recordBytes es in
+        length-take-le recordLength (drop (k * recordLength) bs) (omega (arith, length-drop (k * recordLength) bs))
 
     n : ℕ
     n = length es
@@ -95,7 +103,7 @@ by-computing c (some-edit, long, are, gives) = go (c .expected) gives
     k = n - 1
 
     answer : (i : ℕ) → i ≤ n → replayOf sites rs i .answer ≡ answerOver sites es i
-    answer = answered sites (omega arith) (omega arith) rs n (omega arith) es are
+    answer = answered sites (omega arith) (omega arith) rs n records-whole es are
 
     to-last : {A : Type 0} (f : ℕ → A) → f n ≡ f (suc k)
     to-last f = ap f some-edit
@@ -120,7 +128,7 @@ by-computing c (some-edit, long, are, gives) = go (c .expected) gives
         ∙ ap (λ (h : List ℕ). h ∷ map bytesOf ls)
         (ap (λ (v : ℕ). headLine sites (length (creates es)) v (sumOver es)) (length-map ls bytesOf)
         ∙ head-with (length (creates es)) (length ls) es ∙ head) in
-        (all, printed sites (omega arith) (omega arith) rs n (omega arith) es are all ∙ whole)
+        (all, printed sites (omega arith) (omega arith) rs n records-whole es are all ∙ whole)
 
 all-by-computing : (cs : List Case) → AllComputed cs → AllHold cs
 all-by-computing [] h = tt
@@ -134,8 +142,8 @@ _also_ a b = (a, b)
 
 -- P10 to P12, and the example of 'The printed list'
 computed-last : AllComputed (drop 14 cases)
-unfolding cases bytesOf flatMap countBytes counts editsOf answerOver listAnswer firstOf unfit nonzeroPast isRepeated
-    isEarly countFrom isTorn largerSomewhere isAstray fullOver crowdedOver some all sum keep any filter creates
+unfolding cases bytesOf flatMap countBytes counts editsIn longFrom answerOver listAnswer firstOf unfit nonzeroPast
+    isRepeated isEarly countFrom isTorn largerSomewhere isAstray fullOver crowdedOver some all sum keep any filter creates
     setsOn trueGroups groupsOf groups isMaximal fits rel bit linesOver versionLines linesIn gatherBy insertBy
     gather insert vectorSum objectLines versionsOf isAhead lex identifierOf membersOf isDisputed versionLine
     identifierText settingsText settingText lastWith lastAfter later headLine decimal lastDigits
@@ -149,8 +157,8 @@ computed-last =
 
 -- P8 and P9
 computed-later : AllComputed (drop 12 cases)
-unfolding cases bytesOf flatMap countBytes counts editsOf answerOver listAnswer firstOf unfit nonzeroPast isRepeated
-    isEarly countFrom isTorn largerSomewhere isAstray fullOver crowdedOver some all sum keep any filter creates
+unfolding cases bytesOf flatMap countBytes counts editsIn longFrom answerOver listAnswer firstOf unfit nonzeroPast
+    isRepeated isEarly countFrom isTorn largerSomewhere isAstray fullOver crowdedOver some all sum keep any filter creates
     setsOn trueGroups groupsOf groups isMaximal fits rel bit linesOver versionLines linesIn gatherBy insertBy
     gather insert vectorSum objectLines versionsOf isAhead lex identifierOf membersOf isDisputed versionLine
     identifierText settingsText settingText lastWith lastAfter later headLine decimal lastDigits
@@ -162,8 +170,8 @@ computed-later =
 
 -- P7 in all six orders
 computed-seventh : AllComputed (drop 6 cases)
-unfolding cases bytesOf flatMap countBytes counts editsOf answerOver listAnswer firstOf unfit nonzeroPast isRepeated
-    isEarly countFrom isTorn largerSomewhere isAstray fullOver crowdedOver some all sum keep any filter creates
+unfolding cases bytesOf flatMap countBytes counts editsIn longFrom answerOver listAnswer firstOf unfit nonzeroPast
+    isRepeated isEarly countFrom isTorn largerSomewhere isAstray fullOver crowdedOver some all sum keep any filter creates
     setsOn trueGroups groupsOf groups isMaximal fits rel bit linesOver versionLines linesIn gatherBy insertBy
     gather insert vectorSum objectLines versionsOf isAhead lex identifierOf membersOf isDisputed versionLine
     identifierText settingsText settingText lastWith lastAfter later headLine decimal lastDigits
@@ -179,8 +187,8 @@ computed-seventh =
 
 -- P1 to P6
 computed : AllComputed cases
-unfolding cases bytesOf flatMap countBytes counts editsOf answerOver listAnswer firstOf unfit nonzeroPast isRepeated
-    isEarly countFrom isTorn largerSomewhere isAstray fullOver crowdedOver some all sum keep any filter creates
+unfolding cases bytesOf flatMap countBytes counts editsIn longFrom answerOver listAnswer firstOf unfit nonzeroPast
+    isRepeated isEarly countFrom isTorn largerSomewhere isAstray fullOver crowdedOver some all sum keep any filter creates
     setsOn trueGroups groupsOf groups isMaximal fits rel bit linesOver versionLines linesIn gatherBy insertBy
     gather insert vectorSum objectLines versionsOf isAhead lex identifierOf membersOf isDisputed versionLine
     identifierText settingsText settingText lastWith lastAfter later headLine decimal lastDigits

@@ -2,12 +2,13 @@
 -- last record, or the whole printed list. N = 3; one object, 0.1; the records are those of the edits. Assumes nothing.
 use mathlib.Core.Path.{_≡_}
 use mathlib.Core.List.{List, [], _∷_, map, flatMap}
-use Prim.Native.Nat.{ℕ, _+_}
+use Prim.Native.Nat.{ℕ, _+_, _-_}
 use Prim.Native.Char.{code}
 use Prim.Native.String.{String, [] as end, _∷_ as _then_}
-use lib.ListN.{length}
+use lib.ListN.{length, replicate}
 use Rattle.edit_record.specs.declared.Edit.{Edit}
-use Rattle.edit_record.specs.Layout.{createKind, setKind}
+use Rattle.edit_record.specs.Layout.{mostSites, createKind, setKind}
+use Rattle.edit_form.specs.OldForm.{longForm, storedIn}
 use Rattle.edit_record.specs.RecordBytes.{encodeOf}
 use Rattle.table_replay.specs.Replay.{Replayed, replayOf}
 use Rattle.list_lines.specs.List.{linesOf}
@@ -43,7 +44,7 @@ Meets r n (prints ls) = (r .answer ≡ 0) × (linesOf (r .after) ≡ map bytesOf
 abbrev pub Holds : Case → Type 0
 Holds c =
     let n = length (c .arrivals) in
-    Meets (replayOf sites (recordBytes (c .arrivals)) n) n (c .expected)
+    Meets (replayOf sites (storedIn longForm (recordBytes (c .arrivals))) n) n (c .expected)
 
 abbrev pub AllHold : List Case → Type 0
 AllHold [] = Unit {0}
@@ -51,8 +52,9 @@ AllHold (c ∷ cs) = Holds c × AllHold cs
 
 -- ---- the edits
 
+-- the entries of the three sites, and none for the others
 abbrev pub vector : ℕ → ℕ → ℕ → List ℕ
-vector a b c = a ∷ b ∷ c ∷ 0 ∷ 0 ∷ 0 ∷ 0 ∷ 0 ∷ []
+vector a b c = a ∷ b ∷ c ∷ replicate (mostSites - sites) 0
 
 -- the Create 0.1
 abbrev pub box : Edit

@@ -81,6 +81,12 @@ chosen-few f rs (suc n) = rw (chosen-more f rs n) (go (f (recordAt rs n)) (chose
     go true h = omega arith
     go false h = omega arith
 
+pub count-snoc :
+    (s : ℕ) (es : List Edit) (e : Edit) →
+    countFrom s (es ++ (e ∷ [])) ≡ countFrom s es + cond (eqb (e .site .0) s) 1 0
+unfolding countFrom
+count-snoc s es e = filter-length-snoc (λ a. eqb (a .site .0) s) es e
+
 pub count-more :
     (s : ℕ) (rs : List ℕ) (n : ℕ) →
     countFrom s (editsOf rs (suc n)) ≡ countFrom s (editsOf rs n) + cond (eqb (recordAt rs n .site .0) s) 1 0

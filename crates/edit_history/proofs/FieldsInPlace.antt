@@ -6,7 +6,7 @@ use native.Mathlib.Omega.{arith}
 use lib.ListN.{getD, drop}
 use lib.Seq.{getD-drop, getD-take}
 use Rattle.edit_record.specs.Layout.{mostSites, kindAt, siteAt, seqAt, vectorAt, targetAt, keyAt, targetSeqAt}
-use Rattle.edit_record.specs.Layout.{recordLength}
+use Rattle.edit_record.specs.Layout.{recordLength, placeLength}
 use Rattle.edit_record.specs.RecordBytes.{two, counts, decodeOf}
 use Rattle.edit_record.proofs.AgreeingBytes.{decode-agree}
 use Rattle.edit_record.proofs.NumbersInBytes.{two-drop}
@@ -15,7 +15,7 @@ use Rattle.edit_history.specs.EditsHeld.{bytesAt, recordAt}
 -- a record's own bytes give its edit
 pub bytes-decoded : (rs : List ℕ) (p : ℕ) → decodeOf (bytesAt rs p) ≡ recordAt rs p
 bytes-decoded rs p =
-    let d = drop (p * recordLength) rs in
+    let d = drop (p * placeLength) rs in
     decode-agree (bytesAt rs p) d (λ i l. getD-take recordLength d i 0 l)
 
 counts-at : (n : ℕ) (s : List ℕ) (i : ℕ) → i < n → getD (counts n s) i 0 ≡ two s (2 * i)
@@ -25,30 +25,30 @@ counts-at (suc n) s zero l = refl
 counts-at (suc n) s (suc i) l =
     counts-at n (drop 2 s) i (omega arith) ∙ two-drop 2 s (2 * i) ∙ ap (two s) (omega arith)
 
-pub kind-in-place : (rs : List ℕ) (p : ℕ) → recordAt rs p .kind ≡ getD rs (p * recordLength + kindAt) 0
-kind-in-place rs p = getD-drop (p * recordLength) rs kindAt 0
+pub kind-in-place : (rs : List ℕ) (p : ℕ) → recordAt rs p .kind ≡ getD rs (p * placeLength + kindAt) 0
+kind-in-place rs p = getD-drop (p * placeLength) rs kindAt 0
 
-pub site-in-place : (rs : List ℕ) (p : ℕ) → recordAt rs p .site .0 ≡ getD rs (p * recordLength + siteAt) 0
-site-in-place rs p = getD-drop (p * recordLength) rs siteAt 0
+pub site-in-place : (rs : List ℕ) (p : ℕ) → recordAt rs p .site .0 ≡ getD rs (p * placeLength + siteAt) 0
+site-in-place rs p = getD-drop (p * placeLength) rs siteAt 0
 
-pub seq-in-place : (rs : List ℕ) (p : ℕ) → recordAt rs p .seq .0 ≡ two rs (p * recordLength + seqAt)
-seq-in-place rs p = two-drop (p * recordLength) rs seqAt
+pub seq-in-place : (rs : List ℕ) (p : ℕ) → recordAt rs p .seq .0 ≡ two rs (p * placeLength + seqAt)
+seq-in-place rs p = two-drop (p * placeLength) rs seqAt
 
-pub key-in-place : (rs : List ℕ) (p : ℕ) → recordAt rs p .key ≡ getD rs (p * recordLength + keyAt) 0
-key-in-place rs p = getD-drop (p * recordLength) rs keyAt 0
+pub key-in-place : (rs : List ℕ) (p : ℕ) → recordAt rs p .key ≡ getD rs (p * placeLength + keyAt) 0
+key-in-place rs p = getD-drop (p * placeLength) rs keyAt 0
 
-pub target-in-place : (rs : List ℕ) (p : ℕ) → recordAt rs p .tsite .0 ≡ getD rs (p * recordLength + targetAt) 0
-target-in-place rs p = getD-drop (p * recordLength) rs targetAt 0
+pub target-in-place : (rs : List ℕ) (p : ℕ) → recordAt rs p .tsite .0 ≡ getD rs (p * placeLength + targetAt) 0
+target-in-place rs p = getD-drop (p * placeLength) rs targetAt 0
 
 pub target-seq-in-place :
-    (rs : List ℕ) (p : ℕ) → recordAt rs p .tseq .0 ≡ two rs (p * recordLength + targetSeqAt)
-target-seq-in-place rs p = two-drop (p * recordLength) rs targetSeqAt
+    (rs : List ℕ) (p : ℕ) → recordAt rs p .tseq .0 ≡ two rs (p * placeLength + targetSeqAt)
+target-seq-in-place rs p = two-drop (p * placeLength) rs targetSeqAt
 
 pub entry-in-place :
     (rs : List ℕ) (p s : ℕ) → s < mostSites →
-    getD (recordAt rs p .vector) s 0 ≡ two rs (p * recordLength + vectorAt + 2 * s)
+    getD (recordAt rs p .vector) s 0 ≡ two rs (p * placeLength + vectorAt + 2 * s)
 entry-in-place rs p s l =
-    counts-at mostSites (drop vectorAt (drop (p * recordLength) rs)) s l
-    ∙ two-drop vectorAt (drop (p * recordLength) rs) (2 * s)
-    ∙ two-drop (p * recordLength) rs (vectorAt + 2 * s)
+    counts-at mostSites (drop vectorAt (drop (p * placeLength) rs)) s l
+    ∙ two-drop vectorAt (drop (p * placeLength) rs) (2 * s)
+    ∙ two-drop (p * placeLength) rs (vectorAt + 2 * s)
     ∙ ap (two rs) (omega arith)

@@ -9,7 +9,7 @@ use Rattle.math_lists.specs.SortedLists.{filter}
 use Rattle.edit_record.specs.declared.Site.{Site}
 use Rattle.edit_record.specs.declared.Seq.{Seq}
 use Rattle.edit_record.specs.declared.Edit.{Edit}
-use Rattle.edit_record.specs.Layout.{recordLength}
+use Rattle.edit_record.specs.Layout.{recordLength, placeLength}
 use Rattle.edit_record.specs.RecordBytes.{decodeOf}
 use Rattle.edit_record.specs.Answer1.{isCreate, isSet}
 use Rattle.edit_causal.specs.Causal.{sameEdit, hasSeen}
@@ -23,10 +23,10 @@ mostRecords = 256
 
 -- the bytes of the record in place p, and the edit in it
 abbrev pub bytesAt : List ℕ → ℕ → List ℕ
-bytesAt rs p = take recordLength (drop (p * recordLength) rs)
+bytesAt rs p = take recordLength (drop (p * placeLength) rs)
 
 abbrev pub recordAt : List ℕ → ℕ → Edit
-recordAt rs p = decodeOf (drop (p * recordLength) rs)
+recordAt rs p = decodeOf (drop (p * placeLength) rs)
 
 -- the edits in the first n places
 unfoldable pub editsOf : List ℕ → ℕ → List Edit

@@ -6,7 +6,7 @@ use edit_causal::is_same;
 use edit_record::AT_KIND;
 use edit_record::CREATE;
 use edit_record::Edit;
-use edit_record::RECORD;
+use edit_record::PLACE;
 use edit_record::SET;
 use edit_record::SITES;
 use edit_record::Seq;
@@ -39,7 +39,7 @@ pub fn decode_at(recs: &[u8], p: usize) -> Edit
     requires { ⌜ p < twoBytes ⌝ }
     ensures { λ r. ⌜ r ≡ recordAt (now (recs .entry)) p ⌝ }
 {
-    let at = p * RECORD;
+    let at = p * PLACE;
     if at <= recs.len() {
         edit_record::decode(&recs[at..])
     } else {
@@ -52,7 +52,7 @@ pub fn kind_at(recs: &[u8], p: usize) -> u8
     requires { ⌜ p < twoBytes ⌝ }
     ensures { λ r. ⌜ r ≡ recordAt (now (recs .entry)) p .kind ⌝ }
 {
-    edit_record::byte_at(recs, p * RECORD + AT_KIND)
+    edit_record::byte_at(recs, p * PLACE + AT_KIND)
 }
 
 // The counts with one edit more of the site s.

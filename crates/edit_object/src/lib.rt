@@ -7,7 +7,7 @@ use edit_record::AT_SITE;
 use edit_record::AT_TARGET;
 use edit_record::AT_TARGET_SEQ;
 use edit_record::CREATE;
-use edit_record::RECORD;
+use edit_record::PLACE;
 use edit_record::SET;
 use edit_record::Seq;
 use edit_record::Site;
@@ -23,7 +23,7 @@ fn is_create_at(recs: &[u8], p: usize, s: Site, q: Seq) -> bool
     requires { ⌜ p < mostRecords ⌝ }
     ensures { λ r. ⌜ r ≡ isCreateOf s q (recordAt (now (recs .entry)) p) ⌝ }
 {
-    let at = p * RECORD;
+    let at = p * PLACE;
     let kind = edit_record::byte_at(recs, at + AT_KIND);
     let site = edit_record::byte_at(recs, at + AT_SITE);
     let seq = edit_record::two_at(recs, at + AT_SEQ);
@@ -50,7 +50,7 @@ fn is_set_at(recs: &[u8], p: usize, s: Site, q: Seq) -> bool
     requires { ⌜ p < mostRecords ⌝ }
     ensures { λ r. ⌜ r ≡ isSetOn s q (recordAt (now (recs .entry)) p) ⌝ }
 {
-    let at = p * RECORD;
+    let at = p * PLACE;
     let site = edit_record::byte_at(recs, at + AT_TARGET);
     if site != s.0 {
         return false;

@@ -1,4 +1,5 @@
 pub mod NumbersInBytes
+pub mod Encoding
 pub mod PaddedBytes
 pub mod EntriesPastSites
 pub mod RoundTrip

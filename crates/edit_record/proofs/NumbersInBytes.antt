@@ -5,7 +5,7 @@ use mathlib.Core.List.{List, [], _∷_, _++_}
 use Prim.Native.Nat.{ℕ, zero, suc, _+_, _*_, _/_, _%_, _≤_, _<_}
 use native.Mathlib.Omega.{arith}
 use lib.ListN.{length, getD, take, drop}
-use lib.Seq.{getD-drop, drop-cons, take-all}
+use lib.Seq.{getD-drop}
 use Rattle.edit_record.specs.RecordBytes.{two, counts, countBytes}
 
 -- every element is a byte; every element is a count of two bytes
@@ -14,21 +14,6 @@ Bytes s = (i : ℕ) → getD s i 0 < 256
 
 abbrev pub Counts : List ℕ → Type 0
 Counts v = (i : ℕ) → getD v i 0 < 65536
-
--- ---- a list is its elements, one by one
-
-abbrev pub onward : ℕ → ℕ → List ℕ → List ℕ
-onward zero i s = []
-onward (suc n) i s = getD s i 0 ∷ onward n (suc i) s
-
-onward-take : (n i : ℕ) (s : List ℕ) → i + n ≤ length s → onward n i s ≡ take n (drop i s)
-onward-take zero i s h = refl
-onward-take (suc n) i s h =
-    let k : i < length s = omega arith in
-    rw (drop-cons s i 0) (ap (λ (l : List ℕ). getD s i 0 ∷ l) (onward-take n (suc i) s (omega arith)))
-
-pub one-by-one : (n : ℕ) (s : List ℕ) → length s ≡ n → onward n 0 s ≡ s
-one-by-one n s h = onward-take n 0 s (omega arith) ∙ take-all n s (omega arith)
 
 -- ---- reading
 

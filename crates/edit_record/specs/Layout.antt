@@ -3,7 +3,7 @@ use Prim.Native.Nat.{ℕ, _+_, _*_}
 
 -- the sites that a drawing has at most: the entries of a vector
 abbrev pub mostSites : ℕ
-mostSites = 8
+mostSites = 16
 
 -- the attribute keys are the numbers below this one
 abbrev pub keys : ℕ
@@ -45,5 +45,10 @@ targetSeqAt = targetAt + 2
 abbrev pub valueAt : ℕ
 valueAt = targetAt + 4
 
+-- the bytes of a record
 abbrev pub recordLength : ℕ
 recordLength = valueAt + 4
+
+-- the bytes of a place in the table of records
+abbrev pub placeLength : ℕ
+placeLength = recordLength

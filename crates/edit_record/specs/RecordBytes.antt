@@ -1,4 +1,4 @@
--- The 28 bytes of an edit record, little-endian, as an edit and back. A byte past the end counts as 0. Assumes nothing.
+-- The bytes of an edit record, little-endian, as an edit and back. A byte past the end counts as 0. Assumes nothing.
 use Prim.Native.Nat.{ℕ, zero, suc, _+_, _*_, _/_, _%_}
 use mathlib.Core.List.{List, [], _∷_, _++_}
 use lib.ListN.{getD, drop}

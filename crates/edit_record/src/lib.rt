@@ -1,13 +1,14 @@
-// The edit record of document 01: sites and sequence numbers, 28 bytes to an edit and back, and answer 1.
+// The edit record of document 01: sites and sequence numbers, a record's bytes to an edit and back, and answer 1.
 ghost use mathlib.Core.Path.{_≡_};
 ghost use Prim.Native.Nat.{ℕ, _+_, _*_, _≤_, _<_, _^_};
-ghost use lib.ListN.{length, getD, drop};
-ghost use Rattle.edit_record.specs.Layout.{mostSites, vectorAt, recordLength};
-ghost use Rattle.edit_record.specs.RecordBytes.{two, counts, decodeOf, encodeOf};
+ghost use mathlib.Core.List.{[], _∷_, _++_};
+ghost use lib.ListN.{length, getD, take, drop};
+ghost use Rattle.edit_record.specs.Layout.{mostSites, vectorAt, targetAt, recordLength};
+ghost use Rattle.edit_record.specs.RecordBytes.{two, counts, countBytes, decodeOf, encodeOf};
 ghost use Rattle.edit_record.specs.Answer1.{entryOf, nonzeroPast, lastEightZero, unfit, malformed};
 
 // The sites that a drawing has at most: the entries of a vector.
-pub const SITES: usize = 8;
+pub const SITES: usize = 16;
 
 // The attribute keys are the numbers below this one.
 pub const KEYS: u8 = 16;
@@ -35,6 +36,9 @@ const AT_VALUE: usize = AT_TARGET + 4;
 
 // The bytes of a record.
 pub const RECORD: usize = AT_VALUE + 4;
+
+// The bytes of a place in the table of records.
+pub const PLACE: usize = RECORD;
 
 // The number of a laptop. It is never taken for a sequence number.
 pub struct Site(pub u8);
@@ -142,43 +146,51 @@ pub fn decode(rec: &[u8]) -> Edit
     decode_whole(&whole)
 }
 
+// The bytes before i as they stand, then these two; what stands behind is left open.
+fn with_two(bytes: [u8; RECORD], i: usize, low: u8, high: u8) -> [u8; RECORD]
+    requires { ⌜ i + 1 < recordLength ⌝ }
+    ensures { λ r. ⌜ take (i + 2) r ≡ take i bytes ++ (low ∷ high ∷ []) ⌝ }
+{
+    let mut out = bytes;
+    out[i] = low;
+    out[i + 1] = high;
+    out
+}
+
+// The bytes before i as they stand, then the two of a count.
+fn with_count(bytes: [u8; RECORD], i: usize, n: u16) -> [u8; RECORD]
+    requires { ⌜ i + 1 < recordLength ⌝ }
+    ensures { λ r. ⌜ take (i + 2) r ≡ take i bytes ++ countBytes (n ∷ []) ⌝ }
+{
+    with_two(bytes, i, (n % 256) as u8, (n / 256 % 256) as u8)
+}
+
+// The bytes before a vector as they stand, then those of its counts.
+fn with_vector(bytes: [u8; RECORD], v: [u16; SITES]) -> [u8; RECORD]
+    ensures { λ r. ⌜ take targetAt r ≡ take vectorAt bytes ++ countBytes v ⌝ }
+{
+    let mut out = bytes;
+    let mut i: usize = 0;
+    while i < SITES {
+        let next = with_count(out, AT_VECTOR + 2 * i, v[i]);
+        out = next;
+        i += 1;
+    }
+    out
+}
+
 // The bytes of an edit.
 pub fn encode(e: Edit) -> [u8; RECORD]
     ensures { λ r. ⌜ r ≡ encodeOf e ⌝ }
 {
     let v = e.vector;
-    let low = e.value % 65536;
-    let high = e.value / 65536;
-    [
-        e.kind,
-        e.site.0,
-        (e.seq.0 % 256) as u8,
-        (e.seq.0 / 256 % 256) as u8,
-        (v[0] % 256) as u8,
-        (v[0] / 256 % 256) as u8,
-        (v[1] % 256) as u8,
-        (v[1] / 256 % 256) as u8,
-        (v[2] % 256) as u8,
-        (v[2] / 256 % 256) as u8,
-        (v[3] % 256) as u8,
-        (v[3] / 256 % 256) as u8,
-        (v[4] % 256) as u8,
-        (v[4] / 256 % 256) as u8,
-        (v[5] % 256) as u8,
-        (v[5] / 256 % 256) as u8,
-        (v[6] % 256) as u8,
-        (v[6] / 256 % 256) as u8,
-        (v[7] % 256) as u8,
-        (v[7] / 256 % 256) as u8,
-        e.tsite.0,
-        e.key,
-        (e.tseq.0 % 256) as u8,
-        (e.tseq.0 / 256 % 256) as u8,
-        (low % 256) as u8,
-        (low / 256 % 256) as u8,
-        (high % 256) as u8,
-        (high / 256 % 256) as u8,
-    ]
+    let author = with_two([0u8; RECORD], AT_KIND, e.kind, e.site.0);
+    let own = with_count(author, AT_SEQ, e.seq.0);
+    let seen = with_vector(own, v);
+    let target = with_two(seen, AT_TARGET, e.tsite.0, e.key);
+    let named = with_count(target, AT_TARGET_SEQ, e.tseq.0);
+    let low = with_count(named, AT_VALUE, (e.value % 65536) as u16);
+    with_count(low, AT_VALUE + 2, (e.value / 65536) as u16)
 }
 
 // The count of a site in a vector, and 0 for a site that has no entry.

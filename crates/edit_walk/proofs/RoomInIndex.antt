@@ -3,7 +3,7 @@
 use mathlib.Core.Path.{_≡_, refl, ap, _∙_}
 use mathlib.Core.Logic.{inl, inr}
 use mathlib.Core.Bool.{Bool, true, false, cond}
-use mathlib.Core.List.{List}
+use mathlib.Core.List.{List, [], _∷_}
 use Prim.Native.Nat.{ℕ, zero, suc, _+_, _≤_, _<_}
 use native.Mathlib.Omega.{arith}
 use native.Mathlib.Decide.{decLt}
@@ -14,9 +14,11 @@ use Rattle.math_lists.specs.NumbersBelow.{sum}
 use Rattle.math_lists.specs.SortedLists.{filter}
 use Rattle.math_lists.proofs.LastBelow.{last}
 use Rattle.math_lists.proofs.NumbersBelow.{sum-same, sum-below, sum-past, sum-one-more}
+use Rattle.edit_record.specs.declared.Edit.{Edit}
 use Rattle.edit_record.specs.Layout.{mostSites}
-use Rattle.edit_history.specs.EditsHeld.{mostRecords, recordAt, editsOf, countFrom}
-use Rattle.edit_history.proofs.EditsHeld.{count-more, count-grows}
+use Rattle.edit_history.specs.EditsHeld.{mostRecords, countFrom}
+use Rattle.edit_history.specs.SurveyForms.{Counted}
+use Rattle.edit_history.proofs.EditsHeld.{count-grows}
 use Rattle.edit_walk.specs.WalkForms.{placesLength, slotOf, placeOf, SameStarts, countIn, Spaced}
 
 -- ---- room that stays
@@ -79,47 +81,52 @@ module _ {room : ℕ → ℕ} {ps : List ℕ} (x : Spaced room ps) where
 
 -- ---- the starts that count
 
--- each record is counted for one site at most
-pub counts-few : (rs : List ℕ) (n k : ℕ) → sum k (countIn rs n) ≤ n
-unfolding countFrom editsOf filter
-counts-few rs zero k = omega (arith, sum-below k 0 (countIn rs 0) (λ s l. omega arith))
-counts-few rs (suc n) k =
-    rw (sum-same k (countIn rs (suc n)) (λ s. countIn rs n s + cond (eqb t s) 1 0) (λ s l. count-more s rs n))
-    (rw (sum-one-more k t (countIn rs n)) (go (ltb t k) (counts-few rs n k)))
+-- each edit is counted for one site at most
+pub counts-few : (es : List Edit) (k : ℕ) → sum k (λ s. countFrom s es) ≤ length es
+unfolding countFrom filter
+counts-few [] k = omega (arith, sum-below k 0 (λ s. countFrom s []) (λ s l. omega arith))
+counts-few (e ∷ es) k =
+    rw (sum-same k (λ s. countFrom s (e ∷ es)) (λ s. countFrom s es + cond (eqb t s) 1 0) (λ s l. first s (eqb t s)))
+    (rw (sum-one-more k t (λ s. countFrom s es)) (go (ltb t k) (counts-few es k)))
   where
     t : ℕ
-    t = recordAt rs n .site .0
+    t = e .site .0
 
-    go : (b : Bool) → sum k (countIn rs n) ≤ n → sum k (countIn rs n) + cond b 1 0 ≤ suc n
+    first : (s : ℕ) (b : Bool) →
+        length (cond b (e ∷ filter (λ a. eqb (a .site .0) s) es) (filter (λ a. eqb (a .site .0) s) es))
+        ≡ countFrom s es + cond b 1 0
+    first s true = omega arith
+    first s false = omega arith
+
+    go : (b : Bool) → sum k (λ s. countFrom s es) ≤ length es → sum k (λ s. countFrom s es) + cond b 1 0 ≤ suc (length es)
     go true h = omega arith
     go false h = omega arith
 
+-- so counts that are the edits' are no more in all than the edits
+pub counted-in-all :
+    (counts : List ℕ) (es : List Edit) → Counted counts es → sum mostSites (λ s. getD counts s 0) ≤ length es
+counted-in-all counts es counted =
+    rw (sum-same mostSites (λ s. getD counts s 0) (λ s. countFrom s es) counted) (counts-few es mostSites)
+
 -- the sites below k have their starts
-abbrev pub Started : List ℕ → ℕ → List ℕ → ℕ → Type 0
-Started rs n ps k = (s : ℕ) → s < k → getD ps s 0 ≡ mostSites + sum s (countIn rs n)
+abbrev pub Started : (ℕ → ℕ) → List ℕ → ℕ → Type 0
+Started room ps k = (s : ℕ) → s < k → getD ps s 0 ≡ mostSites + sum s room
 
-pub started-more :
-    (rs ps : List ℕ) (n k at : ℕ) → k < length ps → at ≡ mostSites + sum k (countIn rs n) → Started rs n ps k →
-    Started rs n (set ps k at) (suc k)
-started-more rs ps n k at low is starts s l =
-    elim (last l) [
-      | inl m ↦ getD-set-other ps k s at 0 (λ e. absurd (omega arith)) ∙ starts s m
-      | inr e ↦ rw e (getD-set-same ps k at 0 low ∙ is)
-    ]
+module _ (room : ℕ → ℕ) (ps : List ℕ) where
+  pub started-more :
+      (k at : ℕ) → k < length ps → at ≡ mostSites + sum k room → Started room ps k → Started room (set ps k at) (suc k)
+  started-more k at low is starts s l =
+      elim (last l) [
+        | inl m ↦ getD-set-other ps k s at 0 (λ e. absurd (omega arith)) ∙ starts s m
+        | inr e ↦ rw e (getD-set-same ps k at 0 low ∙ is)
+      ]
 
--- the next start
-pub start-next : (rs : List ℕ) (n k : ℕ) → sum (suc k) (countIn rs n) ≡ sum k (countIn rs n) + countIn rs n k
-unfolding sum
-start-next rs n k = refl
-
-pub starts-spaced :
-    (rs ps : List ℕ) (n : ℕ) → n ≤ mostRecords → length ps ≡ placesLength → Started rs n ps mostSites →
-    Spaced (countIn rs n) ps
-starts-spaced rs ps n few long starts =
-    record {
-      entries = long;
-      behind = λ s l. omega (arith, starts s l);
-      apart = λ s t l m. omega (arith, starts s (omega arith), starts t m, sum-past s t (countIn rs n) l);
-      within = λ s l.
-          omega (arith, starts s l, sum-past s mostSites (countIn rs n) l, counts-few rs n mostSites);
-    }
+  pub starts-spaced :
+      sum mostSites room ≤ mostRecords → length ps ≡ placesLength → Started room ps mostSites → Spaced room ps
+  starts-spaced few long starts =
+      record {
+        entries = long;
+        behind = λ s l. omega (arith, starts s l);
+        apart = λ s t l m. omega (arith, starts s (omega arith), starts t m, sum-past s t room l);
+        within = λ s l. omega (arith, starts s l, sum-past s mostSites room l);
+      }

@@ -18,7 +18,7 @@ use Rattle.edit_history.specs.Answers2to5.{passes, recordsPass}
 use Rattle.edit_history.specs.SurveyForms.{bump, Counted}
 use Rattle.edit_walk.specs.WalkForms.{placesLength, slotOf, placeOf, Indexed, SameStarts, countIn, Spaced}
 use Rattle.edit_walk.specs.WalkForms.{passesAgainst}
-use Rattle.edit_history.proofs.EditsHeld.{count-grows}
+use Rattle.edit_history.proofs.EditsHeld.{edits-length, count-grows}
 use Rattle.edit_history.proofs.ByCounts.{counted-none, counted-few, counted-more}
 use Rattle.edit_history.proofs.RecordsPassed.{formed-at, seq-held, seq-later}
 use Rattle.edit_walk.proofs.LatestDecides.{latest-decides}
@@ -40,7 +40,7 @@ walking-starts sites rs ps m spaced =
       pass = refl;
       wide = refl;
       spaced = spaced;
-      counted = counted-none rs;
+      counted = unfold editsOf in counted-none;
       indexed = λ p l. absurd (omega arith);
     }
 
@@ -132,7 +132,7 @@ module _
 
   -- no count is above the number of records
   pub held-few : (s : ℕ) → getD held s 0 ≤ n
-  held-few s = counted-few held rs n (w .wide) (w .counted) s
+  held-few s = omega (arith, counted-few held (editsOf rs n) (w .wide) (w .counted) s, edits-length rs n)
 
   module _ (l : n < m) (next : passesAgainst sites held rs ps (recordAt rs n) ≡ true) where
     pass-more : recordsPass sites rs (suc n) ≡ true
@@ -154,6 +154,6 @@ module _
           pass = pass-more;
           wide = simp length-set (w .wide);
           spaced = spaced-more sites few rs n pass-more (countIn rs m) fit ps (w .spaced);
-          counted = counted-more held rs n (w .wide) (w .counted);
+          counted = unfold editsOf in counted-more held (editsOf rs n) (w .wide) (w .counted) (recordAt rs n);
           indexed = indexed-more sites few rs n pass-more (countIn rs m) fit ps (w .spaced) (w .indexed);
         }

@@ -7,7 +7,7 @@ use edit_record::AT_TARGET_SEQ;
 use edit_record::AT_VECTOR;
 use edit_record::CREATE;
 use edit_record::Edit;
-use edit_record::RECORD;
+use edit_record::PLACE;
 use edit_record::SET;
 use edit_record::SITES;
 use edit_record::Seq;
@@ -15,6 +15,7 @@ use edit_record::Site;
 ghost use mathlib.Core.Path.{_≡_};
 ghost use Prim.Native.Nat.{_-_, _≤_, _<_};
 ghost use lib.ListN.{length, getD};
+ghost use Rattle.math_lists.specs.NumbersBelow.{sum};
 ghost use Rattle.edit_record.specs.Layout.{mostSites, twoBytes};
 ghost use Rattle.edit_history.specs.EditsHeld.{mostRecords, recordAt, editsOf};
 ghost use Rattle.edit_history.specs.Answers2to5.{largerSomewhere};
@@ -41,7 +42,7 @@ fn count_sites(recs: &[u8], n: usize) -> [u16; SITES]
     let mut counts = [0u16; SITES];
     let mut i: usize = 0;
     while i < n {
-        let site = edit_record::byte_at(recs, i * RECORD + AT_SITE) as usize;
+        let site = edit_record::byte_at(recs, i * PLACE + AT_SITE) as usize;
         if site < SITES {
             counts[site] = counts[site] + 1;
         }
@@ -50,12 +51,11 @@ fn count_sites(recs: &[u8], n: usize) -> [u16; SITES]
     counts
 }
 
-// Puts the starts of the sites, so that there is room for the edits of the first n records.
-pub fn start_places(recs: &[u8], n: usize, places: &mut [u16])
-    requires { ⌜ (n ≤ mostRecords) × (length (now places) ≡ placesLength) ⌝ }
-    ensures { λ r. ⌜ Spaced (countIn (now (recs .entry)) n) (now (places .exit)) ⌝ }
+// Puts the starts of the sites, so that there is room for so many edits of each.
+pub fn space_places(counts: [u16; SITES], places: &mut [u16])
+    requires { ⌜ (sum mostSites (λ s. getD counts s 0) ≤ mostRecords) × (length (now places) ≡ placesLength) ⌝ }
+    ensures { λ r. ⌜ Spaced (λ s. getD counts s 0) (now (places .exit)) ⌝ }
 {
-    let counts = count_sites(recs, n);
     let mut at = SITES as u16;
     let mut s: usize = 0;
     while s < SITES {
@@ -63,6 +63,15 @@ pub fn start_places(recs: &[u8], n: usize, places: &mut [u16])
         at = at + counts[s];
         s += 1;
     }
+}
+
+// Puts the starts of the sites, so that there is room for the edits of the first n records.
+pub fn start_places(recs: &[u8], n: usize, places: &mut [u16])
+    requires { ⌜ (n ≤ mostRecords) × (length (now places) ≡ placesLength) ⌝ }
+    ensures { λ r. ⌜ Spaced (countIn (now (recs .entry)) n) (now (places .exit)) ⌝ }
+{
+    let counts = count_sites(recs, n);
+    space_places(counts, places);
 }
 
 // The entry i of the index, and 0 past its end.
@@ -94,7 +103,7 @@ pub fn target_place(recs: &[u8], places: &[u16], p: usize) -> u16
     ensures { λ r. ⌜ r ≡ placeOf (now (places .entry)) (recordAt (now (recs .entry)) p .tsite .0)
         (recordAt (now (recs .entry)) p .tseq .0) ⌝ }
 {
-    let at = p * RECORD;
+    let at = p * PLACE;
     let site = edit_record::byte_at(recs, at + AT_TARGET);
     let seq = edit_record::two_at(recs, at + AT_TARGET_SEQ);
     place_at(places, Site(site), Seq(seq))
@@ -124,7 +133,7 @@ fn seen_before(v: [u16; SITES], s: Site) -> [u16; SITES]
 fn is_larger_at(recs: &[u8], p: u16, w: [u16; SITES]) -> bool
     ensures { λ r. ⌜ r ≡ largerSomewhere (recordAt (now (recs .entry)) p .vector) w ⌝ }
 {
-    let at = p as usize * RECORD + AT_VECTOR;
+    let at = p as usize * PLACE + AT_VECTOR;
     if recs.len() < at + 2 * SITES {
         let a = edit_history::decode_at(recs, p as usize);
         let v = a.vector;

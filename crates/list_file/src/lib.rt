@@ -1,7 +1,7 @@
 // What the program drawlist prints of a file, on slices: the list of the drawing that the file stores, or the line of
 // its refusal. Tables of an accepted file are sound by proof, so their soundness is not tested.
 use edit_history::RECORDS;
-use edit_record::RECORD;
+use edit_record::PLACE;
 use edit_record::SITES;
 use group_step::GROUPS;
 use group_step::OBJECTS;
@@ -20,7 +20,7 @@ pub fn print_file(out: &mut [u8], file: &[u8]) -> usize
     requires { ⌜ listLength ≤ length (now out) ⌝ }
     ensures { λ r. ⌜ (take r (now (out .exit)) ≡ printedOf (now (file .entry))) × (r ≤ listLength) ⌝ }
 {
-    let mut records = [0u8; RECORDS * RECORD];
+    let mut records = [0u8; RECORDS * PLACE];
     let mut objects = [0u16; OBJECTS * ENTRY];
     let mut groups = [0u64; OBJECTS * GROUPS];
     let none = Counters {

@@ -3,7 +3,7 @@
 use mathlib.Core.Path.{_≡_, refl, sym, ap, ap₂, subst, _∙_}
 use mathlib.Core.Bool.{Bool, true, false, not, _&&_, _||_, cond}
 use mathlib.Core.List.{List, [], _∷_}
-use Prim.Native.Nat.{ℕ, zero, suc, _+_, _*_, _/_, _≤_, _<_, max}
+use Prim.Native.Nat.{ℕ, zero, suc, _+_, _-_, _*_, _/_, _≤_, _<_, max}
 use native.Mathlib.Numerals.{add-one}
 use native.Mathlib.Omega.{arith}
 use native.Mathlib.Decide.{decLt}
@@ -29,9 +29,9 @@ use Rattle.list_version.proofs.Names.{two-in-one}
 -- ---- the order of stamps
 
 -- an entry is a sequence number
-pub sum-low : (v : List ℕ) → ((i : ℕ) → getD v i 0 ≤ seqNumbers) → vectorSum v ≤ mostSites * seqNumbers
+pub sum-low : (v : List ℕ) → ((i : ℕ) → getD v i 0 < seqNumbers) → vectorSum v ≤ mostSites * (seqNumbers - 1)
 unfolding vectorSum
-sum-low v h = sum-below mostSites seqNumbers (λ i. getD v i 0) (λ i l. h i)
+sum-low v h = sum-below mostSites (seqNumbers - 1) (λ i. getD v i 0) (λ i l. omega (arith, h i))
 
 -- places x and y in the total order, values v and w
 by-value :

@@ -3,7 +3,7 @@
 use mathlib.Core.Path.{_≡_}
 use mathlib.Core.Bool.{Bool, true, not, _&&_, cond}
 use mathlib.Core.List.{List, [], map}
-use Prim.Native.Nat.{ℕ, zero, suc, _+_, _*_, _/_, _≤_, _<_, max}
+use Prim.Native.Nat.{ℕ, zero, suc, _+_, _-_, _*_, _/_, _≤_, _<_, max}
 use lib.Dec.{eqb, ltb}
 use lib.ListN.{length, getD, take, drop}
 use Rattle.math_lists.specs.NumbersBelow.{keep}
@@ -86,7 +86,7 @@ stampOf e = cond (ltb (e .key) keys) (e .key * placings + placedOf e) 0
 
 -- the numbers of e are those of a record
 abbrev pub Small : Edit → Type 0
-Small e = (vectorSum (e .vector) ≤ mostSites * seqNumbers) × (e .site .0 < siteNumbers) × (e .value < values)
+Small e = (vectorSum (e .vector) ≤ mostSites * (seqNumbers - 1)) × (e .site .0 < siteNumbers) × (e .value < values)
 
 -- these are the stamps of the Sets ms
 abbrev pub Stamped : List Edit → List ℕ → Type 0

@@ -3,7 +3,8 @@
 use mathlib.Core.Path.{_≡_, refl, ap, _∙_}
 use mathlib.Core.Bool.{Bool, true, false, _||_, cond, or-false}
 use mathlib.Core.List.{List, [], _∷_, _++_}
-use Prim.Native.Nat.{_+_}
+use Prim.Native.Nat.{_+_, _≤_}
+use native.Mathlib.Omega.{arith}
 use lib.ListN.{length, length-append}
 use Rattle.math_lists.proofs.Booleans.{clash}
 use Rattle.math_lists.proofs.Elements.{any-append}
@@ -37,6 +38,17 @@ module _ {A : Type 0} where
       (f : A → Bool) (xs : List A) (x : A) →
       length (filter f (xs ++ (x ∷ []))) ≡ length (filter f xs) + cond (f x) 1 0
   filter-length-snoc f xs x = ap length (filter-snoc f xs x) ∙ length-maybe (filter f xs) (f x) x
+
+  -- a choice is no longer than what it is taken from
+  pub filter-few : (f : A → Bool) (xs : List A) → length (filter f xs) ≤ length xs
+  unfolding filter
+  filter-few f [] = omega arith
+  filter-few f (x ∷ xs) = go (f x) (filter-few f xs)
+    where
+      go : (b : Bool) → length (filter f xs) ≤ length xs →
+          length (cond b (x ∷ filter f xs) (filter f xs)) ≤ length (x ∷ xs)
+      go true h = omega arith
+      go false h = omega arith
 
   -- ---- a test over a choice
 

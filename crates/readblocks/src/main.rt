@@ -1,8 +1,9 @@
 // Reads each file that its arguments name, and says on one line what became of it: the answer, the index of the refused
 // record, N, the number of records held, and whether the drawing, written again, is the stretch that was located and
-// its trailer. It serves the comparison with files made elsewhere (data/, by tools/blocks).
+// its trailer, as a long block is. It serves the comparison with files made elsewhere (data/, by tools/blocks).
 use block_store::FileRead;
 use edit_history::RECORDS;
+use edit_record::PLACE;
 use edit_record::RECORD;
 use edit_record::SITES;
 use group_step::GROUPS;
@@ -59,7 +60,7 @@ fn tell_read(r: FileRead) {
 }
 
 fn tell(file: &[u8]) {
-    let mut records = [0u8; RECORDS * RECORD];
+    let mut records = [0u8; RECORDS * PLACE];
     let mut objects = [0u16; OBJECTS * ENTRY];
     let mut groups = [0u64; OBJECTS * GROUPS];
     let none = Counters {

@@ -20,7 +20,7 @@ use Rattle.math_lists.proofs.GrownAtEnd.{filter-length-snoc}
 use Rattle.edit_record.specs.declared.Site.{Site}
 use Rattle.edit_record.specs.declared.Seq.{Seq}
 use Rattle.edit_record.specs.declared.Edit.{Edit}
-use Rattle.edit_record.specs.Layout.{mostSites, recordLength}
+use Rattle.edit_record.specs.Layout.{mostSites, recordLength, placeLength}
 use Rattle.edit_record.specs.RecordBytes.{decodeOf}
 use Rattle.edit_record.specs.Answer1.{isCreate}
 use Rattle.edit_history.specs.EditsHeld.{recordAt, editsOf, countFrom, creates, isSetOn, setsOn}
@@ -72,7 +72,7 @@ module _ (t : Tables) (b : List ℕ) (s : Sound t) (wide : length (t .counters .
   abbrev rs′ : List ℕ
   rs′ = putRecord rs n b
 
-  pub room : n * recordLength + recordLength ≤ length rs
+  pub room : n * placeLength + recordLength ≤ length rs
   room = omega (arith, s .records-long, a .room)
 
   pub held-after : editsOf rs′ (n + 1) ≡ heldBy t ++ (e ∷ [])
@@ -125,7 +125,7 @@ module _ (t : Tables) (b : List ℕ) (s : Sound t) (wide : length (t .counters .
       ]))
 
   -- past the last record there are zeros
-  pub records-zero-after : ZeroFrom rs′ ((n + 1) * recordLength)
+  pub records-zero-after : ZeroFrom rs′ ((n + 1) * placeLength)
   records-zero-after i l k =
       put-after rs n b (a .whole) room i (omega arith)
       ∙ s .records-zero i (omega arith) (omega (arith, put-long rs n b (a .whole) room))

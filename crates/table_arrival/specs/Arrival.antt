@@ -6,7 +6,7 @@ use mathlib.Core.Bool.{cond}
 use lib.ListN.{getD, set, length, take, drop, replicate}
 use lib.Dec.{eqb}
 use Rattle.edit_record.specs.declared.Site.{Site}
-use Rattle.edit_record.specs.Layout.{recordLength}
+use Rattle.edit_record.specs.Layout.{recordLength, placeLength}
 use Rattle.edit_record.specs.RecordBytes.{decodeOf}
 use Rattle.edit_record.specs.Answer1.{isCreate}
 use Rattle.edit_history.specs.EditsHeld.{objectOf}
@@ -33,7 +33,7 @@ counted c s b d =
 
 -- the record b in place p
 abbrev pub putRecord : List ℕ → ℕ → List ℕ → List ℕ
-putRecord rs p b = take (p * recordLength) rs ++ (b ++ drop (p * recordLength + recordLength) rs)
+putRecord rs p b = take (p * placeLength) rs ++ (b ++ drop (p * placeLength + recordLength) rs)
 
 -- the entry of object o: the place of its Create, its number of Sets and its number of groups
 abbrev pub putCounts : List ℕ → ℕ → ℕ → ℕ → List ℕ

@@ -3,6 +3,7 @@ use edit_history::RECORDS;
 use edit_history::Surveyed;
 use edit_record::CREATE;
 use edit_record::Edit;
+use edit_record::PLACE;
 use edit_record::RECORD;
 use edit_record::SET;
 use edit_record::Site;
@@ -52,7 +53,7 @@ fn put_record(recs: &mut [u8], p: usize, rec: &[u8])
     requires { ⌜ (p < mostRecords) × (length (now recs) ≡ recordsLength) × (length (now rec) ≡ recordLength) ⌝ }
     ensures { λ r. ⌜ now (recs .exit) ≡ putRecord (now (recs .entry)) p (now (rec .entry)) ⌝ }
 {
-    let at = p * RECORD;
+    let at = p * PLACE;
     let end = at + RECORD;
     copy_record(&mut recs[at..end], rec);
 }

@@ -1,6 +1,6 @@
 -- The records of sound tables whose rows are true are all taken by a replay: none of 1 to 7 applies to a record after
 -- those before it. Assumes nothing.
-use mathlib.Core.Path.{_≡_, ap, _∙_}
+use mathlib.Core.Path.{_≡_, refl, ap, _∙_}
 use mathlib.Core.Logic.{inl, inr}
 use mathlib.Core.Bool.{Bool, true, false, _&&_, _||_, cond}
 use mathlib.Core.List.{
@@ -23,10 +23,11 @@ use Rattle.math_lists.specs.SortedLists.{any}
 use Rattle.math_lists.proofs.Booleans.{neither, or-off, off-where}
 use Rattle.math_lists.proofs.NumbersBelow.{all-at}
 use Rattle.edit_record.specs.declared.Edit.{Edit}
-use Rattle.edit_record.specs.Layout.{recordLength}
+use Rattle.edit_record.specs.Layout.{recordLength, placeLength}
 use Rattle.edit_record.specs.Answer1.{isCreate, isSet, unfit}
 use Rattle.edit_causal.proofs.CausalLaws.{same-reflexive}
-use Rattle.edit_history.specs.EditsHeld.{recordAt, editsOf, creates, isSetOn, setsOn, isTarget, objectOf, mostRecords}
+use Rattle.edit_history.specs.EditsHeld.{bytesAt, recordAt, editsOf, creates, isSetOn, setsOn, isTarget, objectOf}
+use Rattle.edit_history.specs.EditsHeld.{mostRecords}
 use Rattle.edit_history.specs.Answers2to5.{isRepeated, isEarly, isTorn, isAstray, passes, recordsPass}
 use Rattle.edit_history.proofs.EditsHeld.{edits-length, any-edit-on, chosen-more, chosen-grow, create-less}
 use Rattle.edit_history.proofs.RecordsPassed.{target-before}
@@ -40,6 +41,7 @@ use Rattle.table_arrival.proofs.ObjectsByNumber.{sets-few}
 use Rattle.table_arrival.proofs.ObjectOfSet.{object-less, target-site, target-seq, row-few, row-fits}
 use Rattle.table_arrival.proofs.Faithful.{RowsTrue}
 use Rattle.table_replay.specs.Replay.{replayOf}
+use Rattle.table_replay.proofs.OwnRecords.{edits-held}
 use Rattle.demand_any_order.specs.Rearranged.{recordsOf, Whole}
 use Rattle.demand_any_order.specs.Settled.{named, fullOver, crowdedOver, listAnswer, AllAccepted}
 use Rattle.demand_any_order.proofs.Identities.{one-object}
@@ -155,18 +157,18 @@ module _ (t : Tables) (s : Sound t) (rows : RowsTrue t) where
   all-accepted (suc k) l =
       accepted-more sites (editsOf rs k) (recordAt rs k) (all-accepted k (omega arith)) (taken-at k l)
 
-  all-whole : (k : ℕ) → k ≤ n → Whole (recordsOf rs k)
+  all-whole : (k : ℕ) → k ≤ n → Whole (recordsOf (bytesAt rs) k)
   unfolding recordsOf
   all-whole zero l b m = absurd (List·Memᴰ·not-nil m)
-  all-whole (suc k) l b m = elim (List·Memᴰ·append-cases (recordsOf rs k) m) [
+  all-whole (suc k) l b m = elim (List·Memᴰ·append-cases (recordsOf (bytesAt rs) k) m) [
     | inl i ↦ all-whole k (omega arith) b i
     | inr i ↦
         rw (List·Memᴰ·eq-of-singleton i)
-        (length-take-le recordLength (drop (k * recordLength) rs)
-        (omega (arith, length-drop (k * recordLength) rs, s .records-long, s .few-records)))
+        (length-take-le recordLength (drop (k * placeLength) rs)
+        (omega (arith, length-drop (k * placeLength) rs, s .records-long, s .few-records)))
   ]
 
-  pub all-taken : replayOf sites rs n .answer ≡ 0
+  pub all-taken : replayOf sites (bytesAt rs) n .answer ≡ 0
   all-taken =
-      refuses-none-exactly sites (s .some-sites) (s .few-sites) rs n .1
-      (all-whole n (omega arith), all-accepted n (omega arith))
+      refuses-none-exactly sites (s .some-sites) (s .few-sites) (bytesAt rs) n .1
+      (all-whole n (omega arith), rw (← edits-held rs (bytesAt rs) n (λ p l. refl)) (all-accepted n (omega arith)))

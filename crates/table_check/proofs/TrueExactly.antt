@@ -13,7 +13,7 @@ use Rattle.math_lists.proofs.Booleans.{same-test, both, and-on}
 use Rattle.math_lists.proofs.NumbersBelow.{all-on, all-at}
 use Rattle.math_lists.proofs.ByPlaces.{list-equal, same-self}
 use Rattle.edit_record.specs.Layout.{mostSites, recordLength}
-use Rattle.edit_history.specs.EditsHeld.{recordAt, mostRecords}
+use Rattle.edit_history.specs.EditsHeld.{bytesAt, recordAt, mostRecords}
 use Rattle.group_step.specs.GroupRows.{mostObjects}
 use Rattle.table_drawing.specs.declared.Counters.{Counters}
 use Rattle.table_drawing.specs.Tables.{Tables, tablesOf, heldBy, placeAt, recordsLength, objectsLength, groupsLength}
@@ -53,7 +53,7 @@ module _ (t : Tables) where
   c = t .counters
 
   abbrev r : Replayed
-  r = replayOf (c .sites) (t .records) (c .records)
+  r = replayOf (c .sites) (bytesAt (t .records)) (c .records)
 
   abbrev u : Tables
   u = r .after
@@ -114,8 +114,8 @@ module _ (t : Tables) where
       let (e, held) = same-at (both (eqb (r .answer) 0) (sameTables t u) g .1) in
       let f : Faithful counted
       = subst Faithful (sym e)
-      (replay-faithful (c .sites) (leb-true 1 (c .sites) some) (leb-true (c .sites) mostSites few) (t .records)
-      (c .records)) in
+      (replay-faithful (c .sites) (leb-true 1 (c .sites) some) (leb-true (c .sites) mostSites few)
+      (bytesAt (t .records)) (c .records)) in
       let s = f .kept .isSound in (
         record {
           records-long = s .records-long;
@@ -149,11 +149,12 @@ module _ (t : Tables) where
     taken = all-taken t s rows
 
     faithful : Faithful u
-    faithful = replay-faithful (c .sites) (s .some-sites) (s .few-sites) (t .records) (c .records)
+    faithful = replay-faithful (c .sites) (s .some-sites) (s .few-sites) (bytesAt (t .records)) (c .records)
 
-    its : Holds (c .sites) (t .records) (c .records) u
+    its : Holds (c .sites) (bytesAt (t .records)) (c .records) u
     its =
-        holds (c .sites) (t .records) right-sites (c .records) u (going-of (c .sites) (t .records) (c .records) taken)
+        holds (c .sites) (bytesAt (t .records)) right-sites (c .records) u
+        (going-of (c .sites) (bytesAt (t .records)) (c .records) taken)
 
     bytes : (i : ℕ) → i < c .records * recordLength → getD (t .records) i 0 ≡ getD (u .records) i 0
     bytes i l =

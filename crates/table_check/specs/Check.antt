@@ -6,6 +6,7 @@ use lib.ListN.{getD}
 use lib.Dec.{eqb}
 use Rattle.math_lists.specs.NumbersBelow.{all, sameList}
 use Rattle.edit_record.specs.Layout.{mostSites}
+use Rattle.edit_history.specs.EditsHeld.{bytesAt}
 use Rattle.table_drawing.specs.declared.Counters.{Counters}
 use Rattle.table_drawing.specs.Tables.{Tables, lengthsRight}
 use Rattle.table_soundness.specs.Sound.{withinLimits}
@@ -29,7 +30,7 @@ sameTables t u =
 -- no record is refused, and they give these very tables
 unfoldable pub givesBack : Tables → Bool
 givesBack t =
-    let r = replayOf (t .counters .sites) (t .records) (t .counters .records) in
+    let r = replayOf (t .counters .sites) (bytesAt (t .records)) (t .counters .records) in
     eqb (r .answer) 0 && sameTables t (r .after)
 
 unfoldable pub isTrue : Tables → Bool

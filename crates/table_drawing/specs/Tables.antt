@@ -4,7 +4,7 @@ use mathlib.Core.List.{List}
 use mathlib.Core.Bool.{Bool, _&&_}
 use lib.ListN.{getD, length, replicate}
 use lib.Dec.{eqb, leb}
-use Rattle.edit_record.specs.Layout.{mostSites, recordLength}
+use Rattle.edit_record.specs.Layout.{mostSites, placeLength}
 use Rattle.edit_record.specs.declared.Edit.{Edit}
 use Rattle.edit_history.specs.EditsHeld.{mostRecords, editsOf}
 use Rattle.group_step.specs.GroupRows.{mostObjects, mostGroups}
@@ -42,7 +42,7 @@ heldBy t = editsOf (t .records) (t .counters .records)
 -- ---- the stated lengths
 
 abbrev pub recordsLength : ℕ
-recordsLength = mostRecords * recordLength
+recordsLength = mostRecords * placeLength
 
 abbrev pub objectsLength : ℕ
 objectsLength = mostObjects * entryLength
@@ -54,7 +54,7 @@ abbrev pub lengthsRight : List ℕ → List ℕ → List ℕ → Bool
 lengthsRight rs os gs =
     eqb (length rs) recordsLength && eqb (length os) objectsLength && eqb (length gs) groupsLength
 
--- a drawing has 1 to 8 sites
+-- a drawing has 1 to 16 sites
 abbrev pub sitesRight : ℕ → Bool
 sitesRight n = leb 1 n && leb n mostSites
 

@@ -2,7 +2,7 @@
 pub mod entries;
 
 use edit_history::RECORDS;
-use edit_record::RECORD;
+use edit_record::PLACE;
 use edit_record::SITES;
 use group_step::GROUPS;
 use group_step::OBJECTS;
@@ -55,7 +55,7 @@ pub struct Opened {
 pub fn lengths_right(records: usize, objects: usize, groups: usize) -> bool
     ensures { λ r. ⌜ r ≡ (eqb records recordsLength && eqb objects objectsLength && eqb groups groupsLength) ⌝ }
 {
-    (records == RECORDS * RECORD) & (objects == OBJECTS * ENTRY) & (groups == OBJECTS * GROUPS)
+    (records == RECORDS * PLACE) & (objects == OBJECTS * ENTRY) & (groups == OBJECTS * GROUPS)
 }
 
 // Whether a drawing may have n sites.

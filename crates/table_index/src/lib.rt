@@ -6,7 +6,7 @@ use edit_record::AT_SEQ;
 use edit_record::AT_SITE;
 use edit_record::CREATE;
 use edit_record::Edit;
-use edit_record::RECORD;
+use edit_record::PLACE;
 use edit_record::SITES;
 use edit_record::Seq;
 use edit_record::Site;
@@ -38,7 +38,7 @@ fn spot(recs: &[u8], places: &[u16], p: usize) -> usize
     ensures { λ r. ⌜ r ≡ slotOf (now (places .entry)) (recordAt (now (recs .entry)) p .site .0)
         (recordAt (now (recs .entry)) p .seq .0) ⌝ }
 {
-    let at = p * RECORD;
+    let at = p * PLACE;
     let site = edit_record::byte_at(recs, at + AT_SITE);
     let seq = edit_record::two_at(recs, at + AT_SEQ);
     edit_walk::slot_of(places, Site(site), Seq(seq))
@@ -121,7 +121,7 @@ pub fn build(
 pub fn is_conflict_at(recs: &[u8], p: u16, e: Edit) -> bool
     ensures { λ r. ⌜ r ≡ doConflict (recordAt (now (recs .entry)) p) e ⌝ }
 {
-    if edit_record::byte_at(recs, p as usize * RECORD + AT_KEY) != e.key {
+    if edit_record::byte_at(recs, p as usize * PLACE + AT_KEY) != e.key {
         return false;
     }
     let a = edit_history::decode_at(recs, p as usize);

@@ -1,4 +1,5 @@
 pub mod ReplayFaithful
 pub mod ReplayGoes
 pub mod OwnRecords
+pub mod RoomForAll
 pub mod IndexGoesAlong

@@ -12,27 +12,24 @@ use lib.Seq.{take-add}
 use lib.Dec.{eqb}
 use borrow.Author.Tests.{eqb-true, eqb-false, eq-eqb}
 use Rattle.math_lists.proofs.LastBelow.{last}
-use Rattle.edit_record.specs.Layout.{recordLength}
+use Rattle.edit_record.specs.Layout.{recordLength, placeLength}
 use Rattle.edit_record.specs.declared.Edit.{Edit}
 use Rattle.edit_record.specs.RecordBytes.{decodeOf}
-use Rattle.edit_history.specs.EditsHeld.{bytesAt, editsOf, countFrom}
-use Rattle.edit_history.proofs.EditsHeld.{edits-same}
+use Rattle.edit_history.specs.EditsHeld.{bytesAt, editsOf}
 use Rattle.edit_history.proofs.FieldsInPlace.{bytes-decoded}
-use Rattle.edit_walk.specs.WalkForms.{Spaced, countIn}
-use Rattle.edit_walk.proofs.RoomInIndex.{spaced-before}
 use Rattle.table_drawing.specs.Tables.{Tables, emptyDrawing, sitesRight}
 use Rattle.table_drawing.specs.AnswerNumbers.{outcomeOf}
 use Rattle.table_soundness.proofs.SoundFacts.{Sound}
 use Rattle.table_arrival.specs.Arrival.{putRecord, taken, acceptanceOf}
 use Rattle.table_arrival.proofs.Admitted.{Accepted, accepted, was-taken, taken-records}
 use Rattle.table_arrival.proofs.RecordsOneMore.{put-bytes-here, put-bytes-before}
-use Rattle.table_replay.specs.Replay.{Replayed, replayed, oneMore, replayOf}
+use Rattle.table_replay.specs.Replay.{Replayed, replayed, oneMore, replayOf, editsIn}
 use Rattle.table_replay.proofs.ReplayGoes.{Going, going-faithful}
 
 -- ---- only the records' bytes count
 
-replay-same :
-    (sites : ℕ) (rs rs′ : List ℕ) (n : ℕ) → ((p : ℕ) → p < n → bytesAt rs p ≡ bytesAt rs′ p) →
+pub replay-same :
+    (sites : ℕ) (rs rs′ : ℕ → List ℕ) (n : ℕ) → ((p : ℕ) → p < n → rs p ≡ rs′ p) →
     replayOf sites rs n ≡ replayOf sites rs′ n
 unfolding replayOf
 replay-same sites rs rs′ zero h = refl
@@ -50,7 +47,8 @@ records-same rs rs′ (suc n) h =
 -- ---- one record back
 
 -- where none is refused, the index is 0
-index-none : (sites : ℕ) (rs : List ℕ) (n : ℕ) → replayOf sites rs n .answer ≡ 0 → replayOf sites rs n .index ≡ 0
+index-none :
+    (sites : ℕ) (rs : ℕ → List ℕ) (n : ℕ) → replayOf sites rs n .answer ≡ 0 → replayOf sites rs n .index ≡ 0
 unfolding replayOf
 index-none sites rs zero h = refl
 index-none sites rs (suc n) h = go (eqb (r .answer) 0) refl h (index-none sites rs n)
@@ -60,18 +58,19 @@ index-none sites rs (suc n) h = go (eqb (r .answer) 0) refl h (index-none sites 
 
     go : (x : Bool) → eqb (r .answer) 0 ≡ x → cond x (oneMore rs n (r .after)) r .answer ≡ 0 →
         (r .answer ≡ 0 → r .index ≡ 0) → cond x (oneMore rs n (r .after)) r .index ≡ 0
-    go true e h ih = rw (eq-eqb (acceptanceOf (r .after) (bytesAt rs n) .answer) 0 h)
+    go true e h ih = rw (eq-eqb (acceptanceOf (r .after) (rs n) .answer) 0 h)
     go false e h ih = ih h
 
 pub going-of :
-    (sites : ℕ) (rs : List ℕ) (n : ℕ) → replayOf sites rs n .answer ≡ 0 → Going sites rs n (replayOf sites rs n .after)
+    (sites : ℕ) (rs : ℕ → List ℕ) (n : ℕ) → replayOf sites rs n .answer ≡ 0 →
+    Going sites rs n (replayOf sites rs n .after)
 going-of sites rs n h =
     ap₂ (λ (a i : ℕ). replayed a i (replayOf sites rs n .after)) (sym h) (sym (index-none sites rs n h))
 
 -- the tables before the last record, and that it was taken there
 going-back :
-    (sites : ℕ) (rs : List ℕ) (n : ℕ) (t : Tables) → Going sites rs (suc n) t →
-    (u : Tables) × Going sites rs n u × (outcomeOf 0 t ≡ acceptanceOf u (bytesAt rs n))
+    (sites : ℕ) (rs : ℕ → List ℕ) (n : ℕ) (t : Tables) → Going sites rs (suc n) t →
+    (u : Tables) × Going sites rs n u × (outcomeOf 0 t ≡ acceptanceOf u (rs n))
 unfolding replayOf
 going-back sites rs n t g = go (eqb (r .answer) 0) refl g
   where
@@ -79,7 +78,7 @@ going-back sites rs n t g = go (eqb (r .answer) 0) refl g
     r = replayOf sites rs n
 
     go : (x : Bool) → eqb (r .answer) 0 ≡ x → replayed 0 0 t ≡ cond x (oneMore rs n (r .after)) r →
-        (u : Tables) × Going sites rs n u × (outcomeOf 0 t ≡ acceptanceOf u (bytesAt rs n))
+        (u : Tables) × Going sites rs n u × (outcomeOf 0 t ≡ acceptanceOf u (rs n))
     go true e q = (
       r .after,
       going-of sites rs n (eqb-true (r .answer) 0 e),
@@ -89,13 +88,14 @@ going-back sites rs n t g = go (eqb (r .answer) 0) refl g
 
 -- ---- the records that a drawing holds
 
-pub record Holds (sites : ℕ) (rs : List ℕ) (n : ℕ) (t : Tables) : Type 0 where
+pub record Holds (sites : ℕ) (rs : ℕ → List ℕ) (n : ℕ) (t : Tables) : Type 0 where
   pub count : t .counters .records ≡ n
   pub sites-are : t .counters .sites ≡ sites
-  pub bytes : (p : ℕ) → p < n → bytesAt (t .records) p ≡ bytesAt rs p
+  pub bytes : (p : ℕ) → p < n → bytesAt (t .records) p ≡ rs p
 
 pub holds :
-    (sites : ℕ) (rs : List ℕ) → sitesRight sites ≡ true → (n : ℕ) (t : Tables) → Going sites rs n t → Holds sites rs n t
+    (sites : ℕ) (rs : ℕ → List ℕ) → sitesRight sites ≡ true → (n : ℕ) (t : Tables) → Going sites rs n t →
+    Holds sites rs n t
 unfolding replayOf emptyDrawing
 holds sites rs right zero t g =
     record {
@@ -105,12 +105,12 @@ holds sites rs right zero t g =
     }
 holds sites rs right (suc n) t g =
     let (u, before, last-one) = going-back sites rs n t g in
-    let b = bytesAt rs n in
+    let b = rs n in
     let (zero-answer, is) = was-taken u t b last-one in
     let a : Accepted u b = accepted u b zero-answer in
     let s : Sound u = going-faithful sites rs right n u before .kept .isSound in
     let h = holds sites rs right n u before in
-    let room : n * recordLength + recordLength ≤ length (u .records)
+    let room : n * placeLength + recordLength ≤ length (u .records)
     = omega (arith, s .records-long, a .admitted .room, h .count) in
     let (records, count, sites-are) = taken-records u b in
     let put : t .records ≡ putRecord (u .records) n b
@@ -126,28 +126,23 @@ holds sites rs right (suc n) t g =
           ];
     }
 
-pub held-edits :
-    (sites : ℕ) (rs : List ℕ) (n : ℕ) (t : Tables) → Holds sites rs n t →
-    editsOf (t .records) (t .counters .records) ≡ editsOf rs n
-held-edits sites rs n t h =
-    ap (editsOf (t .records)) (h .count)
-    ∙ edits-same (t .records) rs n (λ p l.
-    sym (bytes-decoded (t .records) p) ∙ ap decodeOf (h .bytes p l) ∙ bytes-decoded rs p)
+-- records that a table holds have the table's edits
+pub edits-held :
+    (ts : List ℕ) (rs : ℕ → List ℕ) (n : ℕ) → ((p : ℕ) → p < n → bytesAt ts p ≡ rs p) → editsOf ts n ≡ editsIn rs n
+unfolding editsOf editsIn
+edits-held ts rs zero h = refl
+edits-held ts rs (suc n) h =
+    ap₂ (λ (es : List Edit) (e : Edit). es ++ (e ∷ [])) (edits-held ts rs n (λ p l. h p (omega arith)))
+    (sym (bytes-decoded ts n) ∙ ap decodeOf (h n (omega arith)))
 
--- an index with room for m records has room for those held and the next one
-pub next-room :
-    (sites : ℕ) (rs : List ℕ) → sitesRight sites ≡ true → (n m : ℕ) → n < m → (t : Tables) → Going sites rs n t →
-    (ps : List ℕ) → Spaced (countIn rs m) ps →
-    Spaced (λ s. countFrom s (editsOf (t .records) (t .counters .records) ++ (decodeOf (bytesAt rs n) ∷ []))) ps
-next-room sites rs right n m l t g ps x =
-    subst (λ (es : List Edit). Spaced (λ s. countFrom s es) ps)
-    (sym (ap₂ (λ (es : List Edit) (e : Edit). es ++ (e ∷ [])) (held-edits sites rs n t (holds sites rs right n t g))
-    (bytes-decoded rs n)))
-    (unfold editsOf in spaced-before rs ps (suc n) m l x)
+pub held-edits :
+    (sites : ℕ) (rs : ℕ → List ℕ) (n : ℕ) (t : Tables) → Holds sites rs n t →
+    editsOf (t .records) (t .counters .records) ≡ editsIn rs n
+held-edits sites rs n t h = ap (editsOf (t .records)) (h .count) ∙ edits-held (t .records) rs n (h .bytes)
 
 -- a drawing's own records give the drawing
 pub own-records :
-    (sites : ℕ) (rs : List ℕ) → sitesRight sites ≡ true → (n : ℕ) (t : Tables) → Going sites rs n t →
-    Going sites (t .records) n t
+    (sites : ℕ) (rs : ℕ → List ℕ) → sitesRight sites ≡ true → (n : ℕ) (t : Tables) → Going sites rs n t →
+    Going sites (bytesAt (t .records)) n t
 own-records sites rs right n t g =
-    g ∙ sym (replay-same sites (t .records) rs n (holds sites rs right n t g .bytes))
+    g ∙ sym (replay-same sites (bytesAt (t .records)) rs n (holds sites rs right n t g .bytes))

@@ -5,12 +5,11 @@ use mathlib.Core.List.{List}
 use Prim.Native.Nat.{ℕ, zero, suc, _≤_}
 use lib.Dec.{eqb}
 use Rattle.edit_record.specs.Layout.{mostSites}
-use Rattle.edit_history.specs.EditsHeld.{bytesAt}
 use Rattle.table_replay.specs.Replay.{replayOf, oneMore}
 use Rattle.table_arrival.proofs.Faithful.{Faithful, empty-faithful, acceptance-faithful}
 
 pub replay-faithful :
-    (sites : ℕ) → 1 ≤ sites → sites ≤ mostSites → (rs : List ℕ) (n : ℕ) → Faithful (replayOf sites rs n .after)
+    (sites : ℕ) → 1 ≤ sites → sites ≤ mostSites → (rs : ℕ → List ℕ) (n : ℕ) → Faithful (replayOf sites rs n .after)
 unfolding replayOf
 replay-faithful sites some few rs zero = empty-faithful sites some few
 replay-faithful sites some few rs (suc n) =
@@ -18,5 +17,5 @@ replay-faithful sites some few rs (suc n) =
   where
     go : (x : Bool) → Faithful (replayOf sites rs n .after) →
         Faithful (cond x (oneMore rs n (replayOf sites rs n .after)) (replayOf sites rs n) .after)
-    go true f = acceptance-faithful (replayOf sites rs n .after) (bytesAt rs n) f
+    go true f = acceptance-faithful (replayOf sites rs n .after) (rs n) f
     go false f = f

@@ -4,15 +4,17 @@ use mathlib.Core.Path.{_≡_, sym, ap, subst, _∙_}
 use mathlib.Core.Logic.{inl, inr}
 use mathlib.Core.Bool.{Bool, true, cond}
 use mathlib.Core.List.{List}
-use Prim.Native.Nat.{ℕ, zero, suc, _+_, _-_, _*_, _<_}
+use Prim.Native.Nat.{ℕ, zero, suc, _+_, _-_, _*_, _≤_, _<_}
 use native.Mathlib.Omega.{arith}
-use lib.ListN.{length, take, drop}
+use native.Mathlib.Nat.{mul-le-mul-right, suc-mul}
+use lib.ListN.{length, take, drop, length-drop}
+use lib.Seq.{take-all}
 use lib.Dec.{eqb, leb}
 use borrow.Author.Tests.{leb-true, ne-eqb}
 use Rattle.math_lists.proofs.Booleans.{both}
 use Rattle.math_lists.proofs.LastBelow.{last}
-use Rattle.edit_record.specs.Layout.{mostSites, recordLength}
-use Rattle.edit_history.specs.EditsHeld.{bytesAt}
+use Rattle.edit_record.specs.Layout.{mostSites}
+use Rattle.edit_form.specs.OldForm.{lengthBy, longFrom, storedIn}
 use Rattle.table_drawing.specs.Tables.{Tables, emptyDrawing, recordsLength, objectsLength, groupsLength, lengthsRight}
 use Rattle.table_drawing.specs.Tables.{sitesRight}
 use Rattle.table_drawing.specs.AnswerNumbers.{Outcome, outcomeOf}
@@ -25,7 +27,7 @@ use Rattle.table_replay.specs.Replay.{Replayed, replayed, replayOf}
 use Rattle.table_replay.proofs.ReplayFaithful.{replay-faithful}
 
 -- no record below i is refused, and they give t
-abbrev pub Going : ℕ → List ℕ → ℕ → Tables → Type 0
+abbrev pub Going : ℕ → (ℕ → List ℕ) → ℕ → Tables → Type 0
 Going sites rs i t = replayed 0 0 t ≡ replayOf sites rs i
 
 -- t has the stated lengths
@@ -52,13 +54,14 @@ pub opened-records : (t : Tables) (sites : ℕ) → t ≡ emptyDrawing sites →
 unfolding emptyDrawing
 opened-records t sites h = ap (λ (x : Tables). x .counters .records) h
 
-pub going-start : (sites : ℕ) (rs : List ℕ) (t : Tables) → t ≡ emptyDrawing sites → Going sites rs 0 t
+pub going-start : (sites : ℕ) (rs : ℕ → List ℕ) (t : Tables) → t ≡ emptyDrawing sites → Going sites rs 0 t
 unfolding replayOf
 going-start sites rs t h = ap (replayed 0 0) h
 
 -- ---- on the way
 
-module _ (sites : ℕ) (rs : List ℕ) (right : sitesRight sites ≡ true) (i : ℕ) (t : Tables) (g : Going sites rs i t) where
+module _ (sites : ℕ) (rs : ℕ → List ℕ) (right : sitesRight sites ≡ true) (i : ℕ) (t : Tables)
+    (g : Going sites rs i t) where
   pub going-faithful : Faithful t
   going-faithful =
       let (some, few) = both (leb 1 sites) (leb sites mostSites) right in
@@ -74,24 +77,24 @@ module _ (sites : ℕ) (rs : List ℕ) (right : sitesRight sites ≡ true) (i : 
       (s .records-long, s .objects-long, s .groups-long)
 
   -- the lengths stay, whatever the next record is answered
-  pub next-long : (a : ℕ) (t′ : Tables) → outcomeOf a t′ ≡ acceptanceOf t (bytesAt rs i) → RightlyLong t′
+  pub next-long : (a : ℕ) (t′ : Tables) → outcomeOf a t′ ≡ acceptanceOf t (rs i) → RightlyLong t′
   next-long a t′ h =
       let f : Faithful t′
-      = subst Faithful (sym (ap (λ (o : Outcome). o .after) h)) (acceptance-faithful t (bytesAt rs i) going-faithful) in
+      = subst Faithful (sym (ap (λ (o : Outcome). o .after) h)) (acceptance-faithful t (rs i) going-faithful) in
       let s = f .kept .isSound in
       (s .records-long, s .objects-long, s .groups-long)
 
-  next-is : (a : ℕ) (t′ : Tables) → outcomeOf a t′ ≡ acceptanceOf t (bytesAt rs i) →
+  next-is : (a : ℕ) (t′ : Tables) → outcomeOf a t′ ≡ acceptanceOf t (rs i) →
       replayed a (cond (eqb a 0) 0 i) t′ ≡ replayOf sites rs (suc i)
   unfolding replayOf
   next-is a t′ h = rw (← g) (ap (λ (o : Outcome). replayed (o .answer) (cond (eqb (o .answer) 0) 0 i) (o .after)) h)
 
-  pub going-on : (t′ : Tables) → outcomeOf 0 t′ ≡ acceptanceOf t (bytesAt rs i) → Going sites rs (suc i) t′
+  pub going-on : (t′ : Tables) → outcomeOf 0 t′ ≡ acceptanceOf t (rs i) → Going sites rs (suc i) t′
   going-on t′ h = next-is 0 t′ h
 
   -- a refused record ends it
   pub going-ends :
-      (a : ℕ) (t′ : Tables) → outcomeOf a t′ ≡ acceptanceOf t (bytesAt rs i) → (a ≡ 0 → ⊥) → (n : ℕ) → i < n →
+      (a : ℕ) (t′ : Tables) → outcomeOf a t′ ≡ acceptanceOf t (rs i) → (a ≡ 0 → ⊥) → (n : ℕ) → i < n →
       replayed a i t′ ≡ replayOf sites rs n
   going-ends a t′ h d zero l = absurd (omega arith)
   going-ends a t′ h d (suc n) l =
@@ -106,11 +109,27 @@ module _ (sites : ℕ) (rs : List ℕ) (right : sitesRight sites ≡ true) (i : 
       stays : (n : ℕ) → replayed a i t′ ≡ replayOf sites rs n → replayed a i t′ ≡ replayOf sites rs (suc n)
       stays n q = unfold replayOf in rw (← q, ne-eqb a 0 d)
 
--- ---- the record that is lent
+-- ---- the record that is lent, w being what the code has for the bytes of a record
 
-pub lent-is :
-    (rs : List ℕ) (i : ℕ) → take ((i * recordLength + recordLength) - i * recordLength) (drop (i * recordLength) rs) ≡
-    bytesAt rs i
-lent-is rs i =
-    let e : (i * recordLength + recordLength) - i * recordLength ≡ recordLength = omega arith in
-    ap (λ (k : ℕ). take k (drop (i * recordLength) rs)) e
+module _ (form w i : ℕ) (rs : List ℕ) (is : w ≡ lengthBy form) where
+  pub lent-is :
+      (b : List ℕ) → b ≡ longFrom form (take (length rs - i * w) (drop (i * w) rs)) → b ≡ storedIn form rs i
+  lent-is b h =
+      let at = i * lengthBy form in
+      h
+      ∙ ap (λ (k : ℕ). longFrom form (take (length rs - i * k) (drop (i * k) rs))) is
+      ∙ ap (longFrom form) (take-all (length rs - at) (drop at rs) (simp length-drop (omega arith)))
+
+  -- it is there
+  pub record-left : (n : ℕ) → i < n → n * lengthBy form ≤ length rs → i * w + w ≤ length rs
+  record-left n l fits =
+      let below : suc i * w ≤ n * w = mul-le-mul-right w (omega arith) in
+      let next : suc i * w ≡ i * w + w = suc-mul i w in
+      let all : n * w ≤ length rs = rw is fits in
+      omega arith
+
+  -- so that what is left has it
+  pub rest-has : i * w + w ≤ length rs → lengthBy form ≤ length (take (length rs - i * w) (drop (i * w) rs))
+  rest-has l =
+      rw (take-all (length rs - i * w) (drop (i * w) rs) (simp length-drop (omega arith)))
+      (simp length-drop (omega arith))

@@ -1,6 +1,5 @@
 // Records taken one after another from an empty drawing.
 use edit_history::RECORDS;
-use edit_record::RECORD;
 use edit_record::SITES;
 use edit_walk::PLACES;
 use group_step::OBJECTS;
@@ -13,16 +12,18 @@ ghost use mathlib.Core.Bool.{true};
 ghost use mathlib.Core.List.{[], _∷_, _++_};
 ghost use Prim.Native.Nat.{_*_, _≤_};
 ghost use lib.ListN.{length};
-ghost use Rattle.edit_record.specs.Layout.{mostSites, recordLength};
+ghost use Rattle.edit_record.specs.Layout.{mostSites};
 ghost use Rattle.edit_record.specs.RecordBytes.{decodeOf};
+ghost use Rattle.edit_form.specs.OldForm.{lengthBy, storedIn};
 ghost use Rattle.edit_history.specs.EditsHeld.{mostRecords, editsOf, countFrom};
-ghost use Rattle.edit_walk.specs.WalkForms.{Spaced, SameStarts, countIn};
+ghost use Rattle.edit_history.specs.SurveyForms.{Counted};
+ghost use Rattle.edit_walk.specs.WalkForms.{Spaced, SameStarts};
 ghost use Rattle.table_drawing.specs.Tables.{tablesOf, emptyDrawing, lengthsRight, sitesRight};
 ghost use Rattle.table_drawing.specs.AnswerNumbers.{outcomeOf, numberOf};
 ghost use Rattle.table_soundness.specs.Sound.{sound};
 ghost use Rattle.table_index.specs.IndexForms.{IndexOf};
 ghost use Rattle.table_arrival.specs.Arrival.{acceptanceOf};
-ghost use Rattle.table_replay.specs.Replay.{replayed, replayOf};
+ghost use Rattle.table_replay.specs.Replay.{replayed, replayOf, editsIn};
 
 // The answer to the first refused record and its index, or 0 and 0; and the counters after the records before it.
 pub struct Taken {
@@ -74,7 +75,27 @@ fn take_next(
     a
 }
 
-// Takes the first n records of recs, one after another, into an empty drawing. The index has room for all of them.
+// How many of the first n records of a stretch name each site.
+fn count_stretch(recs: &[u8], form: u8, n: usize) -> [u16; SITES]
+    requires { ⌜ (n ≤ mostRecords) × (n * lengthBy form ≤ length (now recs)) ⌝ }
+    ensures { λ r. ⌜ Counted r (editsIn (storedIn form (now (recs .entry))) n) ⌝ }
+{
+    let step = edit_form::length_by(form);
+    let mut counts = [0u16; SITES];
+    let mut i: usize = 0;
+    while i < n {
+        let at = i * step;
+        let site = edit_form::site_from(&recs[at..], form) as usize;
+        if site < SITES {
+            counts[site] = counts[site] + 1;
+        }
+        i += 1;
+    }
+    counts
+}
+
+// Takes the first n records of a stretch, one after another, into an empty drawing: the part of the stretch from each
+// record on is handed to its decoder. The index has room for all of them.
 fn take_records(
     empty: Counters,
     records: &mut [u8],
@@ -85,23 +106,25 @@ fn take_records(
     counts: &mut [u16],
     members: &mut [u16],
     recs: &[u8],
+    form: u8,
     n: usize,
 ) -> Taken
     requires { ⌜ (tablesOf empty (now records) (now objects) (now groups) ≡ emptyDrawing (empty .sites))
         × IndexOf (now records) (empty .records) (now places) (now numbers) (now counts) (now members)
-        × Spaced (countIn (now recs) n) (now places)
+        × Spaced (λ s. countFrom s (editsIn (storedIn form (now recs)) n)) (now places)
         × (sitesRight (empty .sites) ≡ true)
         × (n ≤ mostRecords)
-        × (n * recordLength ≤ length (now recs)) ⌝ }
+        × (n * lengthBy form ≤ length (now recs)) ⌝ }
     ensures { λ r. ⌜ replayed (numberOf (r .answer)) (r .index)
         (tablesOf (r .counters) (now (records .exit)) (now (objects .exit)) (now (groups .exit)))
-        ≡ replayOf (empty .sites) (now (recs .entry)) n ⌝ }
+        ≡ replayOf (empty .sites) (storedIn form (now (recs .entry))) n ⌝ }
 {
+    let step = edit_form::length_by(form);
     let mut c = empty;
     let mut i: usize = 0;
     while i < n {
-        let at = i * RECORD;
-        let end = at + RECORD;
+        let at = i * step;
+        let rec = edit_form::long_from(&recs[at..], form);
         let a = take_next(
             c,
             records,
@@ -111,7 +134,7 @@ fn take_records(
             numbers,
             counts,
             members,
-            &recs[at..end],
+            &rec,
         );
         let next = a.counters;
         let answer = a.answer;
@@ -132,22 +155,24 @@ fn take_records(
     }
 }
 
-// Opens a drawing of so many sites in the tables and takes the first n records of recs into it, one after another.
+// Opens a drawing of so many sites in the tables and takes the first n records of a stretch in a form into it, one after
+// another.
 pub fn replay(
     sites: u8,
     records: &mut [u8],
     objects: &mut [u16],
     groups: &mut [u64],
     recs: &[u8],
+    form: u8,
     n: usize,
 ) -> Taken
     requires { ⌜ (lengthsRight (now records) (now objects) (now groups) ≡ true)
         × (sitesRight sites ≡ true)
         × (n ≤ mostRecords)
-        × (n * recordLength ≤ length (now recs)) ⌝ }
+        × (n * lengthBy form ≤ length (now recs)) ⌝ }
     ensures { λ r. ⌜ replayed (numberOf (r .answer)) (r .index)
         (tablesOf (r .counters) (now (records .exit)) (now (objects .exit)) (now (groups .exit)))
-        ≡ replayOf sites (now (recs .entry)) n ⌝ }
+        ≡ replayOf sites (storedIn form (now (recs .entry))) n ⌝ }
 {
     let held = [0u16; SITES];
     let none = Counters {
@@ -164,7 +189,8 @@ pub fn replay(
     let mut numbers = [1u16; RECORDS];
     let mut members = [1u16; MEMBERS];
     let mut counts = [0u16; OBJECTS];
-    edit_walk::start_places(recs, n, &mut places);
+    let by_site = count_stretch(recs, form, n);
+    edit_walk::space_places(by_site, &mut places);
     take_records(
         empty,
         records,
@@ -175,6 +201,7 @@ pub fn replay(
         &mut counts,
         &mut members,
         recs,
+        form,
         n,
     )
 }

@@ -9,7 +9,7 @@ use borrow.Author.Tests.{eqb-true, leb-true, lt-ltb, le-ltb, le-leb, lt-leb, not
 use Rattle.math_lists.specs.NumbersBelow.{all}
 use Rattle.math_lists.proofs.Booleans.{both}
 use Rattle.math_lists.proofs.NumbersBelow.{all-same}
-use Rattle.edit_record.specs.Layout.{mostSites, recordLength}
+use Rattle.edit_record.specs.Layout.{mostSites, placeLength}
 use Rattle.edit_history.specs.Answers2to5.{recordsPass}
 use Rattle.edit_history.specs.EditsHeld.{mostRecords, recordAt, creates, countFrom}
 use Rattle.edit_sum.specs.WordSum.{recordWords, sumOf}
@@ -129,7 +129,7 @@ module _ (t : Tables) (hs ps : List ℕ) (w : Passed t hs ps) where
       && eqb (c .sum) (sumOf (c .records * recordWords) (t .records))
       && (eqb (c .objects) (length (creates (heldBy t)))
       && all (c .objects) (objectSound (t .records) (c .records) (t .objects) (t .groups)))
-      && (zeroFrom (t .records) (c .records * recordLength)
+      && (zeroFrom (t .records) (c .records * placeLength)
       && zeroFrom (t .objects) (c .objects * entryLength)
       && zeroFrom (t .groups) (c .objects * mostGroups)))
       ≡ sound t

@@ -7,7 +7,7 @@ use mathlib.Core.Bool.{Bool, _&&_, _||_}
 use lib.ListN.{getD, length}
 use lib.Dec.{eqb, leb, ltb}
 use Rattle.math_lists.specs.NumbersBelow.{all}
-use Rattle.edit_record.specs.Layout.{mostSites, recordLength}
+use Rattle.edit_record.specs.Layout.{mostSites, placeLength}
 use Rattle.edit_record.specs.Answer1.{isCreate}
 use Rattle.edit_history.specs.EditsHeld.{recordAt, editsOf, countFrom, creates, setsOn, mostRecords}
 use Rattle.edit_history.specs.Answers2to5.{recordsPass}
@@ -69,6 +69,6 @@ sound t =
     && countsAgree c (t .records)
     && recordsPass (c .sites) (t .records) (c .records)
     && all (c .objects) (objectSound (t .records) (c .records) (t .objects) (t .groups))
-    && zeroFrom (t .records) (c .records * recordLength)
+    && zeroFrom (t .records) (c .records * placeLength)
     && zeroFrom (t .objects) (c .objects * entryLength)
     && zeroFrom (t .groups) (c .objects * mostGroups)

@@ -4,7 +4,7 @@ mod objects;
 mod unused;
 
 use edit_history::RECORDS;
-use edit_record::RECORD;
+use edit_record::PLACE;
 use edit_record::SITES;
 use edit_sum::WORDS;
 use edit_walk::PLACES;
@@ -19,7 +19,7 @@ ghost use lib.Dec.{eqb};
 ghost use lib.ListN.{getD, length};
 ghost use Rattle.math_lists.specs.NumbersBelow.{all};
 ghost use Rattle.group_step.specs.GroupRows.{mostObjects, mostGroups};
-ghost use Rattle.edit_record.specs.Layout.{mostSites, recordLength};
+ghost use Rattle.edit_record.specs.Layout.{mostSites, placeLength};
 ghost use Rattle.edit_history.specs.EditsHeld.{mostRecords};
 ghost use Rattle.edit_walk.specs.WalkForms.{placesLength, Indexed};
 ghost use Rattle.table_drawing.specs.Tables.{entryLength, tablesOf};
@@ -51,11 +51,11 @@ fn counts_agree(given: [u16; SITES], counted: [u16; SITES]) -> bool
 // Whether every entry past n records and m objects is zero.
 fn unused_zero(records: &[u8], objects: &[u16], groups: &[u64], n: usize, m: usize) -> bool
     requires { ⌜ (n ≤ mostRecords) × (m ≤ mostObjects) ⌝ }
-    ensures { λ r. ⌜ r ≡ (zeroFrom (now (records .entry)) (n * recordLength)
+    ensures { λ r. ⌜ r ≡ (zeroFrom (now (records .entry)) (n * placeLength)
         && zeroFrom (now (objects .entry)) (m * entryLength)
         && zeroFrom (now (groups .entry)) (m * mostGroups)) ⌝ }
 {
-    let a = unused::is_zero_from8(records, n * RECORD);
+    let a = unused::is_zero_from8(records, n * PLACE);
     let b = unused::is_zero_from16(objects, m * ENTRY);
     let d = unused::is_zero_from64(groups, m * GROUPS);
     a & b & d

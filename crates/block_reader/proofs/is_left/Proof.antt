@@ -5,7 +5,6 @@ use Prim.Native.Nat.{ℕ, _+_, _-_, _≤_}
 use native.Mathlib.Omega.{arith}
 use lib.Dec.{leb}
 use borrow.Author.Tests.{le-leb, lt-leb, leb-true, leb-false}
-use Rattle.edit_record.specs.Layout.{recordLength}
 use Rattle.block_reader.proofs.is_left.Statement.{statement}
 use Rattle.block_reader.proofs.is_left.Tie as tie
 
@@ -21,12 +20,12 @@ moved-over p k n false few e =
 returns : tie.Need-returns
 returns c =
     let a = c .before .args in
-    sym (lt-leb (a .place + recordLength) (a .n) (omega arith))
+    sym (lt-leb (a .place + a .bytes) (a .n) (omega arith))
 
 returns-2 : tie.Need-returns-2
 returns-2 c =
     let a = c .before .args in
-    moved-over (a .place) recordLength (a .n) (leb (a .place) (a .n - recordLength)) (omega arith) refl
+    moved-over (a .place) (a .bytes) (a .n) (leb (a .place) (a .n - a .bytes)) (omega arith) refl
 
 pub is-left-spec : {M : Type 1} → statement M
 is-left-spec = tie.close (tie.spec returns returns-2)

@@ -1,23 +1,40 @@
 -- `block_reader::take` meets its contract: what is tested decides which record is given. Assumes nothing.
-use mathlib.Core.Bool.{Bool, true, false, not}
-use mathlib.Core.Path.{_≡_, sym, ap, _∙_}
+use mathlib.Core.Bool.{Bool, false, not}
+use mathlib.Core.Path.{_≡_, sym, _∙_}
+use mathlib.Core.List.{List}
 use Prim.Native.Nat.{ℕ, _+_, _-_, _≤_}
 use native.Mathlib.Omega.{arith}
 use lib.Dec.{leb}
 use lib.Seq.{take-all}
-use lib.ListN.{length, drop, length-drop}
+use lib.ListN.{length, take, drop, length-drop}
 use denote.Ref.{now}
 use borrow.Author.Needs.{needs}
-use borrow.Author.Tests.{leb-true, not-true, not-false}
-use Rattle.edit_record.specs.Layout.{recordLength}
-use Rattle.edit_record.specs.RecordBytes.{decodeOf}
+use borrow.Author.Tests.{leb-true, le-leb, not-true, not-false}
+use Rattle.edit_form.specs.OldForm.{lengthBy}
 use Rattle.block_reader.specs.Reader.{takenAt}
 use Rattle.block_reader.proofs.take.Statement.{statement}
 use Rattle.block_reader.proofs.take.Tie as tie
 
 -- what the test says of the numbers
-enough : (t : Bool) (p n : ℕ) → t ≡ leb (p + recordLength) n → not t ≡ false → p + recordLength ≤ n
-enough t p n tested left = leb-true (p + recordLength) n (sym tested ∙ not-false t left)
+enough : (t : Bool) (p w n : ℕ) → t ≡ leb (p + w) n → not t ≡ false → p + w ≤ n
+enough t p w n tested left = leb-true (p + w) n (sym tested ∙ not-false t left)
+
+room : (c : tie.Else1) →
+    let a = c .before .before .before .before .args in
+    a .place + lengthBy (a .form) ≤ length (now (a .stretch))
+room c =
+    let l = c .before .is-left in
+    let w = c .before .before .length-by in
+    let a = c .before .before .before .before .args in
+    rw (← (w .ensures))
+    (enough (l .result) (a .place) (w .result) (length (now (a .stretch))) (l .ensures) (c .if1 .left))
+
+-- what is lent is all of the stretch from the place on
+from-place : (s : List ℕ) (p : ℕ) → take (length s - p) (drop p s) ≡ drop p s
+from-place s p = take-all (length s - p) (drop p s) (simp length-drop (omega arith))
+
+length-by-requires : tie.Need-length-by-requires
+length-by-requires c κs = search needs
 
 is-left-requires : tie.Need-is-left-requires
 is-left-requires c κs = search needs
@@ -31,66 +48,68 @@ decode-requires c κs = search needs
 returns : tie.Need-returns
 unfolding takenAt
 returns c =
-    let s5 = c .before .before .before .before .before in
-    let a = s5 .args in
-    let s = c .before .before .before .is-left in
-    let none : leb (a .place + recordLength) (length (now (a .stretch))) ≡ false = sym
-    (s .ensures) ∙ not-true (s .result) (c .before .before .if1 .taken) in
+    let l = c .before .before .before in
+    let w = l .before in
+    let a = w .before .before .args in
+    let none : leb (a .place + lengthBy (a .form)) (length (now (a .stretch))) ≡ false =
+    rw (← (w .length-by .ensures))
+    (sym (l .is-left .ensures) ∙ not-true (l .is-left .result) (c .before .before .if1 .taken)) in
     rw (none, c .decode .ensures)
 
-sub-decode : tie.Need-sub-decode
-sub-decode c =
-    let a = c .before .before .before .args in
-    let s = c .before .is-left in
-    omega (arith, enough (s .result) (a .place) (length (now (a .stretch))) (s .ensures) (c .if1 .left))
+sub-long-from : tie.Need-sub-long-from
+sub-long-from c = omega (arith, room c)
 
-part-decode-start : tie.Need-part-decode-start
-part-decode-start c =
-    let a = c .before .before .before .args in
-    let s = c .before .is-left in
-    omega (arith, enough (s .result) (a .place) (length (now (a .stretch))) (s .ensures) (c .if1 .left))
+part-long-from-start : tie.Need-part-long-from-start
+part-long-from-start c = omega (arith, room c)
 
-part-decode-end : tie.Need-part-decode-end
-part-decode-end c = search needs
+part-long-from-end : tie.Need-part-long-from-end
+part-long-from-end c = search needs
+
+long-from-requires : tie.Need-long-from-requires
+long-from-requires c κs =
+    let a = c .before .before .before .before .before .args in
+    rw (from-place (now (a .stretch)) (a .place)) (simp length-drop (omega (arith, room (c .before))))
+
+slice-aggregate-decode-2 : tie.Need-slice-aggregate-decode-2
+slice-aggregate-decode-2 c = search needs
 
 decode-requires-2 : tie.Need-decode-requires-2
 decode-requires-2 c κs = search needs
 
-add-t8 : tie.Need-add-t8
-add-t8 c =
-    let s5 = c .before .before .before .before .before in
-    let a = s5 .args in
-    let s = c .before .before .before .is-left in
-    search (
-      needs,
-      enough (s .result) (a .place) (length (now (a .stretch))) (s .ensures)
-          (c .before .before .if1 .left),
-    )
+add-t11 : tie.Need-add-t11
+add-t11 c =
+    let e = c .before .before .before .before in
+    omega (arith, e .before .before .length-by .ensures, room e)
 
 returns-2 : tie.Need-returns-2
 unfolding takenAt
 returns-2 c =
-    let s5 = c .before .before .before .before .before in
-    let a = s5 .args in
-    let s = c .before .before .before .is-left in
-    let rs = now (a .stretch) in
-    let some : leb (a .place + recordLength) (length rs) ≡ true = sym
-    (s .ensures) ∙ not-false (s .result) (c .before .before .if1 .left) in
-    let whole = take-all (length rs - a .place) (drop (a .place) rs) (simp length-drop (omega arith)) in
-    let edit : c .decode2 .result ≡ decodeOf (drop (a .place) rs) = c .decode2 .ensures ∙ ap decodeOf whole in
-    rw (some, edit)
+    let f = c .before .before in
+    let e = f .before .before in
+    let a = e .before .before .before .before .args in
+    let s = now (a .stretch) in
+    rw (
+      c .decode2 .ensures,
+      f .long-from .ensures,
+      from-place s (a .place),
+      le-leb (a .place + lengthBy (a .form)) (length s) (room e),
+      ← (e .before .before .length-by .ensures),
+    )
 
 pub take-spec : {M : Type 1} → statement M
 take-spec =
     tie.close
     (tie.spec
+    length-by-requires
     is-left-requires
     slice-aggregate-decode
     decode-requires
     returns
-    sub-decode
-    part-decode-start
-    part-decode-end
+    sub-long-from
+    part-long-from-start
+    part-long-from-end
+    long-from-requires
+    slice-aggregate-decode-2
     decode-requires-2
-    add-t8
+    add-t11
     returns-2)

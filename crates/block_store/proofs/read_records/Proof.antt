@@ -30,7 +30,8 @@ returns c =
     let a = s17 .args in
     let m = s9 .replay in
     let z : numberOf (m .result .answer) ≡ 0 = sym (c .before .number .ensures) ∙ c .if1 .taken in
-    all-taken (a .sites) (now (a .stretch)) (a .n) (numberOf (m .result .answer)) (m .result .index) _ (m .ensures) z
+    all-taken (a .sites) (a .form) (now (a .stretch)) (a .n) (numberOf (m .result .answer)) (m .result .index) _
+    (m .ensures) z
 
 open-requires : tie.Need-open-requires
 open-requires c κs = search needs
@@ -57,8 +58,8 @@ returns-2 c =
     let k = numberOf (m .result .answer) in
     let rs = now (a .stretch) in
     let other : k ≡ 0 → ⊥ = λ z. s11 .if1 .left (s12 .number .ensures ∙ z) in
-    let right = lengths-stay (a .sites) rs (a .n) k (m .result .index) _ (m .ensures) (s .pre .1) in
-    one-refused (a .sites) rs (a .n) k (m .result .index) _ (m .ensures) other _
+    let right = lengths-stay (a .sites) (a .form) rs (a .n) k (m .result .index) _ (m .ensures) (s .pre .1) in
+    one-refused (a .sites) (a .form) rs (a .n) k (m .result .index) _ (m .ensures) other _
     (opened _ _ _ (a .sites) right (s .pre .1) (s7 .«open» .ensures))
 
 pub read-records-spec : {M : Type 1} → statement M

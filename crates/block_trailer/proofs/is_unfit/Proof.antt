@@ -1,5 +1,7 @@
 -- `block_trailer::is_unfit` meets its contract: the tests are the definition's, in its order. Assumes nothing.
+use native.Mathlib.Omega.{arith}
 use borrow.Author.Needs.{needs}
+use Rattle.edit_form.proofs.OldRecords.{bytes-most}
 use Rattle.block_trailer.specs.Trailer.{unfitTrailer}
 use Rattle.block_trailer.proofs.is_unfit.Statement.{statement}
 use Rattle.block_trailer.proofs.is_unfit.Tie as tie
@@ -25,15 +27,27 @@ add-distance-at c = search needs
 distance-at-requires : tie.Need-distance-at-requires
 distance-at-requires c κs = search needs
 
+length-by-requires : tie.Need-length-by-requires
+length-by-requires c κs = search needs
+
 mul-result : tie.Need-mul-result
-mul-result c = search needs
+mul-result c =
+    let b = c .before .before in
+    rw (c .length-by .ensures) (omega (arith, bytes-most (b .before .two-at .result) (b .byte-at .result)))
 
 returns : tie.Need-returns
 unfolding unfitTrailer
 returns c =
-    let b = c .before in
+    let d = c .before in
+    let b = d .before in
     let r = b .before in
-    rw (c .distance-at .ensures, b .byte-at .ensures, r .two-at .ensures, r .before .trailer-at .ensures)
+    rw (
+      c .length-by .ensures,
+      d .distance-at .ensures,
+      b .byte-at .ensures,
+      r .two-at .ensures,
+      r .before .trailer-at .ensures,
+    )
 
 pub is-unfit-spec : {M : Type 1} → statement M
 is-unfit-spec =
@@ -46,5 +60,6 @@ is-unfit-spec =
     byte-at-requires
     add-distance-at
     distance-at-requires
+    length-by-requires
     mul-result
     returns)

@@ -1,12 +1,11 @@
 -- `block_trailer::read_trailer` meets its contract: each of its four ends is that outcome. Assumes nothing.
 use mathlib.Core.Path.{_≡_, sym, _∙_}
-use mathlib.Core.Bool.{true}
+use mathlib.Core.Bool.{true, false}
 use denote.Ref.{now}
-use borrow.Author.Tests.{not-true, not-false}
 use borrow.Author.Needs.{needs}
-use Rattle.table_drawing.specs.Tables.{sitesRight}
-use Rattle.block_trailer.specs.Trailer.{sitesIn}
-use Rattle.block_trailer.proofs.LocatingOutcomes.{over-limit, unfit-refused, sites-refused, accepted}
+use Rattle.block_trailer.specs.Locating.{sitesFit}
+use Rattle.block_trailer.proofs.LocatingOutcomes.{sites-tested, over-limit, unfit-refused, sites-refused}
+use Rattle.block_trailer.proofs.LocatingOutcomes.{accepted}
 use Rattle.block_trailer.proofs.read_trailer.Statement.{statement}
 use Rattle.block_trailer.proofs.read_trailer.Tie as tie
 
@@ -38,37 +37,58 @@ add-byte-at c = search needs
 byte-at-requires : tie.Need-byte-at-requires
 byte-at-requires c κs = search needs
 
-sites-right-requires : tie.Need-sites-right-requires
-sites-right-requires c κs = search needs
+add-byte-at-2 : tie.Need-add-byte-at-2
+add-byte-at-2 c = search needs
+
+byte-at-requires-2 : tie.Need-byte-at-requires-2
+byte-at-requires-2 c κs = search needs
+
+sites-by-requires : tie.Need-sites-by-requires
+sites-by-requires c κs = search needs
 
 refused-requires-3 : tie.Need-refused-requires-3
 refused-requires-3 c κs = search needs
 
 returns-3 : tie.Need-returns-3
 returns-3 c =
-    let b = c .before .before .before in
+    let s = c .before .before in
+    let f = s .before in
+    let b = f .before in
     let i = b .before .before in
     let u = i .before in
     c .refused3 .ensures
     ∙ sites-refused (now (u .before .before .before .args .file)) (u .before .if1 .left)
     (sym (u .is-unfit .ensures) ∙ i .if2 .left)
-    (rw (← (b .before .trailer-at .ensures), ← (b .byte-at .ensures), ← (c .before .before .sites-right .ensures))
-    (not-true _ (c .before .if3 .taken)))
+    (rw (
+      ← (b .before .trailer-at .ensures),
+      ← (b .byte-at .ensures),
+      ← (f .byte-at2 .ensures),
+      ← (s .sites-by .ensures),
+    )
+    (sites-tested (b .byte-at .result) (s .sites-by .result) true (c .before .if3 .taken)))
 
 two-at-requires : tie.Need-two-at-requires
 two-at-requires c κs = search needs
 
 returns-4 : tie.Need-returns-4
 returns-4 c =
-    let b = c .before .before .before in
+    let s = c .before .before in
+    let f = s .before in
+    let b = f .before in
     let i = b .before .before in
     let u = i .before in
     let file = now (u .before .before .before .args .file) in
-    let sites : sitesRight (sitesIn file) ≡ true =
-    rw (← (b .before .trailer-at .ensures), ← (b .byte-at .ensures), ← (c .before .before .sites-right .ensures))
-    (not-false _ (c .before .if3 .left)) in
+    let sites : sitesFit file ≡ true =
+    rw (
+      ← (b .before .trailer-at .ensures),
+      ← (b .byte-at .ensures),
+      ← (f .byte-at2 .ensures),
+      ← (s .sites-by .ensures),
+    )
+    (sites-tested (b .byte-at .result) (s .sites-by .result) false (c .before .if3 .left)) in
     rw (
       c .two-at .ensures,
+      f .byte-at2 .ensures,
       b .byte-at .ensures,
       b .before .trailer-at .ensures,
       accepted file (u .before .if1 .left) (sym (u .is-unfit .ensures) ∙ i .if2 .left) sites,
@@ -86,7 +106,9 @@ read-trailer-spec =
     trailer-at-requires
     add-byte-at
     byte-at-requires
-    sites-right-requires
+    add-byte-at-2
+    byte-at-requires-2
+    sites-by-requires
     refused-requires-3
     returns-3
     two-at-requires

@@ -7,7 +7,7 @@ use lib.ListN.{length, drop, length-drop, drop-of-length-le}
 use denote.Ref.{now}
 use borrow.Author.Needs.{needs}
 use Rattle.edit_record.specs.RecordBytes.{decodeOf}
-use Rattle.edit_record.specs.Layout.{recordLength}
+use Rattle.edit_record.specs.Layout.{placeLength}
 use Rattle.edit_history.proofs.decode_at.Statement.{statement}
 use Rattle.edit_history.proofs.decode_at.Tie as tie
 
@@ -36,13 +36,13 @@ returns : tie.Need-returns
 returns c =
     let a = c .before .before .before .before .args in
     let rs = now (a .recs) in
-    let at = a .p * recordLength in
+    let at = a .p * placeLength in
     c .decode .ensures ∙ ap decodeOf (take-all (length rs - at) (drop at rs) (simp length-drop (omega arith)))
 
 returns-2 : tie.Need-returns-2
 returns-2 c =
     let a = c .before .before .before .before .args in
-    c .decode2 .ensures ∙ ap decodeOf (sym (drop-of-length-le (now (a .recs)) {i = a .p * recordLength} (omega arith)))
+    c .decode2 .ensures ∙ ap decodeOf (sym (drop-of-length-le (now (a .recs)) {i = a .p * placeLength} (omega arith)))
 
 pub decode-at-spec : {M : Type 1} → statement M
 decode-at-spec =

@@ -10,8 +10,9 @@ use lib.Seq.{set-out}
 use denote.Ref.{now}
 use borrow.Author.Needs.{needs}
 use Rattle.edit_record.specs.Layout.{mostSites}
-use Rattle.edit_history.specs.EditsHeld.{editsOf}
+use Rattle.edit_history.specs.EditsHeld.{recordAt, editsOf}
 use Rattle.edit_history.specs.SurveyForms.{Counted}
+use Rattle.edit_history.proofs.EditsHeld.{edits-length}
 use Rattle.edit_history.proofs.FieldsInPlace.{site-in-place}
 use Rattle.edit_history.proofs.ByCounts.{counted-none, counted-few, counted-more}
 use Rattle.edit_walk.proofs.count_sites.Statement.{statement}
@@ -24,7 +25,8 @@ abbrev μ-loop : tie.MeasureT-loop
 μ-loop recs n counts₀ i₀ counts i = n - i
 
 loop-holds : tie.Need-loop-holds Inv-loop μ-loop
-loop-holds c = (omega arith, search needs, counted-none (now (c .before .args .recs)))
+unfolding editsOf
+loop-holds c = (omega arith, search needs, counted-none)
 
 mul-byte-at : tie.Need-mul-byte-at Inv-loop μ-loop
 mul-byte-at c = search needs
@@ -48,7 +50,11 @@ add-counts : tie.Need-add-counts Inv-loop μ-loop
 add-counts c =
     let l = c .before .before .before .loop in
     let rs = now (c .before .before .before .before .before .args .recs) in
-    omega (arith, counted-few (l .counts) rs (l .i) (l .inv .1) (l .inv .2) (c .before .byte-at .result))
+    omega (
+      arith,
+      counted-few (l .counts) (editsOf rs (l .i)) (l .inv .1) (l .inv .2) (c .before .byte-at .result),
+      edits-length rs (l .i),
+    )
 
 mul-counts-2 : tie.Need-mul-counts-2 Inv-loop μ-loop
 mul-counts-2 c = search needs
@@ -73,7 +79,7 @@ loop-again c =
       omega arith,
       rw e (simp length-set (l .inv .1)),
       rw (add-one, e, c .before .byte-at .ensures, ← site-in-place rs (l .i))
-          (counted-more (l .counts) rs (l .i) (l .inv .1) (l .inv .2)),
+          (unfold editsOf in counted-more (l .counts) (editsOf rs (l .i)) (l .inv .1) (l .inv .2) (recordAt rs (l .i))),
     )
 
 returns : tie.Need-returns Inv-loop μ-loop

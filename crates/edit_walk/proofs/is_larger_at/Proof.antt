@@ -11,7 +11,7 @@ use borrow.Author.Needs.{needs}
 use Rattle.math_lists.specs.NumbersBelow.{some}
 use Rattle.math_lists.proofs.NumbersBelow.{some-same}
 use Rattle.edit_record.specs.declared.Edit.{Edit}
-use Rattle.edit_record.specs.Layout.{mostSites, vectorAt, recordLength}
+use Rattle.edit_record.specs.Layout.{mostSites, vectorAt, placeLength}
 use Rattle.edit_record.specs.RecordBytes.{two}
 use Rattle.edit_history.specs.EditsHeld.{recordAt}
 use Rattle.edit_history.specs.Answers2to5.{largerSomewhere}
@@ -86,7 +86,7 @@ returns-2 c =
     let rs = now (a .recs) in
     let k : c .before .loop .s ≡ mostSites = omega arith in
     (rw k at (c .before .loop .inv .1))
-    ∙ some-same mostSites (λ t. ltb (getD (a .t3) t 0) (two rs (a .p * recordLength + vectorAt + 2 * t)))
+    ∙ some-same mostSites (λ t. ltb (getD (a .t3) t 0) (two rs (a .p * placeLength + vectorAt + 2 * t)))
     (λ t. ltb (getD (a .t3) t 0) (getD (recordAt rs (a .p) .vector) t 0))
     (λ t l. rw (entry-in-place rs (a .p) t l))
 

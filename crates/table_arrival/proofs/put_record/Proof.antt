@@ -7,7 +7,7 @@ use lib.ListN.{take, drop}
 use denote.Ref.{now}
 use borrow.Rule.Slice.PartMut.{post-is}
 use borrow.Author.Needs.{needs}
-use Rattle.edit_record.specs.Layout.{recordLength}
+use Rattle.edit_record.specs.Layout.{recordLength, placeLength}
 use Rattle.table_arrival.proofs.put_record.Statement.{statement}
 use Rattle.table_arrival.proofs.put_record.Tie as tie
 
@@ -36,7 +36,7 @@ returns : tie.Need-returns
 returns c =
     let a = c .before .before .before .before .before .before .args in
     let s = c .before .before .copy-record in
-    let at = a .p * recordLength in
+    let at = a .p * placeLength in
     let rs = now (a .recs) in
     ap (λ (x : List ℕ). take at rs ++ (s .last .0 ++ x)) (post-is at (at + recordLength) rs (omega arith))
     ∙ ap (λ (y : List ℕ). take at rs ++ (y ++ drop (at + recordLength) rs)) (s .ensures)

@@ -1,23 +1,41 @@
 -- `table_replay::replay` meets its contract. Assumes nothing.
 use mathlib.Core.Path.{refl, sym, ap, _∙_}
 use Prim.Native.Nat.{ℕ}
+use native.Mathlib.Omega.{arith}
 use denote.Ref.{now}
+use borrow.Author.Needs.{needs}
+use Rattle.edit_form.specs.OldForm.{storedIn}
 use Rattle.table_drawing.specs.Tables.{tablesOf, emptyDrawing}
 use Rattle.table_index.proofs.OneRecordMore.{index-starts}
-use Rattle.table_replay.proofs.ReplayGoes.{opened, opened-sites, opened-records}
 use Rattle.table_replay.specs.Replay.{replayOf}
-use borrow.Author.Needs.{needs}
+use Rattle.table_replay.proofs.ReplayGoes.{opened, opened-sites, opened-records}
+use Rattle.table_replay.proofs.RoomForAll.{counts-in-all, room-for-all}
 use Rattle.table_replay.proofs.replay.Statement.{statement}
 use Rattle.table_replay.proofs.replay.Tie as tie
 
 open-requires : tie.Need-open-requires
 open-requires c κs = search needs
 
-slice-aggregate-start-places : tie.Need-slice-aggregate-start-places
-slice-aggregate-start-places c = search needs
+count-stretch-requires : tie.Need-count-stretch-requires
+count-stretch-requires c κs = search needs
 
-start-places-requires : tie.Need-start-places-requires
-start-places-requires c κs = search needs
+slice-aggregate-space-places : tie.Need-slice-aggregate-space-places
+slice-aggregate-space-places c = search needs
+
+space-places-requires : tie.Need-space-places-requires
+space-places-requires c κs =
+    let s1 = c .before in
+    let s9 = s1 .before .before .before .before .before .before .before .before in
+    let s = s9 .before .before .before .before .before .before .before .before in
+    let a = s .args in
+    let counted = s1 .count-stretch in (
+      omega (
+        arith,
+        counts-in-all (storedIn (a .form) (now (a .recs))) (a .n) (counted .result) (counted .ensures),
+        s .pre .2,
+      ),
+      refl,
+    )
 
 slice-aggregate-take-records : tie.Need-slice-aggregate-take-records
 slice-aggregate-take-records c = search needs
@@ -34,28 +52,37 @@ slice-aggregate-take-records-4 c = search needs
 take-records-requires : tie.Need-take-records-requires
 take-records-requires c κs =
     let s8 = c .before .before .before .before .before .before .before .before in
-    let s17 = s8 .before .before .before .before .before .before .before .before .before in
-    let s = s17 .before .before .before .before .before .before .before .before in
+    let s10 = s8 .before .before in
+    let s18 = s10 .before .before .before .before .before .before .before .before in
+    let s = s18 .before .before .before .before .before .before .before .before in
     let a = s .args in
-    let o = s17 .«open» in
-    let spaced = s8 .start-places .ensures in
+    let counted = s10 .count-stretch in
+    let spaced = s8 .space-places .ensures in
     let e = opened (tablesOf _ (now (a .records)) (now (a .objects)) (now (a .groups))) _ _ (a .sites) (s .pre .0)
     (s .pre .1)
-    (o .ensures) in
+    (s18 .«open» .ensures) in
     let n = opened-sites _ (a .sites) e in (
       e ∙ ap emptyDrawing (sym n),
       rw (opened-records _ (a .sites) e) (index-starts _ _ _ _ (spaced .entries) refl refl),
-      spaced,
+      room-for-all (storedIn (a .form) (now (a .recs))) (a .n) (counted .result) (counted .ensures) _ spaced,
       rw n (s .pre .1),
       s .pre .2,
       s .pre .3,
     )
 
 same-length : tie.Need-same-length
-same-length c = search needs
+same-length c =
+    let s8 = c .before .before .before .before .before .before .before .before in
+    let s27 = s8 .before .before .before .before .before .before .before .before .before .before
+    .before .before .before .before .before .before .before .before .before in
+    search (needs, s8 .slice-known7 .given, s27 .slice-known4 .given)
 
 same-length-2 : tie.Need-same-length-2
-same-length-2 c = search needs
+same-length-2 c =
+    let s6 = c .before .before .before .before .before .before in
+    let s25 = s6 .before .before .before .before .before .before .before .before .before .before
+    .before .before .before .before .before .before .before .before .before in
+    search (needs, s6 .slice-known8 .given, s25 .slice-known5 .given)
 
 same-length-3 : tie.Need-same-length-3
 same-length-3 c = search needs
@@ -63,24 +90,24 @@ same-length-3 c = search needs
 returns : tie.Need-returns
 returns c =
     let s10 = c .before .before .before .before .before .before .before .before .before .before in
-    let s20 = s10 .before .before .before .before .before .before .before .before .before .before in
-    let s28 = s20 .before .before .before .before .before .before .before .before in
-    let s = s28 .before .before .before .before .before .before .before .before in
+    let s19 = s10 .before .before .before .before .before .before .before .before .before in
+    let s29 = s19 .before .before .before .before .before .before .before .before .before .before in
+    let s = s29 .before .before .before .before .before .before .before .before in
     let a = s .args in
-    let o = s28 .«open» in
     let e = opened (tablesOf _ (now (a .records)) (now (a .objects)) (now (a .groups))) _ _ (a .sites) (s .pre .0)
     (s .pre .1)
-    (o .ensures) in
+    (s29 .«open» .ensures) in
     let n = opened-sites _ (a .sites) e in
-    s10 .take-records .ensures ∙ ap (λ (k : ℕ). replayOf k (now (a .recs)) (a .n)) n
+    s10 .take-records .ensures ∙ ap (λ (k : ℕ). replayOf k (storedIn (a .form) (now (a .recs))) (a .n)) n
 
 pub replay-spec : {M : Type 1} → statement M
 replay-spec =
     tie.close
     (tie.spec
     open-requires
-    slice-aggregate-start-places
-    start-places-requires
+    count-stretch-requires
+    slice-aggregate-space-places
+    space-places-requires
     slice-aggregate-take-records
     slice-aggregate-take-records-2
     slice-aggregate-take-records-3

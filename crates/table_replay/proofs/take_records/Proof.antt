@@ -1,54 +1,67 @@
 -- `table_replay::take_records` meets its contract. Assumes nothing.
-use mathlib.Core.Path.{_≡_, sym, _∙_}
+use mathlib.Core.Path.{_≡_, sym, ap, _∙_}
 use mathlib.Core.List.{List}
-use Prim.Native.Nat.{ℕ, _≤_, _-_}
+use Prim.Native.Nat.{ℕ, _+_, _-_, _*_, _≤_}
 use native.Mathlib.Numerals.{add-one}
 use native.Mathlib.Omega.{arith}
-use lib.ListN.{length}
+use lib.ListN.{length, take, drop}
 use denote.Ref.{now}
 use borrow.Author.Needs.{needs}
-use Rattle.edit_history.specs.EditsHeld.{bytesAt}
+use Rattle.edit_form.specs.OldForm.{lengthBy, longFrom, storedIn}
+use Rattle.edit_history.specs.EditsHeld.{countFrom}
 use Rattle.table_drawing.specs.Tables.{Tables, tablesOf}
 use Rattle.table_drawing.specs.AnswerNumbers.{outcomeOf, numberOf}
-use Rattle.edit_walk.specs.WalkForms.{Spaced, countIn}
+use Rattle.edit_walk.specs.WalkForms.{Spaced}
 use Rattle.edit_walk.proofs.RoomInIndex.{spaced-same}
 use Rattle.table_index.specs.IndexForms.{IndexOf}
 use Rattle.table_arrival.specs.Arrival.{acceptanceOf}
+use Rattle.table_replay.specs.Replay.{editsIn}
 use Rattle.table_replay.proofs.ReplayGoes.{Going, RightlyLong, going-start, going-faithful, going-sound}
-use Rattle.table_replay.proofs.ReplayGoes.{going-on, going-ends, going-long, next-long, lent-is}
-use Rattle.table_replay.proofs.OwnRecords.{next-room}
+use Rattle.table_replay.proofs.ReplayGoes.{going-on, going-ends, going-long, next-long, lent-is, record-left}
+use Rattle.table_replay.proofs.ReplayGoes.{rest-has}
+use Rattle.table_replay.proofs.RoomForAll.{next-room}
 use Rattle.table_replay.proofs.take_records.Statement.{statement}
 use Rattle.table_replay.proofs.take_records.Tie as tie
 
+-- the counts of the first n records of a stretch
+abbrev counted-in : ℕ → List ℕ → ℕ → ℕ → ℕ
+counted-in form recs n s = countFrom s (editsIn (storedIn form recs) n)
+
 abbrev Inv-loop : tie.InvT-loop
-Inv-loop records₀ objects₀ groups₀ places₀ numbers₀ counts₀ members₀ recs n c₀ i₀ records objects groups places
-    numbers counts members c i =
+Inv-loop records₀ objects₀ groups₀ places₀ numbers₀ counts₀ members₀ recs form n step c₀ i₀ records objects groups
+    places numbers counts members c i =
     (i ≤ n)
-    × Going (c₀ .sites) recs i (tablesOf c records objects groups)
+    × Going (c₀ .sites) (storedIn form recs) i (tablesOf c records objects groups)
     × IndexOf records (c .records) places numbers counts members
-    × Spaced (countIn recs n) places
+    × Spaced (counted-in form recs n) places
 
 abbrev μ-loop : tie.MeasureT-loop
-μ-loop records₀ objects₀ groups₀ places₀ numbers₀ counts₀ members₀ recs n c₀ i₀ records objects groups places
-    numbers counts members c i =
+μ-loop records₀ objects₀ groups₀ places₀ numbers₀ counts₀ members₀ recs form n step c₀ i₀ records objects groups
+    places numbers counts members c i =
     n - i
 
 -- ---- where things stand
 
 abbrev start-of : tie.At-loop Inv-loop μ-loop → tie.Start Inv-loop μ-loop
-start-of b = b .before .before .before .before .before .before .before .before .before
+start-of b = b .before .before .before .before .before .before .before .before .before .before
 
 abbrev round-of : tie.After-take-next Inv-loop μ-loop → tie.In-loop Inv-loop μ-loop
-round-of m = m .before .before .before .before .before .before .before .before .before
+round-of m = m .before .before .before .before .before .before .before .before .before .before .before
 
 abbrev call-of : tie.After-number Inv-loop μ-loop → tie.After-take-next Inv-loop μ-loop
 call-of d =
     d .before .before .before .before .before .before .before .before
     .before .before .before .before .before .before .before .before
 
--- the records to take, and the tables at the start and where the loop stands
+-- the stretch, its form and its records, and the tables at the start and where the loop stands
 abbrev recs-of : tie.At-loop Inv-loop μ-loop → List ℕ
 recs-of b = now (start-of b .args .recs)
+
+abbrev form-of : tie.At-loop Inv-loop μ-loop → ℕ
+form-of b = start-of b .args .form
+
+abbrev given-of : tie.At-loop Inv-loop μ-loop → ℕ → List ℕ
+given-of b = storedIn (form-of b) (recs-of b)
 
 abbrev tables-of : tie.At-loop Inv-loop μ-loop → Tables
 tables-of b = tablesOf (b .loop .c) (b .loop .records) (b .loop .objects) (b .loop .groups)
@@ -56,10 +69,36 @@ tables-of b = tablesOf (b .loop .c) (b .loop .records) (b .loop .objects) (b .lo
 abbrev empty-of : tie.Start Inv-loop μ-loop → Tables
 empty-of s = tablesOf (s .args .empty) (now (s .args .records)) (now (s .args .objects)) (now (s .args .groups))
 
+abbrev stored-at : tie.Start Inv-loop μ-loop → ℕ → List ℕ
+stored-at s = storedIn (s .args .form) (now (s .args .recs))
+
+-- ---- the record that is taken
+
+-- it is there
+left :
+    (r : tie.In-loop Inv-loop μ-loop) →
+    r .before .loop .i * r .before .before .length-by .result + r .before .before .length-by .result
+    ≤ length (recs-of (r .before))
+left r =
+    let b = r .before in
+    let s = start-of b in
+    record-left (form-of b) _ (b .loop .i) (recs-of b) (b .before .length-by .ensures) (s .args .n) (r .loop-test .taken)
+    (s .pre .5)
+
+-- and is the stretch's
+taken-is :
+    (m : tie.After-take-next Inv-loop μ-loop) →
+    m .before .before .before .before .before .before .before .before .before .long-from .result
+    ≡ given-of (round-of m .before) (round-of m .before .loop .i)
+taken-is m =
+    let b = round-of m .before in
+    lent-is (form-of b) _ (b .loop .i) (recs-of b) (b .before .length-by .ensures) _
+    (m .before .before .before .before .before .before .before .before .before .long-from .ensures)
+
 -- ---- the lengths stay
 
-started : (s : tie.Start Inv-loop μ-loop) → Going (s .args .empty .sites) (now (s .args .recs)) 0 (empty-of s)
-started s = going-start (s .args .empty .sites) (now (s .args .recs)) (empty-of s) (s .pre .0)
+started : (s : tie.Start Inv-loop μ-loop) → Going (s .args .empty .sites) (stored-at s) 0 (empty-of s)
+started s = going-start (s .args .empty .sites) (stored-at s) (empty-of s) (s .pre .0)
 
 -- t has the lengths that the tables had at the start
 abbrev AsLong : tie.Start Inv-loop μ-loop → Tables → Type 0
@@ -70,7 +109,7 @@ AsLong s t =
 
 as-long : (s : tie.Start Inv-loop μ-loop) (t : Tables) → RightlyLong t → AsLong s t
 as-long s t (x, y, z) =
-    let (u, v, w) = going-long (s .args .empty .sites) (now (s .args .recs)) (s .pre .3) 0 (empty-of s) (started s) in
+    let (u, v, w) = going-long (s .args .empty .sites) (stored-at s) (s .pre .3) 0 (empty-of s) (started s) in
     (x ∙ sym u, y ∙ sym v, z ∙ sym w)
 
 -- where the loop stands, and after a call there
@@ -78,49 +117,60 @@ loop-long : (b : tie.At-loop Inv-loop μ-loop) → AsLong (start-of b) (tables-o
 loop-long b =
     let s = start-of b in
     as-long s (tables-of b)
-    (going-long (s .args .empty .sites) (recs-of b) (s .pre .3) (b .loop .i) (tables-of b) (b .loop .inv .1))
+    (going-long (s .args .empty .sites) (given-of b) (s .pre .3) (b .loop .i) (tables-of b) (b .loop .inv .1))
 
 call-long :
     (b : tie.At-loop Inv-loop μ-loop) (a : ℕ) (t : Tables) →
-    outcomeOf a t ≡ acceptanceOf (tables-of b) (bytesAt (recs-of b) (b .loop .i)) → AsLong (start-of b) t
+    outcomeOf a t ≡ acceptanceOf (tables-of b) (given-of b (b .loop .i)) → AsLong (start-of b) t
 call-long b a t h =
     let s = start-of b in
     as-long s t
-    (next-long (s .args .empty .sites) (recs-of b) (s .pre .3) (b .loop .i) (tables-of b) (b .loop .inv .1) a t h)
+    (next-long (s .args .empty .sites) (given-of b) (s .pre .3) (b .loop .i) (tables-of b) (b .loop .inv .1) a t h)
 
 -- ---- the needs
 
+length-by-requires : tie.Need-length-by-requires Inv-loop μ-loop
+length-by-requires c κs = search needs
+
 loop-holds : tie.Need-loop-holds Inv-loop μ-loop
 loop-holds c =
-    let s = c .before .before .before .before .before .before .before .before in
+    let s = c .before .before .before .before .before .before .before .before .before in
     (omega arith, started s, s .pre .1, s .pre .2)
 
 mul-at : tie.Need-mul-at Inv-loop μ-loop
-mul-at c = search needs
+mul-at c = omega (arith, left c)
 
-add-end : tie.Need-add-end Inv-loop μ-loop
-add-end c = search needs
+sub-long-from : tie.Need-sub-long-from Inv-loop μ-loop
+sub-long-from c = omega (arith, left c)
 
-sub-take-next : tie.Need-sub-take-next Inv-loop μ-loop
-sub-take-next c = search needs
+part-long-from-start : tie.Need-part-long-from-start Inv-loop μ-loop
+part-long-from-start c = omega (arith, left c)
 
-part-take-next-start : tie.Need-part-take-next-start Inv-loop μ-loop
-part-take-next-start c = search needs
+part-long-from-end : tie.Need-part-long-from-end Inv-loop μ-loop
+part-long-from-end c = search needs
 
-part-take-next-end : tie.Need-part-take-next-end Inv-loop μ-loop
-part-take-next-end c = search needs
+long-from-requires : tie.Need-long-from-requires Inv-loop μ-loop
+long-from-requires c κs =
+    let r = c .before in
+    let b = r .before in
+    rest-has (form-of b) _ (b .loop .i) (recs-of b) (b .before .length-by .ensures) (left r)
+
+slice-aggregate-take-next : tie.Need-slice-aggregate-take-next Inv-loop μ-loop
+slice-aggregate-take-next c = search needs
 
 take-next-requires : tie.Need-take-next-requires Inv-loop μ-loop
 take-next-requires c κs =
-    let r = c .before .before .before .before .before .before .before .before in
+    let r = c .before .before .before .before .before .before .before .before .before .before in
     let b = r .before in
     let s = start-of b in
-    let l = b .loop in (
-      going-sound (s .args .empty .sites) (recs-of b) (s .pre .3) (l .i) _ (l .inv .1),
-      going-faithful (s .args .empty .sites) (recs-of b) (s .pre .3) (l .i) _ (l .inv .1) .kept .wide,
+    let l = b .loop in
+    let rec = lent-is (form-of b) _ (l .i) (recs-of b) (b .before .length-by .ensures) _
+    (c .before .before .before .before .before .before .before .before .long-from .ensures) in (
+      going-sound (s .args .empty .sites) (given-of b) (s .pre .3) (l .i) _ (l .inv .1),
+      going-faithful (s .args .empty .sites) (given-of b) (s .pre .3) (l .i) _ (l .inv .1) .kept .wide,
       l .inv .2,
-      rw (lent-is (recs-of b) (l .i))
-          (next-room (s .args .empty .sites) (recs-of b) (s .pre .3) (l .i) (s .args .n) (r .loop-test .taken)
+      rw rec
+          (next-room (s .args .empty .sites) (given-of b) (s .pre .3) (l .i) (s .args .n) (r .loop-test .taken)
           (tables-of b) (l .inv .1) (l .places) (l .inv .3)),
     )
 
@@ -131,19 +181,19 @@ same-length : tie.Need-same-length Inv-loop μ-loop
 same-length c =
     let m = call-of (c .before) in
     let b = round-of m .before in
-    call-long b _ _ (rw (lent-is (recs-of b) (b .loop .i)) at (m .take-next .ensures .0)) .0
+    call-long b _ _ (m .take-next .ensures .0 ∙ ap (acceptanceOf (tables-of b)) (taken-is m)) .0
 
 same-length-2 : tie.Need-same-length-2 Inv-loop μ-loop
 same-length-2 c =
     let m = call-of (c .before) in
     let b = round-of m .before in
-    call-long b _ _ (rw (lent-is (recs-of b) (b .loop .i)) at (m .take-next .ensures .0)) .1
+    call-long b _ _ (m .take-next .ensures .0 ∙ ap (acceptanceOf (tables-of b)) (taken-is m)) .1
 
 same-length-3 : tie.Need-same-length-3 Inv-loop μ-loop
 same-length-3 c =
     let m = call-of (c .before) in
     let b = round-of m .before in
-    call-long b _ _ (rw (lent-is (recs-of b) (b .loop .i)) at (m .take-next .ensures .0)) .2
+    call-long b _ _ (m .take-next .ensures .0 ∙ ap (acceptanceOf (tables-of b)) (taken-is m)) .2
 
 same-length-4 : tie.Need-same-length-4 Inv-loop μ-loop
 same-length-4 c =
@@ -175,9 +225,9 @@ returns c =
     let b = round-of m .before in
     let s = start-of b in
     let l = b .loop in
-    going-ends (s .args .empty .sites) (recs-of b) (s .pre .3) (l .i) _ (l .inv .1)
+    going-ends (s .args .empty .sites) (given-of b) (s .pre .3) (l .i) _ (l .inv .1)
     (numberOf (m .take-next .result .answer)) _
-    (rw (lent-is (recs-of b) (l .i)) at (m .take-next .ensures .0))
+    (m .take-next .ensures .0 ∙ ap (acceptanceOf (tables-of b)) (taken-is m))
     (λ z. c .if1 .taken (c .before .number .ensures ∙ z))
     (s .args .n)
     (round-of m .loop-test .taken)
@@ -199,10 +249,10 @@ loop-again c =
     let z : numberOf (m .take-next .result .answer) ≡ 0 = sym (c .before .number .ensures) ∙ c .if1 .left in (
       omega (arith, round-of m .loop-test .taken),
       rw (add-one (l .i))
-          (going-on (s .args .empty .sites) (recs-of b) (s .pre .3) (l .i) _ (l .inv .1) _
-          (rw (z, lent-is (recs-of b) (l .i)) at (m .take-next .ensures .0))),
+          (going-on (s .args .empty .sites) (given-of b) (s .pre .3) (l .i) _ (l .inv .1) _
+          (rw z at (m .take-next .ensures .0 ∙ ap (acceptanceOf (tables-of b)) (taken-is m)))),
       m .take-next .ensures .1 z .0,
-      spaced-same (countIn (recs-of b) (s .args .n)) _ _ (m .take-next .ensures .1 z .1)
+      spaced-same (counted-in (form-of b) (recs-of b) (s .args .n)) _ _ (m .take-next .ensures .1 z .1)
           (m .take-next .ensures .1 z .0 .places-long) (l .inv .3),
     )
 
@@ -239,12 +289,14 @@ take-records-spec =
     (tie.spec
     Inv-loop
     μ-loop
+    length-by-requires
     loop-holds
     mul-at
-    add-end
-    sub-take-next
-    part-take-next-start
-    part-take-next-end
+    sub-long-from
+    part-long-from-start
+    part-long-from-end
+    long-from-requires
+    slice-aggregate-take-next
     take-next-requires
     number-requires
     same-length

@@ -1,6 +1,6 @@
--- `list_version::values::stamp` meets its contract: eight counts of two bytes add up to little. Assumes nothing.
+-- `list_version::values::stamp` meets its contract: the counts of a vector add up to less than 2 ^ 20. Assumes nothing.
 use mathlib.Core.Path.{refl}
-use Prim.Native.Nat.{_*_, _≤_}
+use Prim.Native.Nat.{_*_, _-_, _≤_}
 use native.Mathlib.Omega.{arith}
 use borrow.Author.Tests.{lt-ltb, le-ltb}
 use lib.ListN.{getD}
@@ -20,7 +20,7 @@ vector-sum-requires c κs = search needs
 returns : tie.Need-returns
 returns c =
     let v = c .before .before .before .before .args .e .vector in
-    let low : vectorSum v ≤ mostSites * seqNumbers
+    let low : vectorSum v ≤ mostSites * (seqNumbers - 1)
     = sum-low v (λ i. let h : Fits w16 (getD v i 0) = search needs in omega arith) in (
       rw (le-ltb (c .before .before .before .before .args .e .key) keys (omega arith)) refl,
       (low, omega arith, omega arith),
@@ -47,7 +47,7 @@ add-result c = search needs
 mul-result-3 : tie.Need-mul-result-3
 mul-result-3 c =
     let v = c .before .before .before .before .before .before .args .e .vector in
-    let low : vectorSum v ≤ mostSites * seqNumbers
+    let low : vectorSum v ≤ mostSites * (seqNumbers - 1)
     = sum-low v (λ i. let h : Fits w16 (getD v i 0) = search needs in omega arith) in
     omega arith
 
@@ -57,28 +57,28 @@ cast-result-4 c = search needs
 add-result-2 : tie.Need-add-result-2
 add-result-2 c =
     let v = c .before .before .before .before .before .before .before .args .e .vector in
-    let low : vectorSum v ≤ mostSites * seqNumbers
+    let low : vectorSum v ≤ mostSites * (seqNumbers - 1)
     = sum-low v (λ i. let h : Fits w16 (getD v i 0) = search needs in omega arith) in
     omega arith
 
 add-result-3 : tie.Need-add-result-3
 add-result-3 c =
     let v = c .before .before .before .before .before .before .before .args .e .vector in
-    let low : vectorSum v ≤ mostSites * seqNumbers
+    let low : vectorSum v ≤ mostSites * (seqNumbers - 1)
     = sum-low v (λ i. let h : Fits w16 (getD v i 0) = search needs in omega arith) in
     omega arith
 
 add-result-4 : tie.Need-add-result-4
 add-result-4 c =
     let v = c .before .before .before .before .before .before .before .args .e .vector in
-    let low : vectorSum v ≤ mostSites * seqNumbers
+    let low : vectorSum v ≤ mostSites * (seqNumbers - 1)
     = sum-low v (λ i. let h : Fits w16 (getD v i 0) = search needs in omega arith) in
     omega arith
 
 returns-2 : tie.Need-returns-2
 returns-2 c =
     let v = c .before .before .before .before .before .before .before .args .e .vector in
-    let low : vectorSum v ≤ mostSites * seqNumbers
+    let low : vectorSum v ≤ mostSites * (seqNumbers - 1)
     = sum-low v (λ i. let h : Fits w16 (getD v i 0) = search needs in omega arith) in (
       rw (
         lt-ltb (c .before .before .before .before .before .before .before .args .e .key) keys (omega arith),

@@ -1,0 +1,217 @@
+-- Old records beside long ones: a record of a kind that has no old form is answer 1; the record of a stretch in either
+-- form is a long one; and the edit in an old record, with zeros for the entries that its vector lacks. What is said of
+-- entries holds for any number of them. Assumes nothing.
+use mathlib.Core.Path.{_≡_, refl, sym, ap, ap₂, _∙_}
+use mathlib.Core.Bool.{Bool, true, false, not, _&&_, cond, and-false, or-false}
+use mathlib.Core.List.{List, [], _∷_, _++_, append-assoc}
+use Prim.Native.Nat.{ℕ, zero, suc, _+_, _-_, _*_, _≤_, _<_}
+use native.Mathlib.Omega.{arith}
+use lib.Dec.{eqb, leb, lit<}
+use lib.ListN.{length, getD, take, drop, replicate, length-append, length-drop, List·getD-append}
+use lib.Seq.{length-take-le, drop-at, drop-append-le, drop-drop, getD-drop, getD-append-add}
+use Rattle.math_lists.specs.NumbersBelow.{some}
+use Rattle.math_lists.proofs.NumbersBelow.{some-same}
+use Rattle.math_lists.proofs.ByPlaces.{zero-anywhere}
+use Rattle.edit_record.specs.declared.Edit.{Edit}
+use Rattle.edit_record.specs.Layout.{mostSites, kindAt, siteAt, seqAt, vectorAt, targetAt, keyAt, targetSeqAt, valueAt}
+use Rattle.edit_record.specs.Layout.{recordLength}
+use Rattle.edit_record.specs.RecordBytes.{two, four, counts, decodeOf}
+use Rattle.edit_record.specs.Answer1.{nonzeroPast, unfit, malformed}
+use Rattle.edit_record.proofs.NumbersInBytes.{counts-length}
+use Rattle.edit_record.proofs.EntriesPastSites.{isPast}
+use Rattle.edit_form.specs.OldForm.{oldForm, oldSites, lacking, oldLength, lengthBy, widened, hasOldForm, longOf}
+use Rattle.edit_form.specs.OldForm.{longFrom, storedIn}
+use Rattle.edit_form.proofs.CopiedParts.{oldEnd, by-form, drop-take, widened-before}
+
+-- ---- a kind that has no old form
+
+pub no-old-form-is-1 :
+    (b : List ℕ) → hasOldForm (getD b kindAt 0) ≡ false → (n : ℕ) → malformed n (longOf b) ≡ true
+unfolding malformed unfit
+no-old-form-is-1 b h n = rw h
+
+-- ---- how long records are
+
+pub bytes-most : (n form : ℕ) → n * lengthBy form ≤ n * recordLength
+bytes-most n form = by-form (λ w. n * w ≤ n * recordLength) form (omega arith) (omega arith)
+
+pub widened-long : (b : List ℕ) → length b ≡ oldLength → length (widened b) ≡ recordLength
+widened-long b long =
+    simp (length-append, length-drop) (omega (arith, length-take-le oldEnd b (omega arith)))
+
+longOf-long : (b : List ℕ) → length b ≡ oldLength → length (longOf b) ≡ recordLength
+longOf-long b long = go (hasOldForm (getD b kindAt 0))
+  where
+    go : (o : Bool) → length (cond o (widened b) (replicate recordLength 0)) ≡ recordLength
+    go true = widened-long b long
+    go false = refl
+
+pub long-from-long :
+    (form : ℕ) (rest : List ℕ) → lengthBy form ≤ length rest → length (longFrom form rest) ≡ recordLength
+unfolding longFrom
+long-from-long form rest h = go (eqb form oldForm) h
+  where
+    go : (o : Bool) → cond o oldLength recordLength ≤ length rest →
+        length (cond o (longOf (take (cond o oldLength recordLength) rest)) (take (cond o oldLength recordLength) rest))
+        ≡ recordLength
+    go true l = longOf-long (take oldLength rest) (length-take-le oldLength rest l)
+    go false l = length-take-le recordLength rest l
+
+-- the record number k is there whole
+pub stored-there :
+    (form : ℕ) (s : List ℕ) (k : ℕ) → lengthBy form * (k + 1) ≤ length s →
+    lengthBy form ≤ length (drop (k * lengthBy form) s)
+stored-there form s k =
+    by-form (λ w. w * (k + 1) ≤ length s → w ≤ length (drop (k * w) s)) form
+    (λ l. simp length-drop (omega arith))
+    (λ l. simp length-drop (omega arith))
+
+pub stored-long :
+    (form : ℕ) (s : List ℕ) (k : ℕ) → lengthBy form * (k + 1) ≤ length s → length (storedIn form s k) ≡ recordLength
+stored-long form s k h = long-from-long form (drop (k * lengthBy form) s) (stored-there form s k h)
+
+-- ---- counts
+
+-- the first m, and k more behind them
+pub counts-split : (m k : ℕ) (s : List ℕ) → counts (m + k) s ≡ counts m s ++ counts k (drop (2 * m) s)
+unfolding counts
+counts-split zero k s =
+    let e : 0 + k ≡ k = omega arith in
+    rw e
+counts-split (suc m) k s =
+    let e : suc m + k ≡ suc (m + k) = omega arith in
+    let d : 2 * suc m ≡ 2 + 2 * m = omega arith in
+    rw (e, d)
+    (ap (λ (l : List ℕ). two s 0 ∷ l)
+    (counts-split m k (drop 2 s)
+    ∙ ap (λ (r : List ℕ). counts m (drop 2 s) ++ counts k r) (drop-drop (2 * m) 2 s)))
+
+-- m counts are in their own bytes, whatever stands behind these
+pub counts-front :
+    (m : ℕ) (s r : List ℕ) → 2 * m ≤ length s → counts m (take (2 * m) s ++ r) ≡ counts m s
+unfolding counts
+counts-front zero s r l = refl
+counts-front (suc m) [] r l = absurd (omega arith)
+counts-front (suc m) (a ∷ []) r l = absurd (omega arith)
+counts-front (suc m) (a ∷ b ∷ s) r l =
+    let e : 2 * suc m ≡ suc (suc (2 * m)) = omega arith in
+    rw e (ap (λ (t : List ℕ). (a + b * 256) ∷ t) (counts-front m s r (omega arith)))
+
+pub counts-zeros : (k : ℕ) (r : List ℕ) → counts k (replicate (2 * k) 0 ++ r) ≡ replicate k 0
+unfolding counts
+counts-zeros zero r = refl
+counts-zeros (suc k) r =
+    let e : 2 * suc k ≡ suc (suc (2 * k)) = omega arith in
+    rw e (ap (λ (t : List ℕ). 0 ∷ t) (counts-zeros k r))
+
+-- m counts, and zeros for k more
+pub counts-padded :
+    (m k : ℕ) (s r : List ℕ) → 2 * m ≤ length s →
+    counts (m + k) (take (2 * m) s ++ (replicate (2 * k) 0 ++ r)) ≡ counts m s ++ replicate k 0
+counts-padded m k s r room =
+    let tail = replicate (2 * k) 0 ++ r in
+    counts-split m k (take (2 * m) s ++ tail)
+    ∙ ap₂ (λ (x y : List ℕ). x ++ y) (counts-front m s tail room)
+    (ap (counts k) (drop-at (take (2 * m) s) tail (2 * m) (length-take-le (2 * m) s room)) ∙ counts-zeros k r)
+
+-- ---- the edit in an old record
+
+-- its fields, read where an old record has them, with zeros for the entries that its vector lacks
+abbrev pub oldEdit : List ℕ → Edit
+oldEdit b =
+    record {
+      kind = getD b kindAt 0;
+      site = record { 0 = getD b siteAt 0 };
+      seq = record { 0 = two b seqAt };
+      vector = counts oldSites (drop vectorAt b) ++ replicate (mostSites - oldSites) 0;
+      tsite = record { 0 = getD b (targetAt - lacking) 0 };
+      key = getD b (keyAt - lacking) 0;
+      tseq = record { 0 = two b (targetSeqAt - lacking) };
+      value = four b (valueAt - lacking);
+    }
+
+-- bytes that have a record's fields where it has them
+read-so :
+    (b w : List ℕ) → ((i : ℕ) → i < oldEnd → getD w i 0 ≡ getD b i 0) →
+    ((i : ℕ) → getD w (targetAt + i) 0 ≡ getD b (oldEnd + i) 0) →
+    counts mostSites (drop vectorAt w) ≡ oldEdit b .vector → decodeOf w ≡ oldEdit b
+read-so b w f g v =
+    rw (
+      v,
+      f kindAt (lit< tt),
+      f siteAt (lit< tt),
+      f seqAt (lit< tt),
+      f (seqAt + 1) (lit< tt),
+      g 0,
+      g 1,
+      g 2,
+      g 3,
+      g 4,
+      g 5,
+      g 6,
+      g 7,
+    )
+
+module _ (b : List ℕ) (long : length b ≡ oldLength) where
+  end-inside : oldEnd ≤ length b
+  end-inside = omega arith
+
+  widened-behind : (i : ℕ) → getD (widened b) (targetAt + i) 0 ≡ getD b (oldEnd + i) 0
+  widened-behind i =
+      let front = take oldEnd b ++ replicate lacking 0 in
+      let long : length front ≡ targetAt =
+      length-append (take oldEnd b) (replicate lacking 0) ∙ rw (length-take-le oldEnd b end-inside) in
+      let from : drop targetAt (widened b) ≡ drop oldEnd b =
+      ap (drop targetAt) (sym (append-assoc (take oldEnd b) (replicate lacking 0) (drop oldEnd b)))
+      ∙ drop-at front (drop oldEnd b) targetAt long in
+      sym (getD-drop targetAt (widened b) i 0) ∙ ap (λ (s : List ℕ). getD s i 0) from ∙ getD-drop oldEnd b i 0
+
+  pub widened-vector :
+      counts mostSites (drop vectorAt (widened b))
+      ≡ counts oldSites (drop vectorAt b) ++ replicate (mostSites - oldSites) 0
+  widened-vector =
+      let own = drop vectorAt b in
+      let tail = replicate lacking 0 ++ drop oldEnd b in
+      let from : drop vectorAt (widened b) ≡ take (2 * oldSites) own ++ tail =
+      drop-append-le vectorAt (take oldEnd b) tail (omega (arith, length-take-le oldEnd b end-inside))
+      ∙ ap (λ (l : List ℕ). l ++ tail) (drop-take vectorAt (2 * oldSites) b (omega arith)) in
+      ap (counts mostSites) from
+      ∙ counts-padded oldSites (mostSites - oldSites) own (drop oldEnd b) (simp length-drop (omega arith))
+
+  pub widened-edit : decodeOf (widened b) ≡ oldEdit b
+  widened-edit = read-so b (widened b) (λ i l. widened-before b i end-inside l) widened-behind widened-vector
+
+-- ---- answer 1 of an old record
+
+-- a test that nothing passes from m on looks at the first m alone
+some-front :
+    (m k : ℕ) (f : ℕ → Bool) → ((i : ℕ) → m ≤ i → f i ≡ false) → some (m + k) f ≡ some m f
+unfolding some
+some-front m zero f h =
+    let e : m + 0 ≡ m = omega arith in
+    rw e
+some-front m (suc k) f h =
+    let e : m + suc k ≡ suc (m + k) = omega arith in
+    rw (e, some-front m k f h, h (m + k) (omega arith)) (or-false (some m f))
+
+zero-behind : (v : List ℕ) (k i : ℕ) → length v ≤ i → getD (v ++ replicate k 0) i 0 ≡ 0
+zero-behind v k i l =
+    let j = i - length v in
+    let e : length v + j ≡ i = omega arith in
+    rw (← e) (getD-append-add v (replicate k 0) j 0 ∙ zero-anywhere k j)
+
+-- no entry past the eighth is looked at, since they are zeros
+pub old-test :
+    (b : List ℕ) → length b ≡ oldLength → (n : ℕ) →
+    nonzeroPast n (decodeOf (widened b) .vector) ≡ some oldSites (isPast n (counts oldSites (drop vectorAt b)))
+unfolding nonzeroPast
+old-test b long n =
+    let v = counts oldSites (drop vectorAt b) in
+    let w = v ++ replicate (mostSites - oldSites) 0 in
+    let own : length v ≡ oldSites = counts-length oldSites (drop vectorAt b) in
+    ap (λ (u : List ℕ). some mostSites (isPast n u)) (widened-vector b long)
+    ∙ some-front oldSites (mostSites - oldSites) (isPast n w)
+    (λ i l. rw (zero-behind v (mostSites - oldSites) i (omega arith)) (and-false (leb n i)))
+    ∙ some-same oldSites (isPast n w) (isPast n v)
+    (λ i l. ap (λ (x : ℕ). leb n i && not (eqb x 0))
+    (List·getD-append v (replicate (mostSites - oldSites) 0) 0 i (omega arith)))
