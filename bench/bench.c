@@ -9,7 +9,7 @@
 #include "compare.h"
 #include "inputs.h"
 
-enum { FILES = 5, BOXES = 5, DRAWINGS = 16, ARRIVALS = 100, ROUNDS = 9, BATCH_MS = 20, GROUPS = 32 };
+enum { FILES = 6, BOXES = 5, DRAWINGS = 16, ARRIVALS = 100, ROUNDS = 9, BATCH_MS = 20, GROUPS = 32 };
 
 /* What a task is done on, and what it may change. A task undoes what it changed, so that it can be done again. */
 struct scene {
@@ -147,7 +147,7 @@ static const struct {
 };
 
 static void (*const makers[FILES])(struct file *) = {
-    make_many, make_settled, make_disputed, make_many_wide, make_wide,
+    make_many, make_settled, make_disputed, make_many_wide, make_wide, make_layers,
 };
 
 /* Boxes whose groups are worked out with no arrival order, and the answer. */

@@ -231,7 +231,8 @@ static void compare_wrong_arrival(struct drawing *d, const struct file *f, const
     }
 }
 
-/* The next edit of a random site: a Create, or a Set on a random Create, seen or not, or on itself. */
+/* The next edit of a random site: a Create, or a Set or a layer edit on a random Create, seen or not, or on itself. A
+   drawing that has an old block gets no layer edits. */
 static const uint8_t *make_random(struct file *f, unsigned site) {
     if (random_below(4) == 0) file_sync(f, site, random_below(f->sites));
     if (random_below(8) == 0) file_sync_all(f);
@@ -239,7 +240,10 @@ static const uint8_t *make_random(struct file *f, unsigned site) {
     if (random_below(16) == 0) return file_set(f, site, site, f->vectors[site][site] + 1u, 0, 0);
     const uint8_t *a = f->bytes + random_below(f->records) * SPIRESLATE_RECORD;
     if (a[0] != 1) a = f->bytes;
-    return file_set(f, site, a[1], a[2] + 256u * a[3], random_below(3), random_below(3));
+    unsigned q = a[2] + 256u * a[3];
+    if (f->sites > SPIRESLATE_OLD_SITES && random_below(4) == 0)
+        return file_layer(f, site, a[1], q, (int)random_below(2));
+    return file_set(f, site, a[1], q, random_below(3), random_below(3));
 }
 
 /* One random drawing. An edit that is refused is taken back by its site. */

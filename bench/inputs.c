@@ -51,16 +51,26 @@ static uint8_t *put_edit(struct file *f, unsigned kind, unsigned site) {
     return record;
 }
 
-const uint8_t *file_create(struct file *f, unsigned site) { return put_edit(f, 1, site); }
+/* The next edit of a site, on the Create s.q. */
+static uint8_t *put_aimed(struct file *f, unsigned kind, unsigned site, unsigned s, unsigned q) {
+    uint8_t *record = put_edit(f, kind, site);
+    record[AT_TARGET] = (uint8_t)s;
+    put_two(record + AT_TARGET + 2, q);
+    return record;
+}
+
+const uint8_t *file_create(struct file *f, unsigned site) { return put_edit(f, SPIRESLATE_CREATE, site); }
 
 const uint8_t *file_set(struct file *f, unsigned site, unsigned s, unsigned q, unsigned key, uint32_t value) {
-    uint8_t *record = put_edit(f, 2, site);
-    record[AT_TARGET] = (uint8_t)s;
+    uint8_t *record = put_aimed(f, SPIRESLATE_SET, site, s, q);
     record[AT_TARGET + 1] = (uint8_t)key;
-    put_two(record + AT_TARGET + 2, q);
     put_two(record + AT_VALUE, value % 65536);
     put_two(record + AT_VALUE + 2, value / 65536);
     return record;
+}
+
+const uint8_t *file_layer(struct file *f, unsigned site, unsigned s, unsigned q, int to_top) {
+    return put_aimed(f, to_top ? SPIRESLATE_TOP : SPIRESLATE_BOTTOM, site, s, q);
 }
 
 /* Puts the trailer of so many records of so many bytes each; says how long the file is. */
@@ -106,6 +116,20 @@ static void put_many(struct file *f, const char *name, unsigned sites) {
 void make_many(struct file *f) { put_many(f, "256 records, 64 objects", EIGHT); }
 
 void make_many_wide(struct file *f) { put_many(f, "256 records, 16 sites", SITES); }
+
+void make_layers(struct file *f) {
+    enum { OBJECTS = 64 };
+    file_open(f, "128 layer edits", SITES);
+    for (unsigned o = 0; o < OBJECTS; o++) file_create(f, o % SITES);
+    file_sync_all(f);
+    for (unsigned i = 0; i < 3 * OBJECTS; i++) {
+        unsigned site = random_below(SITES), o = random_below(OBJECTS);
+        if (random_below(4) == 0) file_sync(f, site, random_below(SITES));
+        if (i % 3 == 0) file_set(f, site, o % SITES, o / SITES + 1, 2, random_value());
+        else file_layer(f, site, o % SITES, o / SITES + 1, (int)random_below(2));
+    }
+    file_close(f);
+}
 
 /* A Create that all sites have seen. */
 static void open_box(struct file *f, const char *name, unsigned sites) {

@@ -36,9 +36,10 @@ void file_open(struct file *f, const char *name, unsigned sites);
 void file_sync(struct file *f, unsigned to, unsigned from);
 void file_sync_all(struct file *f);
 
-/* A Create, or a Set on the Create s.q, made by a site and put behind the others; gives its record. */
+/* A Create, or a Set or a layer edit on the Create s.q, made by a site and put behind the others; gives its record. */
 const uint8_t *file_create(struct file *f, unsigned site);
 const uint8_t *file_set(struct file *f, unsigned site, unsigned s, unsigned q, unsigned key, uint32_t value);
+const uint8_t *file_layer(struct file *f, unsigned site, unsigned s, unsigned q, int to_top);
 
 /* Puts the trailer behind the records. */
 void file_close(struct file *f);
@@ -54,6 +55,9 @@ void file_shorten(struct old_file *old, const struct file *f);
 /* 256 records over 64 objects, which have three Sets each, some of them made without sight of another. */
 void make_many(struct file *f);      /* of eight sites */
 void make_many_wide(struct file *f); /* of sixteen */
+
+/* 64 objects of sixteen sites, with 64 Sets and 128 layer edits. */
+void make_layers(struct file *f);
 
 /* One object of 64 Sets and 32 versions. */
 void make_settled(struct file *f);  /* two of eight sites dispute five keys; the other 54 Sets have seen all before */

@@ -64,7 +64,7 @@ static unsigned take(struct index *x, uint16_t *objects, uint64_t *groups, const
         entry[0] = (uint16_t)x->records;
         entry[1] = 0;
         entry[2] = 1;
-    } else {
+    } else if (e->kind == SET) {
         unsigned o = index_target(x, e), k = x->sets[o];
         uint16_t *entry = objects + o * ENTRY;
         if (k == SETS) return SPIRESLATE_FULL;

@@ -6,18 +6,19 @@
 
 void index_open(struct index *x, unsigned sites) {
     x->sites = sites;
-    x->records = x->objects = 0;
+    x->records = x->objects = x->layers = 0;
     x->sum = 0;
     memset(x->held, 0, sizeof x->held);
 }
 
 /* Answer 1 to an edit of the right length. */
 static int is_unfit(unsigned sites, const struct edit *e) {
-    if (e->kind != CREATE && e->kind != SET) return 1;
+    if (e->kind != CREATE && e->kind != SET && !is_layer(e->kind)) return 1;
     if (e->site >= sites || e->seq == 0 || e->seq != e->vector[e->site] || e->key >= KEYS) return 1;
     for (unsigned s = sites; s < SITES; s++)
         if (e->vector[s] != 0) return 1;
     if (e->kind == SET) return e->tseq == 0;
+    if (is_layer(e->kind)) return e->tseq == 0 || e->key != 0 || e->value != 0;
     return (e->tsite | e->key | e->tseq) != 0 || e->value != 0;
 }
 
@@ -44,7 +45,7 @@ static int is_torn(const struct index *x, const struct edit *e) {
     return 0;
 }
 
-/* Answer 5 to a Set. */
+/* Answer 5 to a Set or a layer edit. */
 static int is_astray(const struct index *x, const struct edit *e) {
     if (e->tsite >= x->sites || e->tseq > e->vector[e->tsite] || e->tseq > x->held[e->tsite]) return 1;
     return x->edits[x->place[e->tsite][e->tseq]].kind != CREATE;
@@ -58,7 +59,7 @@ unsigned index_judge(const struct index *x, const struct edit *e) {
     next[e->site]++;
     if (is_above(x, e->vector, next)) return SPIRESLATE_EARLY;
     if (is_torn(x, e)) return SPIRESLATE_TORN;
-    if (e->kind == SET && is_astray(x, e)) return SPIRESLATE_ASTRAY;
+    if (e->kind != CREATE && is_astray(x, e)) return SPIRESLATE_ASTRAY;
     return SPIRESLATE_DONE;
 }
 
@@ -81,9 +82,11 @@ void index_add(struct index *x, const struct edit *e) {
         x->object[i] = (uint8_t)o;
         x->create[o] = (uint16_t)i;
         x->sets[o] = 0;
-    } else {
+    } else if (e->kind == SET) {
         unsigned o = index_target(x, e);
         x->set[o][x->sets[o]++] = (uint16_t)i;
+    } else {
+        x->layer[x->layers++] = (uint16_t)i;
     }
 }
 
@@ -115,7 +118,8 @@ static int walk(struct index *x, const uint8_t *records, unsigned n, unsigned ob
         struct edit e;
         memcpy(&e, records + i * SPIRESLATE_PLACE, sizeof e);
         if (index_judge(x, &e) != SPIRESLATE_DONE) return 0;
-        if (e.kind == CREATE ? x->objects == objects : x->sets[index_target(x, &e)] == SETS) return 0;
+        if (e.kind == CREATE && x->objects == objects) return 0;
+        if (e.kind == SET && x->sets[index_target(x, &e)] == SETS) return 0;
         index_add(x, &e);
     }
     return x->objects == objects;

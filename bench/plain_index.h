@@ -5,7 +5,8 @@
 
 #include "spireslate.h"
 
-enum { CREATE = 1, SET = 2, RECORDS = 256, OBJECTS = 64, SETS = 64, GROUPS = 32, KEYS = 16, ENTRY = 3 };
+enum { CREATE = SPIRESLATE_CREATE, SET = SPIRESLATE_SET, TOP = SPIRESLATE_TOP, BOTTOM = SPIRESLATE_BOTTOM };
+enum { RECORDS = 256, OBJECTS = 64, SETS = 64, GROUPS = 32, KEYS = 16, ENTRY = 3 };
 enum { SITES = SPIRESLATE_SITES, SQUARE = 8, SQUARE_KEYS = 2 };
 
 /* An edit as its record lays it out, so that copying the bytes decodes it on a little-endian processor. */
@@ -39,7 +40,11 @@ struct index {
     uint16_t create[OBJECTS];           /* the place of the object's Create */
     uint16_t sets[OBJECTS];             /* how many Sets the object has */
     uint16_t set[OBJECTS][SETS];        /* and their places, in the order of arrival */
+    unsigned layers;                    /* how many layer edits there are */
+    uint16_t layer[RECORDS];            /* and their places */
 };
+
+static inline int is_layer(unsigned kind) { return kind == TOP || kind == BOTTOM; }
 
 /* The three tables are of their lengths. */
 static inline int lengths_right(size_t records, size_t objects, size_t groups) {
@@ -55,7 +60,7 @@ unsigned index_judge(const struct index *x, const struct edit *e);
 /* Takes the edit in the last place but counted, which none of 1 to 6 is given to, into the index. */
 void index_add(struct index *x, const struct edit *e);
 
-/* The object that a Set without refusal has as its target. */
+/* The object that an edit without refusal has as its target. */
 static inline unsigned index_target(const struct index *x, const struct edit *e) {
     return x->object[x->place[e->tsite][e->tseq]];
 }

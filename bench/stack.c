@@ -8,7 +8,7 @@
 
 #include "inputs.h"
 
-enum { PAINTED = 1 << 20, MARGIN = 4096, FILES = 5, ROW = 32 };
+enum { PAINTED = 1 << 20, MARGIN = 4096, FILES = 6, ROW = 32 };
 
 static _Alignas(64) uint8_t painted[PAINTED];
 static uint8_t *stack_pointer; /* with which the call was made */
@@ -177,6 +177,7 @@ int main(int argc, char **argv) {
     make_disputed(&files[2]);
     make_many_wide(&files[3]);
     make_wide(&files[4]);
+    make_layers(&files[5]);
     for (line = 0; line <= SPIRESLATE_SITES + 1; line++) measure(OPEN);
     for (unsigned i = 0; i < FILES; i++) measure_file(&files[i]);
     measure_crowded();

@@ -22,7 +22,7 @@ enum {
     SPIRESLATE_REPEATED = 2,      /* as many edits of that site are held already */
     SPIRESLATE_EARLY = 3,         /* an edit that it has seen is not held yet */
     SPIRESLATE_TORN = 4,          /* an edit that it has seen has seen more of some site */
-    SPIRESLATE_ASTRAY = 5,        /* the Set's target is not a Create that it has seen; or no such Create is held */
+    SPIRESLATE_ASTRAY = 5,        /* the target is not a Create that the edit has seen; or no such Create is held */
     SPIRESLATE_FULL = 6,          /* 256 records, 64 objects or 64 Sets of the object are held */
     SPIRESLATE_CROWDED = 7,       /* the object would have, or has, more than 32 versions */
     SPIRESLATE_UNSOUND = 8,       /* the tables are unsound, or not of their lengths */
@@ -32,6 +32,9 @@ enum {
     SPIRESLATE_NO_LINE = 12,      /* the list has no line of that number */
     SPIRESLATE_TOO_MANY_SETS = 18 /* the object has more than 20 Sets */
 };
+
+/* The kinds of edit records. The last two are layer edits: they put a box above or below the others in the list. */
+enum { SPIRESLATE_CREATE = 1, SPIRESLATE_SET = 2, SPIRESLATE_TOP = 4, SPIRESLATE_BOTTOM = 5 };
 
 /* Lengths: of the three tables and of an output of groups in elements, all others in bytes. */
 enum {

@@ -172,7 +172,7 @@ def taken(t, drawing, new, record):
     rows = [row(t, k) for k in range(t.objects)]
     if new.kind == rules.CREATE:
         rows.append((0,))
-    else:
+    elif new.kind == rules.SET:
         k = [rules.name(c) for c in creates].index(new.target)
         rows[k] = stepped(rows[k], drawing.sets(new.target), new)
         if len(rows[k]) > VERSIONS:
@@ -255,7 +255,8 @@ def written(t, output, start):
 def lines(t):
     """All lines of sound tables, as bytes."""
     drawing = rules.Drawing(t.sites, sound_edits(t))
-    boxes = sorted(((c, row(t, k)) for k, c in enumerate(drawing.creates())), key=lambda box: rules.rank(box[0]))
+    rows = {rules.name(c): row(t, k) for k, c in enumerate(drawing.creates())}
+    boxes = [(c, rows[rules.name(c)]) for c in drawing.ordered()]
     members = [(c, [[i for i in range(SETS) if g >> i & 1] for g in groups]) for c, groups in boxes]
     return [line.encode() + b"\n" for line in drawing.lines_of(members)]
 

@@ -2,7 +2,7 @@
 from independent_tables import (ENTRY, OBJECTS, PLACE, RECORD, RECORDS, SETS, SITES, VERSIONS, Tables, as_numbers,
                                 built, history, replayed, row, rules, sound_edits)
 from random_files import disputed, edited, full, no_kind, pairs
-from stored import KEY, OLD_SITES, TARGET_SEQ, TARGET_SITE, VECTOR, old
+from stored import KEY, OLD_SITES, TARGET_SEQ, TARGET_SITE, VALUE, VECTOR, old
 from stored import record as stored_record
 
 BYTE, HALF, LARGEST = 1 << 8, 1 << 16, (1 << 64) - 1
@@ -28,7 +28,8 @@ def random_drawing(rng):
         made, sites = full(*rng.choice(((257, 5, 64), (257, 64, 3), (65, 65, 0), (80, 2, 65)))), 1
     else:
         sites = rng.randint(1, rng.choice((OLD_SITES, SITES)))
-        made = edited(rng, sites, rng.randrange(8, 60), rng.choice((1, 2, 4, 16)), rng.choice((2, 3, 1 << 32)))
+        made = edited(rng, sites, rng.randrange(8, 60), rng.choice((1, 2, 4, 16)), rng.choice((2, 3, 1 << 32)),
+                      rng.choice((0.0, 0.1, 0.4)))
     # a site more than there are authors, where it can be
     return min(SITES, sites + rng.choice((0, 1, 1))), [e[2] for e in made]
 
@@ -83,9 +84,11 @@ def malformed(rng, n, record):
                {2: record[2] + 1}, {own + 1: 1}, {KEY: rng.choice((16, 255))}]
     if n < SITES:
         choices.append({VECTOR + 2 * rng.randrange(n, SITES) + rng.randrange(2): rng.randrange(1, BYTE)})
-    if record[0] == rules.SET:
+    if record[0] in rules.AIMED:
         choices.append({TARGET_SEQ: 0, TARGET_SEQ + 1: 0})
-    else:
+    if record[0] in rules.LAYERS:
+        choices.append({rng.choice((KEY, *range(VALUE, 0))): rng.randrange(1, 16)})
+    if record[0] == rules.CREATE:
         choices.append({rng.randrange(TARGET_SITE, 0): rng.randrange(1, BYTE)})
     return altered(record, rng.choice(choices))
 
@@ -100,11 +103,14 @@ def lowered(rng, record):
 
 
 def astray(rng, record):
-    """The record as a Set of what is no Create that it has seen: another site, itself, a later edit, a Set."""
+    """The record as a Set or a layer edit of what is no Create that it has seen: another site, itself, a later edit, a
+    Set."""
     site, seq = record[TARGET_SITE], record[TARGET_SEQ]
     target = rng.choice(((250, 1), (record[1], record[2]), (site, seq + 1), (site, 200),
                          (rng.randrange(SITES), rng.randrange(1, 9))))
-    return altered(record, {0: rules.SET, TARGET_SITE: target[0], TARGET_SEQ: target[1] or 1})
+    kind = rng.choice(rules.AIMED)
+    empty = {at: 0 for at in (KEY, *range(VALUE, 0))} if kind in rules.LAYERS else {}
+    return altered(record, {0: kind, TARGET_SITE: target[0], TARGET_SEQ: target[1] or 1, **empty})
 
 
 def late(rng, t):

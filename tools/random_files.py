@@ -1,7 +1,7 @@
 """Random stored drawings in both forms: laptops that edit and merge, orders of one set of edits, and damage of every
 kind."""
-from stored import (CREATE, KEY, LONG, OLD, OLD_RECORD, OLD_SITES, RECORD, SET, SITES, TARGET_SEQ, TARGET_SITE, VECTOR,
-                    block, forms, old, record, trailer)
+from stored import (BOTTOM, CREATE, KEY, LONG, OLD, OLD_RECORD, OLD_SITES, RECORD, SET, SITES, TARGET_SEQ, TARGET_SITE,
+                    TOP, VECTOR, block, forms, old, record, trailer)
 
 
 class Edits:
@@ -25,8 +25,8 @@ class Edits:
         self.boxes[to] = sorted(set(self.boxes[to]) | set(self.boxes[source]))
 
 
-def edited(rng, sites, steps, keys, values):
-    """Laptops that edit and merge at random."""
+def edited(rng, sites, steps, keys, values, layers=0.0):
+    """Laptops that edit and merge at random; this part of the edits of a box are layer edits."""
     edits = Edits(sites)
     for _ in range(steps):
         site = rng.randrange(sites)
@@ -34,6 +34,8 @@ def edited(rng, sites, steps, keys, values):
             edits.make(site, CREATE)
         elif rng.random() < 0.3:
             edits.merge(site, rng.randrange(sites))
+        elif rng.random() < layers:
+            edits.make(site, rng.choice((TOP, BOTTOM)), rng.choice(edits.boxes[site]))
         else:
             # near values too, some of them in one square of the grid
             value = rng.randrange(values) * rng.choice((1, 5, 8)) % (1 << 32)
@@ -95,9 +97,9 @@ def full(records, boxes, sets):
     return edits.made
 
 
-def no_kind(rng):
-    """A first byte that no record has."""
-    return rng.choice((0, 3, 4, 5, rng.randrange(3, 256)))
+def no_kind(rng, form=LONG):
+    """A first byte that no record in this form has."""
+    return rng.choice((0, 3, rng.randrange(6, 256)) + ((TOP, BOTTOM) if form == OLD else ()))
 
 
 def damaged(rng, sites, records, form):
@@ -124,7 +126,7 @@ def damaged(rng, sites, records, form):
         bad[TARGET_SITE], bad[TARGET_SEQ] = rng.choice((
             (bad[TARGET_SITE], bad[TARGET_SEQ] + 1 & 255), (250, 1), (bad[1], bad[2]), (bad[TARGET_SITE], 0)))
     elif kind == 8:
-        bad[0] = no_kind(rng)
+        bad[0] = no_kind(rng, form)
     else:
         return bad_trailer(rng, sites, records, form)
     records[i] = bytes(bad)
@@ -186,11 +188,12 @@ def random_file(rng):
     elif shape < 0.25:
         made = disputed(rng, sites, rng.choice((1, 3, 4)), rng.choice((3, 99)))
     else:
-        made = edited(rng, sites, rng.randrange(1, 60), rng.choice((1, 2, 4, 16)), rng.choice((1, 2, 3, 1 << 32)))
-    form = rng.choice(forms(sites))
+        made = edited(rng, sites, rng.randrange(1, 60), rng.choice((1, 2, 4, 16)), rng.choice((1, 2, 3, 1 << 32)),
+                      rng.choice((0.0, 0.0, 0.1, 0.5)))
+    records = [e[2] for e in made]
+    form = rng.choice(forms(sites, records))
     if not made:
         return block(sites, [], form), None
-    records = [e[2] for e in made]
     if shape >= 0.13 and rng.random() < 0.5:
         return damaged(rng, sites, records, form), None
     stored = block(sites, records, form)

@@ -9,9 +9,11 @@ OLD, LONG = 0, 1
 FORM = -5
 CREATE = 1
 SET = 2
+TOP = 4
+BOTTOM = 5
 # where the vector starts; and the last eight bytes, from the end, so that they are the same in both forms
 VECTOR = 4
-TARGET_SITE, KEY, TARGET_SEQ = -8, -7, -6
+TARGET_SITE, KEY, TARGET_SEQ, VALUE = -8, -7, -6, -4
 
 
 def record(kind, site, vector, target=(0, 0), key=0, value=0):
@@ -30,9 +32,10 @@ def word_sum(records):
     return sum(sum(struct.unpack("<%dI" % (RECORD // 4), r)) for r in records) % (1 << 32)
 
 
-def forms(sites):
-    """The forms that a drawing of so many sites can be stored in."""
-    return (OLD, LONG) if sites <= OLD_SITES else (LONG,)
+def forms(sites, records):
+    """The forms that a drawing of so many sites with these records can be stored in."""
+    has_old = sites <= OLD_SITES and all(r[0] in (CREATE, SET) for r in records)
+    return (OLD, LONG) if has_old else (LONG,)
 
 
 def trailer(number, sites, form=LONG, distance=None):

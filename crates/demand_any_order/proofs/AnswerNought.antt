@@ -13,7 +13,7 @@ use Rattle.math_lists.proofs.Booleans.{clash, off, neither, or-off, then-off, o
 use Rattle.math_lists.proofs.NumbersBelow.{some-off}
 use Rattle.edit_record.specs.declared.Edit.{Edit}
 use Rattle.edit_record.specs.Layout.{mostSites}
-use Rattle.edit_record.specs.Answer1.{isCreate, isSet, unfit}
+use Rattle.edit_record.specs.Answer1.{isCreate, isSet, isAimed, unfit}
 use Rattle.edit_history.specs.EditsHeld.{countFrom, creates, setsOn, isTarget, mostRecords}
 use Rattle.edit_history.specs.Answers2to5.{isRepeated, isEarly, tears, isTorn, isAstray}
 use Rattle.edit_history.proofs.RecordsPassed.{InTurn, in-turn}
@@ -29,7 +29,7 @@ pub record Fine (n : ℕ) (es : List Edit) (e : Edit) : Type 0 where
   pub fit : unfit n e ≡ false
   pub inTurn : InTurn n es e
   pub whole : (a : Edit) → Mem a es → tears e a ≡ false
-  pub aimed : isSet e ≡ true → (c : Edit) × Mem c es × (isTarget e c ≡ true)
+  pub aimed : isAimed e ≡ true → (c : Edit) × Mem c es × (isTarget e c ≡ true)
   pub room : length es < mostRecords
   pub create-room : isCreate e ≡ true → length (creates es) < mostObjects
   pub set-room : isSet e ≡ true → length (setsOn (e .tsite) (e .tseq) es) < mostSets
@@ -63,7 +63,7 @@ module _ (n : ℕ) (es : List Edit) (e : Edit) where
         whole = λ a m. off (tears e a) (λ t. clash (any-on (tears e) m t) (no 3));
         aimed =
             λ k. any-at (isTarget e) es
-            (not-false (any (isTarget e) es) (then-off (isSet e) (not (any (isTarget e) es)) k (no 4)));
+            (not-false (any (isTarget e) es) (then-off (isAimed e) (not (any (isTarget e) es)) k (no 4)));
         room = leb-false mostRecords (length es) r;
         create-room = λ k. leb-false mostObjects (length (creates es)) (then-off (isCreate e) _ k c);
         set-room = λ k. leb-false mostSets (length (setsOn (e .tsite) (e .tseq) es)) (then-off (isSet e) _ k s);
@@ -95,7 +95,7 @@ module _ (n : ℕ) (es : List Edit) (e : Edit) where
     not-astray : isAstray es e ≡ false
     unfolding isAstray
     not-astray =
-        off-where (isSet e) (not (any (isTarget e) es))
+        off-where (isAimed e) (not (any (isTarget e) es))
         (λ k. let (c, m, a) = f .aimed k in rw (any-on (isTarget e) m a))
 
     not-full : fullOver es e ≡ false

@@ -13,7 +13,8 @@ use Rattle.math_lists.proofs.Booleans.{decide, then-off}
 use Rattle.edit_record.specs.declared.Edit.{Edit}
 use Rattle.edit_record.specs.Layout.{recordLength}
 use Rattle.edit_record.specs.RecordBytes.{decodeOf}
-use Rattle.edit_record.specs.Answer1.{isSet, unfit, malformed}
+use Rattle.edit_record.specs.Answer1.{isSet, isAimed, unfit, malformed}
+use Rattle.edit_record.proofs.WellFormed.{set-aimed}
 use Rattle.edit_history.specs.EditsHeld.{recordAt, editsOf, isTarget, objectOf}
 use Rattle.edit_history.specs.Answers2to5.{isRepeated, isEarly, isTorn, isAstray}
 use Rattle.edit_history.proofs.EditsHeld.{edits-length}
@@ -49,7 +50,7 @@ module _ (t : Tables) (f : Faithful t) where
   crowded-over e h = elim (decide (isSet e)) [
     | inl k ↦
         (let held? = any (isTarget e) (heldBy t) in
-        let aim = not-false held? (then-off (isSet e) (not held?) k h) in
+        let aim = not-false held? (then-off (isAimed e) (not held?) (set-aimed e k) h) in
         let s = f .kept .isSound in
         let c = recordAt (t .records) (placeAt (t .objects) (objectOf e (heldBy t))) in
         crowded-exactly t f e k aim

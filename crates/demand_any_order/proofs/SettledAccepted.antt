@@ -16,15 +16,14 @@ use native.Mathlib.Omega.{arith}
 use native.Mathlib.Decide.{decLt}
 use lib.ListN.{length, getD, length-append}
 use lib.Seq.{append-snoc}
-use borrow.Author.Tests.{eqb-true}
 use Rattle.math_lists.specs.SortedLists.{filter}
 use Rattle.math_lists.proofs.Booleans.{clash, off}
 use Rattle.edit_record.specs.declared.Site.{Site}
 use Rattle.edit_record.specs.declared.Seq.{Seq}
 use Rattle.edit_record.specs.declared.Edit.{Edit}
-use Rattle.edit_record.specs.Layout.{mostSites, createKind, setKind}
-use Rattle.edit_record.specs.Answer1.{isCreate, isSet}
-use Rattle.edit_record.proofs.WellFormed.{WellFormed, well-formed}
+use Rattle.edit_record.specs.Layout.{mostSites}
+use Rattle.edit_record.specs.Answer1.{isCreate, isSet, isAimed}
+use Rattle.edit_record.proofs.WellFormed.{WellFormed, well-formed, set-aimed, aimed-not-create}
 use Rattle.edit_causal.specs.Causal.{sameEdit, hasSeen}
 use Rattle.edit_causal.proofs.CausalLaws.{same-reflexive}
 use Rattle.edit_history.specs.EditsHeld.{countFrom, creates, isSetOn, setsOn}
@@ -115,7 +114,7 @@ module _ (n : ℕ) (few : n ≤ mostSites) (es : List Edit) (s : Settled n es) (
 
       -- ---- its object
 
-      module _ (k : isSet e ≡ true) where
+      module _ (k : isAimed e ≡ true) where
         abbrev target : Edit
         target = s .aimed e self k .0
 
@@ -131,20 +130,19 @@ module _ (n : ℕ) (few : n ≤ mostSites) (es : List Edit) (s : Settled n es) (
         differs : Differ target e
         differs = off (sameEdit (target .site) (target .seq) (e .site) (e .seq)) (λ h.
             let one = one-edit es (s .apart) target e (s .aimed e self k .1) self h in
-            let kinds : target .kind ≡ e .kind = ap (λ (x : Edit). x .kind) one in
-            omega (arith, eqb-true (target .kind) createKind (parts .create), eqb-true (e .kind) setKind k))
+            clash (sym (ap isCreate one) ∙ parts .create) (aimed-not-create e k))
 
         target-prior : Mem target xs
         target-prior = prior target (s .aimed e self k .1) differs (parts .seen)
 
-        sets-room : length (setsOn (e .tsite) (e .tseq) xs) < mostSets
-        sets-room =
+        sets-room : isSet e ≡ true → length (setsOn (e .tsite) (e .tseq) xs) < mostSets
+        sets-room set =
             let bound : length (setsOn (e .tsite) (e .tseq) es) ≤ mostSets
             = subst (λ (m : ℕ). m ≤ mostSets) (ap₂ (λ (x : Site) (y : Seq). length (setsOn x y es)) its-site its-seq)
             (s .few-sets target (s .aimed e self k .1) (parts .create)) in
             let more : length (setsOn (e .tsite) (e .tseq) xs) < length (setsOn (e .tsite) (e .tseq) es)
             = unfold setsOn in rw q
-            (chosen-more (isSetOn (e .tsite) (e .tseq)) xs ys e (rw (k, same-reflexive (e .tsite) (e .tseq)))) in
+            (chosen-more (isSetOn (e .tsite) (e .tseq)) xs ys e (rw (set, same-reflexive (e .tsite) (e .tseq)))) in
             omega arith
 
         groups-room : length (trueGroups front (named e)) ≤ mostGroups
@@ -172,8 +170,8 @@ module _ (n : ℕ) (few : n ≤ mostSites) (es : List Edit) (s : Settled n es) (
               ap (λ (l : List Edit). length (filter isCreate l)) q,
               chosen-more isCreate xs ys e k,
             );
-        set-room = sets-room;
-        few = groups-room;
+        set-room = λ k. sets-room (set-aimed e k) k;
+        few = λ k. groups-room (set-aimed e k);
       }
 
   -- ---- the whole list

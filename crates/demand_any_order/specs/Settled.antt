@@ -10,7 +10,7 @@ use lib.Dec.{leb, ltb}
 use Rattle.math_lists.specs.SortedLists.{Asc}
 use Rattle.edit_record.specs.declared.Edit.{Edit}
 use Rattle.edit_record.specs.Layout.{mostSites, createKind}
-use Rattle.edit_record.specs.Answer1.{isCreate, isSet, unfit}
+use Rattle.edit_record.specs.Answer1.{isCreate, isSet, isAimed, unfit}
 use Rattle.edit_causal.specs.Causal.{sameEdit, comesBefore}
 use Rattle.edit_history.specs.EditsHeld.{creates, setsOn, isTarget, mostRecords}
 use Rattle.edit_history.specs.Answers2to5.{isRepeated, isEarly, tears, isTorn, isAstray}
@@ -92,8 +92,8 @@ pub record Settled (n : ℕ) (es : List Edit) : Type 0 where
       (a : Edit) × Mem a es × (a .site .0 ≡ s) × (a .seq .0 ≡ q)
   -- no vector is torn
   pub whole : (a e : Edit) → Mem a es → Mem e es → tears e a ≡ false
-  -- a Set has seen its Create
-  pub aimed : (e : Edit) → Mem e es → isSet e ≡ true → (c : Edit) × Mem c es × (isTarget e c ≡ true)
+  -- a Set or a layer edit has seen its Create
+  pub aimed : (e : Edit) → Mem e es → isAimed e ≡ true → (c : Edit) × Mem c es × (isTarget e c ≡ true)
   pub few-records : length es ≤ mostRecords
   pub few-objects : length (creates es) ≤ mostObjects
   pub few-sets : (c : Edit) → Mem c es → isCreate c ≡ true → length (setsOn (c .site) (c .seq) es) ≤ mostSets

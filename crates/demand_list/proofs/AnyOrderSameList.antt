@@ -1,96 +1,52 @@
 -- Demand 3: the records of an accepted replay, in any order that keeps each after those that its author had seen, are
 -- accepted too and give the same printed list, byte for byte. Assumes 1 to 16 sites.
 use mathlib.Core.Path.{_≡_, sym, ap, ap₂, _∙_}
-use mathlib.Core.Logic.{inl, inr}
-use mathlib.Core.Bool.{true}
-use mathlib.Core.List.{List, [], _∷_, flatMap, List·Memᴰ·not-nil}
+use mathlib.Core.List.{List, _∷_, flatMap}
 use Prim.Native.Nat.{ℕ, _≤_}
 use lib.ListN.{length}
-use Rattle.math_lists.specs.SortedLists.{any, Asc, gatherBy}
-use Rattle.math_lists.proofs.Booleans.{clash}
-use Rattle.math_lists.proofs.SortedLists.{asc-unique}
-use Rattle.math_lists.proofs.PutInOrder.{any-gathered, OneWay, gathered-sorted}
 use Rattle.edit_record.specs.declared.Edit.{Edit}
 use Rattle.edit_record.specs.Layout.{mostSites}
 use Rattle.edit_record.specs.Answer1.{isCreate}
-use Rattle.edit_causal.specs.TotalOrder.{ranksBefore}
 use Rattle.edit_history.specs.EditsHeld.{creates}
 use Rattle.edit_sum.specs.SumOfEdits.{sumOver}
 use Rattle.table_drawing.specs.Tables.{Tables, heldBy}
 use Rattle.table_replay.specs.Replay.{replayOf, editsIn}
 use Rattle.table_replay.proofs.ReplayFaithful.{replay-faithful}
-use Rattle.demand_any_order.specs.Rearranged.{Mem, Rearranged, recordsOf}
+use Rattle.demand_any_order.specs.Rearranged.{Rearranged, recordsOf}
 use Rattle.demand_any_order.specs.Settled.{Causal, Apart}
-use Rattle.demand_any_order.specs.EqualEdits.{isEqual}
-use Rattle.demand_any_order.proofs.Rearranged.{turned, same-length, same-members, chosen-rearranged}
+use Rattle.demand_any_order.proofs.Rearranged.{same-length, chosen-rearranged}
 use Rattle.demand_any_order.proofs.SumAnyOrder.{sum-any-order}
-use Rattle.demand_any_order.proofs.PairsInList.{pairs-chosen, pairs-rearranged}
-use Rattle.demand_any_order.proofs.Identities.{has-on, has-at}
 use Rattle.demand_any_order.proofs.ReplayAccepted.{replay-holds}
 use Rattle.demand_any_order.proofs.AnyOrderAccepted.{any-order-accepted}
 use Rattle.demand_any_order.proofs.SameDrawings.{held-rearranged, held-apart}
 use Rattle.list_text.specs.HeadAndRefusal.{headLine}
 use Rattle.list_version.proofs.NeverShared.{held-numbered}
-use Rattle.list_version.proofs.RanksStrict.{not-itself, ranks-through, held-ranked}
+use Rattle.list_version.proofs.RanksStrict.{held-ranked}
 use Rattle.list_line.proofs.AnyOrderLines.{Numbered, any-order-lines}
+use Rattle.list_order.specs.Moves.{layeredOrder}
+use Rattle.list_order.proofs.Deciding.{AllRanked}
+use Rattle.list_order.proofs.Layered.{layered-any-order}
 use Rattle.list_lines.specs.List.{linesOf}
 use Rattle.list_print.specs.Printing.{joined, listOf}
 use Rattle.demand_list.specs.ListOverEdits.{linesIn, versionLines, linesOver}
 use Rattle.demand_list.proofs.FlatMaps.{flat-same}
 use Rattle.demand_list.proofs.ListOverEdits.{lines-over-list}
 
--- ---- edits in the total order
-
-abbrev Ranked : Edit → Edit → Type 0
-Ranked a b = ranksBefore a b ≡ true
-
-sorted : (cs : List Edit) → Asc (OneWay ranksBefore) cs → Asc Ranked (gatherBy ranksBefore [] cs)
-sorted cs a =
-    gathered-sorted ranksBefore ranks-through [] cs tt a
-    (λ x y m w. absurd (List·Memᴰ·not-nil w))
-
-sorted-same : {cs ds : List Edit} → Rearranged cs ds → (x : Edit) → Mem x (gatherBy ranksBefore [] cs) →
-    Mem x (gatherBy ranksBefore [] ds)
-unfolding any
-sorted-same {cs} {ds} r x m =
-    has-at x (gatherBy ranksBefore [] ds)
-    (any-gathered ranksBefore (isEqual x) [] ds
-    ∙ has-on (same-members r x (has-at x cs (sym (any-gathered ranksBefore (isEqual x) [] cs) ∙ has-on m))))
-
-one-way-turned : (a b : Edit) → OneWay ranksBefore a b → OneWay ranksBefore b a
-one-way-turned a b (inl h) = inr h
-one-way-turned a b (inr h) = inl h
-
 -- ---- lists of edits
 
 module _ (es fs : List Edit) (r : Rearranged es fs) (u : Apart es) (small : Numbered es)
-    (ranked : Asc (OneWay ranksBefore) es) where
-  creates-rearranged : Rearranged (creates es) (creates fs)
-  unfolding creates
-  creates-rearranged = chosen-rearranged isCreate r
-
-  same-creates : gatherBy ranksBefore [] (creates es) ≡ gatherBy ranksBefore [] (creates fs)
-  same-creates =
-      let one-way : Asc (OneWay ranksBefore) (creates es)
-      = unfold creates in pairs-chosen (OneWay ranksBefore) isCreate es ranked in
-      asc-unique Ranked (λ x h. clash h (not-itself x)) ranks-through (gatherBy ranksBefore [] (creates es))
-      (gatherBy ranksBefore [] (creates fs)) (sorted (creates es) one-way)
-      (sorted (creates fs)
-      (pairs-rearranged (OneWay ranksBefore) one-way-turned creates-rearranged one-way))
-      (sorted-same creates-rearranged) (sorted-same (turned creates-rearranged))
-
+    (ranked : AllRanked es) where
   same-version-lines : versionLines es ≡ versionLines fs
   unfolding versionLines linesIn
   same-version-lines =
-      flat-same (linesIn es) (linesIn fs) (gatherBy ranksBefore [] (creates es))
-      (λ c m. any-order-lines es fs r u small c)
-      ∙ ap (flatMap (linesIn fs)) same-creates
+      flat-same (linesIn es) (linesIn fs) (layeredOrder es) (λ c m. any-order-lines es fs r u small c)
+      ∙ ap (flatMap (linesIn fs)) (layered-any-order es fs r u ranked)
 
   same-lines-over : (n : ℕ) → linesOver n es ≡ linesOver n fs
-  unfolding linesOver
+  unfolding linesOver creates
   same-lines-over n =
-      ap₂ (λ (k : ℕ) (ls : List (List ℕ)). headLine n k (length ls) (sumOver es) ∷ ls) (same-length creates-rearranged)
-      same-version-lines
+      ap₂ (λ (k : ℕ) (ls : List (List ℕ)). headLine n k (length ls) (sumOver es) ∷ ls)
+      (same-length (chosen-rearranged isCreate r)) same-version-lines
       ∙ ap (λ (k : ℕ). headLine n (length (creates fs)) (length (versionLines fs)) k ∷ versionLines fs)
       (sum-any-order r)
 

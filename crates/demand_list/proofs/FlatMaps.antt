@@ -1,14 +1,13 @@
--- What f makes of each element of a list, one after the other: where only the elements count, and how long it is in an
+-- What f makes of each element of a list, one after the other: where only the elements count, and how long it is in any
 -- order of them. Assumes nothing.
 use mathlib.Core.Path.{_≡_, refl, ap₂, _∙_}
-use mathlib.Core.Bool.{Bool, true, false, cond}
+use mathlib.Core.Bool.{true}
 use mathlib.Core.List.{List, [], _∷_, _++_, map, flatMap, List·Memᴰ·head, List·Memᴰ·tail}
 use Prim.Native.Nat.{ℕ, zero, suc, _+_}
 use native.Mathlib.Omega.{arith}
 use lib.ListN.{length, length-append}
 use Rattle.math_lists.specs.NumbersBelow.{sum, keep}
-use Rattle.math_lists.specs.SortedLists.{insertBy, gatherBy}
-use Rattle.demand_any_order.specs.Rearranged.{Mem}
+use Rattle.demand_any_order.specs.Rearranged.{Mem, Rearranged, none, skip, swap, then}
 
 -- ---- the same elements
 
@@ -39,40 +38,21 @@ module _ {A B : Type 0} (f : A → List B) where
         flat-append xs ys,
       )
 
-  module _ (before : A → A → Bool) where
-    flat-insert :
-        (x : A) (ys : List A) → length (flatMap f (insertBy before x ys)) ≡ length (f x) + length (flatMap f ys)
-    unfolding flatMap insertBy
-    flat-insert x [] = length-append (f x) []
-    flat-insert x (y ∷ ys) = go (before x y) (flat-insert y ys) (flat-insert x ys)
-      where
-        go : (b : Bool) → length (flatMap f (insertBy before y ys)) ≡ length (f y) + length (flatMap f ys) →
-            length (flatMap f (insertBy before x ys)) ≡ length (f x) + length (flatMap f ys) →
-            length (flatMap f (cond b (x ∷ insertBy before y ys) (y ∷ insertBy before x ys)))
-            ≡ length (f x) + length (f y ++ flatMap f ys)
-        go true p q =
-            omega (
-              arith,
-              p,
-              length-append (f x) (flatMap f (insertBy before y ys)),
-              length-append (f y) (flatMap f ys),
-            )
-        go false p q =
-            omega (
-              arith,
-              q,
-              length-append (f y) (flatMap f (insertBy before x ys)),
-              length-append (f y) (flatMap f ys),
-            )
-
-    pub flat-gathered :
-        (sorted xs : List A) →
-        length (flatMap f (gatherBy before sorted xs)) ≡ length (flatMap f sorted) + length (flatMap f xs)
-    unfolding flatMap gatherBy
-    flat-gathered sorted [] = omega arith
-    flat-gathered sorted (x ∷ xs) =
-        flat-gathered (insertBy before x sorted) xs
-        ∙ omega (arith, flat-insert x sorted, length-append (f x) (flatMap f xs))
+  -- in any order of the elements
+  pub flat-rearranged : {xs ys : List A} → Rearranged xs ys → length (flatMap f xs) ≡ length (flatMap f ys)
+  unfolding flatMap
+  flat-rearranged none = refl
+  flat-rearranged (skip {x} {xs} {ys} r) =
+      omega (arith, flat-rearranged r, length-append (f x) (flatMap f xs), length-append (f x) (flatMap f ys))
+  flat-rearranged (swap {x} {y} {xs}) =
+      omega (
+        arith,
+        length-append (f x) (f y ++ flatMap f xs),
+        length-append (f y) (flatMap f xs),
+        length-append (f y) (f x ++ flatMap f xs),
+        length-append (f x) (flatMap f xs),
+      )
+  flat-rearranged (then r s) = flat-rearranged r ∙ flat-rearranged s
 
 pub flat-below :
     {B : Type 0} (f : ℕ → List B) (n : ℕ) → length (flatMap f (keep n (λ i. true))) ≡ sum n (λ i. length (f i))

@@ -1,6 +1,6 @@
 -- The total of the versions in line 0 is the number of the lines that follow it. Assumes nothing.
 use mathlib.Core.Path.{_≡_, ap, _∙_}
-use mathlib.Core.List.{[], flatMap}
+use mathlib.Core.List.{flatMap}
 use Prim.Native.Nat.{ℕ, suc, _*_, _+_, _≤_, _<_}
 use native.Mathlib.Omega.{arith}
 use lib.ListN.{length, length-map}
@@ -14,10 +14,10 @@ use Rattle.table_arrival.proofs.RowsAfterStore.{used-long}
 use Rattle.list_version.specs.VersionOrder.{versionsOf}
 use Rattle.list_line.specs.Line.{versionLine, objectLines}
 use Rattle.list_version.proofs.VersionsSorted.{versions-length}
-use Rattle.list_objects.specs.Objects.{createOf, setsFor, createdBefore, objectsOf}
+use Rattle.list_objects.specs.Objects.{createOf, setsFor, objectsOf}
 use Rattle.list_lines.specs.List.{linesFor, versionTotal, linesOf}
-use Rattle.demand_list.proofs.FlatMaps.{flat-gathered, flat-below}
-use Rattle.demand_list.proofs.ObjectsInOrder.{numbers}
+use Rattle.demand_list.proofs.FlatMaps.{flat-rearranged, flat-below}
+use Rattle.demand_list.proofs.ObjectsInOrder.{objects-rearranged}
 
 module _ (t : Tables) (s : Sound t) where
   -- an object has a line for each of its groups
@@ -31,13 +31,13 @@ module _ (t : Tables) (s : Sound t) where
       ∙ used-long (t .groups) o (setsAt (t .objects) o) (groupsAt (t .objects) o) (s .object o l .row) fits
 
   pub lines-total : length (flatMap (linesFor t) (objectsOf t)) ≡ versionTotal t
-  unfolding objectsOf versionTotal flatMap
+  unfolding versionTotal
   lines-total =
       let m = t .counters .objects in
       let f = linesFor t in
       let total : sum m (λ o. length (f o)) ≡ sum m (groupsAt (t .objects))
       = sum-same m (λ o. length (f o)) (groupsAt (t .objects)) line-each in
-      omega (arith, flat-gathered f (createdBefore t) [] (numbers t), flat-below f m)
+      flat-rearranged f (objects-rearranged t) ∙ flat-below f m ∙ total
 
   pub head-counts-lines : length (linesOf t) ≡ suc (versionTotal t)
   unfolding linesOf

@@ -3,6 +3,7 @@ pub mod ObjectsInOrder
 pub mod HeadTotal
 pub mod ListOverEdits
 pub mod AnyOrderSameList
+pub mod LayersInList
 pub mod OtherBoxes
 pub mod ReplayAnswered
 pub mod WorkedCases

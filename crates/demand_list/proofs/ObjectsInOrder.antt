@@ -1,76 +1,103 @@
--- The objects of sound tables in their order: they are the numbers below the number of objects, their Creates are the
--- Creates held, and each stands before all that follow it. Assumes nothing.
-use mathlib.Core.Path.{_≡_, sym, ap, _∙_}
-use mathlib.Core.Bool.{true}
-use mathlib.Core.List.{List, [], map, List·Memᴰ·not-nil}
+-- The objects of sound tables in their order: they are the numbers below the number of objects, their Creates stand as
+-- those of the edits held, and an edit more leaves all others in their order. Assumes nothing.
+use mathlib.Core.Path.{_≡_, sym, ap₂, subst, _∙_}
+use mathlib.Core.Logic.{inl, inr}
+use mathlib.Core.Bool.{true, false}
+use mathlib.Core.List.{List, [], _∷_, _++_, map}
 use Prim.Native.Nat.{ℕ, _<_}
-use native.Mathlib.Omega.{arith}
+use borrow.Author.Tests.{eq-eqb, eqb-false, not-true}
 use lib.Dec.{eqb}
-use lib.ListN.{length, getD}
-use Rattle.math_lists.specs.NumbersBelow.{keep}
-use Rattle.math_lists.specs.SortedLists.{any, Asc, gatherBy}
-use Rattle.math_lists.proofs.NumbersBelow.{keep-at}
-use Rattle.math_lists.proofs.SortedLists.{keep-ascending}
-use Rattle.math_lists.proofs.Elements.{mem→elem}
-use Rattle.math_lists.proofs.PutInOrder.{any-gathered, OneWay, gathered-sorted, gathered-made}
-use Rattle.edit_causal.specs.TotalOrder.{ranksBefore}
-use Rattle.edit_history.specs.EditsHeld.{editsOf, creates}
-use Rattle.table_drawing.specs.Tables.{Tables, placeAt, heldBy}
+use Rattle.math_lists.specs.SortedLists.{any, filter, Asc}
+use Rattle.math_lists.proofs.Booleans.{clash, decide, off}
+use Rattle.edit_record.specs.declared.Edit.{Edit}
+use Rattle.edit_record.specs.Answer1.{isCreate, isLayer}
+use Rattle.edit_history.specs.EditsHeld.{creates, isTarget, objectOf}
+use Rattle.table_drawing.specs.Tables.{Tables, heldBy}
 use Rattle.table_soundness.proofs.SoundFacts.{Sound}
-use Rattle.edit_record.specs.RecordBytes.{noEdit}
-use Rattle.table_arrival.proofs.ObjectsByNumber.{object-create}
-use Rattle.demand_any_order.specs.Rearranged.{Mem}
-use Rattle.demand_any_order.proofs.PairsInList.{pairs-weaken}
-use Rattle.list_version.proofs.MembersByTest.{all-places, map-keep-same}
-use Rattle.list_version.proofs.RanksStrict.{ranks-through, one-ranks}
-use Rattle.list_objects.specs.Objects.{createOf, createdBefore, objectsOf}
+use Rattle.table_arrival.proofs.ObjectsByNumber.{target-object}
+use Rattle.demand_any_order.specs.Rearranged.{Mem, Rearranged}
+use Rattle.demand_any_order.specs.Settled.{Differ}
+use Rattle.demand_any_order.proofs.Rearranged.{same-members}
+use Rattle.demand_any_order.proofs.Identities.{differ-turned}
+use Rattle.demand_any_order.proofs.PairsInList.{pairs-chosen, pairs-two}
+use Rattle.list_version.proofs.NeverShared.{held-apart}
+use Rattle.list_version.proofs.RanksStrict.{held-ranked}
+use Rattle.list_order.specs.Layers.{isOn, deciding}
+use Rattle.list_order.specs.Moves.{layeredOrder}
+use Rattle.list_order.proofs.Choices.{pairs-unmade}
+use Rattle.list_order.proofs.Standing.{standing-rearranged, chosen-keep-order}
+use Rattle.list_order.proofs.Deciding.{one-aim}
+use Rattle.list_order.proofs.Others.{decides-uncounted, decides-elsewhere}
+use Rattle.list_order.proofs.Held.{numbers, number-below, number-on, creates-are, objects-ranked, objects-layered}
+use Rattle.list_objects.specs.Objects.{createOf, decidingFor, objectsOf}
+use Rattle.demand_list.specs.OtherBoxes.{isOther, othersThan}
 
--- the numbers of the objects
-abbrev pub numbers : Tables → List ℕ
-numbers t = keep (t .counters .objects) (λ o. true)
+-- ---- the objects
 
-pub number-below : (t : Tables) (o : ℕ) → Mem o (numbers t) → o < t .counters .objects
-number-below t o m = keep-at (t .counters .objects) (λ o. true) o (mem→elem m) .0
+pub objects-rearranged : (t : Tables) → Rearranged (objectsOf t) (numbers t)
+unfolding objectsOf
+objects-rearranged t = standing-rearranged (decidingFor t) (numbers t)
 
 pub object-below : (t : Tables) (o : ℕ) → Mem o (objectsOf t) → o < t .counters .objects
-unfolding objectsOf any
-object-below t o m =
-    keep-at (t .counters .objects) (λ o. true) o
-    (sym (any-gathered (createdBefore t) (eqb o) [] (numbers t)) ∙ mem→elem m) .0
+object-below t o m = number-below t o (same-members (objects-rearranged t) o m)
+
+pub creates-ordered : (t : Tables) → Sound t → map (createOf t) (objectsOf t) ≡ layeredOrder (heldBy t)
+unfolding objectsOf
+creates-ordered t s = objects-layered t s
+
+-- ---- the object that an edit names
 
 module _ (t : Tables) (s : Sound t) where
-  -- ---- their Creates
+  objects-differ : Asc (λ a b. Differ (createOf t a) (createOf t b)) (numbers t)
+  objects-differ =
+      pairs-unmade (createOf t) Differ (numbers t)
+      (subst (λ (cs : List Edit). Asc Differ cs) (sym (creates-are t s))
+      (unfold creates in pairs-chosen Differ isCreate (heldBy t) (held-apart t s)))
 
-  creates-are : map (createOf t) (numbers t) ≡ creates (heldBy t)
-  creates-are =
-      map-keep-same (createOf t) (λ o. getD (creates (heldBy t)) o noEdit) (λ o. true) (t .counters .objects)
-      (λ o l h. sym (object-create t s noEdit o l))
-      ∙ ap (λ (n : ℕ). map (λ o. getD (creates (heldBy t)) o noEdit) (keep n (λ o. true))) (s .objects)
-      ∙ all-places noEdit (creates (heldBy t))
+  -- it is on no other object
+  pub not-on-others :
+      (e : Edit) → any (isTarget e) (heldBy t) ≡ true → (o : ℕ) → o < t .counters .objects →
+      (o ≡ objectOf e (heldBy t) → ⊥) → isOn (createOf t o) e ≡ false
+  not-on-others e aim o l d =
+      let x = objectOf e (heldBy t) in
+      let (less, target) = target-object t s e aim in
+      let c = createOf t x in
+      let on : isOn c e ≡ true
+      = rw (
+        eq-eqb (e .tsite .0) (c .site .0) (sym (target .site)),
+        eq-eqb (e .tseq .0) (c .seq .0) (sym (target .seq)),
+      ) in
+      off (isOn (createOf t o) e) (λ h.
+      elim (pairs-two (λ a b. Differ (createOf t a) (createOf t b))
+      (λ a b. differ-turned (createOf t a) (createOf t b)) (numbers t) objects-differ o x (number-on t o l)
+      (number-on t x less)) [
+        | inl q ↦ d q
+        | inr w ↦ clash (one-aim (createOf t o) c e h on) w
+      ])
 
-  pub creates-ordered : map (createOf t) (objectsOf t) ≡ gatherBy ranksBefore [] (creates (heldBy t))
-  unfolding objectsOf
-  creates-ordered =
-      gathered-made (createOf t) ranksBefore [] (numbers t) ∙ ap (gatherBy ranksBefore []) creates-are
+-- ---- the others keep their order
 
-  -- ---- sorted
+module _ (t u : Tables) (s : Sound t) (s′ : Sound u) (e : Edit) (held : heldBy u ≡ heldBy t ++ (e ∷ []))
+    (same : (o : ℕ) → o < t .counters .objects → createOf u o ≡ createOf t o) where
+  decides-same :
+      (o : ℕ) → o < t .counters .objects → (isLayer e ≡ true → isOn (createOf t o) e ≡ false) →
+      decidingFor u o ≡ decidingFor t o
+  decides-same o l elsewhere =
+      ap₂ (deciding isLayer) held (same o l)
+      ∙ elim (decide (isLayer e)) [
+        | inl h ↦ decides-elsewhere isLayer (heldBy t) e (held-ranked t s) (createOf t o) (elsewhere h)
+        | inr h ↦ decides-uncounted isLayer (heldBy t) e h (createOf t o)
+      ]
 
-  objects-apart : Asc (OneWay (createdBefore t)) (numbers t)
-  objects-apart =
-      pairs-weaken (λ a b. a < b) (OneWay (createdBefore t)) (numbers t)
-      (λ a b m k l.
-      let x = s .object a (number-below t a m) .entry in
-      let y = s .object b (number-below t b k) .entry in
-      one-ranks (t .counters .sites) (s .few-sites) (t .records) (t .counters .records) (s .pass)
-      (placeAt (t .objects) a) (placeAt (t .objects) b) (x .place) (y .place)
-      (λ e.
-      let one : a ≡ b
-      = sym (x .number) ∙ ap (λ (p : ℕ). length (creates (editsOf (t .records) p))) e ∙ y .number in
-      omega arith))
-      (keep-ascending (t .counters .objects) (λ o. true))
-
-  pub objects-sorted : Asc (λ a b. createdBefore t a b ≡ true) (objectsOf t)
-  unfolding objectsOf
-  objects-sorted =
-      gathered-sorted (createdBefore t) (λ a b c. ranks-through (createOf t a) (createOf t b) (createOf t c)) []
-      (numbers t) tt objects-apart (λ x y m w. absurd (List·Memᴰ·not-nil w))
+  -- where u has no object more but own, and e is on own if it is a layer edit
+  pub others-in-order :
+      (own : ℕ) → filter (isOther own) (numbers u) ≡ filter (isOther own) (numbers t) →
+      ((o : ℕ) → o < t .counters .objects → (o ≡ own → ⊥) → isLayer e ≡ true → isOn (createOf t o) e ≡ false) →
+      othersThan own u ≡ othersThan own t
+  unfolding othersThan objectsOf
+  others-in-order own q elsewhere =
+      chosen-keep-order (isOther own) (decidingFor t) (decidingFor u) (numbers t) (numbers u)
+      (objects-ranked t s isLayer (λ e h. h)) (objects-ranked u s′ isLayer (λ e h. h)) q
+      (λ o m h.
+      let l = number-below t o m in
+      decides-same o l (elsewhere o l (eqb-false o own (not-true (eqb o own) h))))

@@ -1,8 +1,9 @@
--- Demand 3: an accepted edit leaves the lines of every other object as they were, and those objects in their order.
--- Assumes tables that are sound, with a count for each of 16 sites as the code's arrays have.
+-- Demand 3: an accepted edit leaves the lines of every other object as they were, and those objects in their order; a
+-- layer edit leaves the lines of its own object too, and moves it alone. Assumes tables that are sound, with a count
+-- for each of 16 sites as the code's arrays have.
 use mathlib.Core.Path.{_≡_, refl, sym, ap, ap₂, subst, _∙_}
 use mathlib.Core.Bool.{Bool, true, false, not, cond}
-use mathlib.Core.List.{List, [], _∷_, _++_, flatMap, List·Memᴰ·not-nil}
+use mathlib.Core.List.{List, [], _∷_, _++_, flatMap}
 use Prim.Native.Nat.{ℕ, _+_, _≤_, _<_}
 use native.Mathlib.Omega.{arith}
 use native.Mathlib.Numerals.{add-one}
@@ -11,14 +12,12 @@ use lib.ListN.{length, take}
 use lib.Dec.{eqb}
 use borrow.Author.Tests.{eqb-false, not-true}
 use Rattle.math_lists.specs.NumbersBelow.{keep}
-use Rattle.math_lists.specs.SortedLists.{any, filter, insertBy, gatherBy}
+use Rattle.math_lists.specs.SortedLists.{any, filter}
 use Rattle.math_lists.proofs.Booleans.{eqb-self}
-use Rattle.math_lists.proofs.PutInOrder.{gathered-snoc, gathered-same, left-out}
 use Rattle.edit_record.specs.declared.Edit.{Edit}
 use Rattle.edit_record.specs.Layout.{mostSites}
 use Rattle.edit_record.specs.RecordBytes.{decodeOf}
-use Rattle.edit_record.specs.Answer1.{isCreate, isSet}
-use Rattle.edit_causal.specs.TotalOrder.{ranksBefore}
+use Rattle.edit_record.specs.Answer1.{isCreate, isSet, isLayer}
 use Rattle.edit_history.specs.EditsHeld.{recordAt, isSetOn, setsOn, isTarget, objectOf}
 use Rattle.group_step.specs.GroupRows.{row}
 use Rattle.table_drawing.specs.Tables.{Tables, placeAt, heldBy}
@@ -26,37 +25,40 @@ use Rattle.table_drawing.specs.AnswerNumbers.{Outcome, outcomeOf}
 use Rattle.table_soundness.specs.Sound.{sound}
 use Rattle.table_soundness.proofs.SoundFacts.{Sound, sound-at}
 use Rattle.table_arrival.specs.Answers6and7.{matesOf, rowOf, groupsAfter}
-use Rattle.table_arrival.specs.Arrival.{putRecord, putCounts, withCreate, withSet, taken, acceptanceOf, arrivalOf}
-use Rattle.table_arrival.proofs.Admitted.{Accepted, accepted, admitted-target, set-or-create, was-taken}
+use Rattle.table_arrival.specs.Arrival.{putRecord, putCounts, withCreate, withSet, withLayer, taken}
+use Rattle.table_arrival.specs.Arrival.{acceptanceOf, arrivalOf}
+use Rattle.table_arrival.proofs.Admitted.{Accepted, accepted, admitted-target, layer-is-taken, taken-by-kind, was-taken}
 use Rattle.table_arrival.proofs.RecordsOneMore.{put-before}
 use Rattle.table_arrival.proofs.EntriesAfterStore.{counts-place, other-place, other-groups, entry-other}
 use Rattle.table_arrival.proofs.RowsAfterStore.{row-other}
 use Rattle.group_true.proofs.TrueGroups.{sets-same}
 use Rattle.table_arrival.proofs.UntouchedSound.{room, held-after}
-use Rattle.edit_record.proofs.WellFormed.{create-not-set}
+use Rattle.edit_record.proofs.WellFormed.{create-not-set, set-not-create, set-aimed, layer-aimed, aimed-not-create}
+use Rattle.edit_record.proofs.WellFormed.{layer-not-set}
 use Rattle.table_arrival.proofs.ObjectOfSet.{object-less, row-fits}
 use Rattle.table_arrival.proofs.SetKeepsSound.{not-on}
-use Rattle.table_arrival.proofs.ArrivalKeepsSound.{Kept}
+use Rattle.table_arrival.proofs.ArrivalKeepsSound.{Kept, acceptance-keeps}
 use Rattle.demand_any_order.proofs.ListMembers.{chosen-at}
-use Rattle.demand_any_order.proofs.PairsInList.{pairs-weaken}
 use Rattle.list_line.specs.Line.{objectLines}
-use Rattle.list_objects.specs.Objects.{createOf, setsFor, createdBefore, objectsOf}
+use Rattle.list_order.proofs.Choices.{not-chosen-snoc}
+use Rattle.list_order.proofs.Held.{numbers}
+use Rattle.list_objects.specs.Objects.{createOf, setsFor, objectsOf}
 use Rattle.list_lines.specs.List.{linesFor}
 use Rattle.demand_list.specs.OtherBoxes.{ownOf, isOther, othersThan, otherLines}
 use Rattle.demand_list.proofs.FlatMaps.{flat-same}
-use Rattle.demand_list.proofs.ObjectsInOrder.{numbers, number-below, object-below, objects-sorted}
+use Rattle.demand_list.proofs.ObjectsInOrder.{object-below, not-on-others, others-in-order}
 
 -- ---- what an edit e about the object own leaves of the tables t, where they are u after it
 
 pub record Leaves (t u : Tables) (own : ℕ) (e : Edit) : Type 0 where
   pub objects : t .counters .objects ≤ u .counters .objects
+  pub others : filter (isOther own) (numbers u) ≡ filter (isOther own) (numbers t)
   pub creates : (o : ℕ) → o < t .counters .objects → createOf u o ≡ createOf t o
   pub held : heldBy u ≡ heldBy t ++ (e ∷ [])
   pub none :
       (o : ℕ) → o < t .counters .objects → (o ≡ own → ⊥) →
       isSetOn (createOf t o .site) (createOf t o .seq) e ≡ false
   pub row : (o : ℕ) → o < t .counters .objects → (o ≡ own → ⊥) → rowOf u o ≡ rowOf t o
-  pub others : othersThan own u ≡ othersThan own t
 
 module _ (t u : Tables) (own : ℕ) (e : Edit) (l : Leaves t u own e) where
   same-sets : (o : ℕ) → o < t .counters .objects → (o ≡ own → ⊥) →
@@ -71,10 +73,10 @@ module _ (t u : Tables) (own : ℕ) (e : Edit) (l : Leaves t u own e) where
       ap (λ (c : Edit). objectLines c (setsOn (c .site) (c .seq) (heldBy u)) (rowOf u o)) (l .creates o m)
       ∙ ap₂ (objectLines (createOf t o)) (same-sets o m d) (l .row o m d)
 
-  same-others : otherLines own u ≡ otherLines own t
+  same-others : othersThan own u ≡ othersThan own t → otherLines own u ≡ otherLines own t
   unfolding otherLines othersThan
-  same-others =
-      ap (flatMap (linesFor u)) (l .others)
+  same-others in-order =
+      ap (flatMap (linesFor u)) in-order
       ∙ flat-same (linesFor u) (linesFor t) (othersThan own t) (λ o m.
       let (in-t, other) = chosen-at (isOther own) o (objectsOf t) m in
       same-lines o (object-below t o in-t) (eqb-false o own (not-true (eqb o own) other)))
@@ -98,39 +100,9 @@ module _ (t : Tables) (b : List ℕ) (k : Kept t) (a : Accepted t b) where
       put-before (t .records) (t .counters .records) b (a .admitted .whole) (room t b s (k .wide) (a .admitted))
       (placeAt (t .objects) o) (s .object o l .entry .place)
 
-  -- the objects below m stand in one order
-  one-order : (u : Tables) → ((o : ℕ) → o < m → createOf u o ≡ createOf t o) →
-      gatherBy (createdBefore u) [] (numbers t) ≡ objectsOf t
-  unfolding objectsOf
-  one-order u same =
-      gathered-same (createdBefore u) (createdBefore t) (λ o. o < m)
-      (λ x y p q. ap₂ ranksBefore (same x p) (same y q)) [] (numbers t)
-      (λ y w. absurd (List·Memᴰ·not-nil w)) (number-below t)
-
-  as-many : (own : ℕ) (u : Tables) → u .counters .objects ≡ m → ((o : ℕ) → o < m → createOf u o ≡ createOf t o) →
-      othersThan own u ≡ othersThan own t
-  unfolding othersThan objectsOf
-  as-many own u q same =
-      ap (filter (isOther own))
-      (ap (λ (n : ℕ). gatherBy (createdBefore u) [] (keep n (λ o. true))) q ∙ one-order u same)
-
-  -- with one object more they still do
-  one-more : (u : Tables) → u .counters .objects ≡ m + 1 → ((o : ℕ) → o < m → createOf u o ≡ createOf t o) →
-      othersThan m u ≡ othersThan m t
-  unfolding othersThan
-  one-more u q same =
-      let f = isOther m in
-      let ahead : ℕ → ℕ → Bool = createdBefore u in
-      let ordered : objectsOf u ≡ insertBy ahead m (objectsOf t)
-      = unfold objectsOf keep in
-      ap (λ (n : ℕ). gatherBy ahead [] (keep n (λ o. true))) (q ∙ add-one m)
-      ∙ gathered-snoc ahead [] (numbers t) m
-      ∙ ap (insertBy ahead m) (one-order u same) in
-      ap (filter f) ordered
-      ∙ left-out ahead f m (objectsOf t) (ap not (eqb-self m))
-      (pairs-weaken (λ x y. createdBefore t x y ≡ true) (λ x y. ahead x y ≡ true) (objectsOf t)
-      (λ x y p r h. ap₂ ranksBefore (same x (object-below t x p)) (same y (object-below t y r)) ∙ h)
-      (objects-sorted t s))
+  as-many : (own : ℕ) (u : Tables) → u .counters .objects ≡ m →
+      filter (isOther own) (numbers u) ≡ filter (isOther own) (numbers t)
+  as-many own u q = ap (λ (n : ℕ). filter (isOther own) (keep n (λ o. true))) q
 
   -- ---- a Create
 
@@ -146,13 +118,16 @@ module _ (t : Tables) (b : List ℕ) (k : Kept t) (a : Accepted t b) where
     unfolding withCreate
     create-leaves = record {
       objects = omega arith;
+      others =
+          unfold keep in
+          ap (λ (n : ℕ). filter (isOther m) (keep n (λ o. true))) (add-one m)
+          ∙ not-chosen-snoc (isOther m) (numbers t) m (ap not (eqb-self m));
       creates = create-same;
       held = held-after t b s (k .wide) (a .admitted);
       none = λ o l d. rw (create-not-set e c);
       row =
           λ o l d.
           ap (λ (g : ℕ). take g (row o (t .groups))) (entry-other (t .objects) m (t .counters .records) 0 1 o d .2);
-      others = one-more (withCreate t b) refl create-same;
     }
 
   -- ---- a Set
@@ -162,7 +137,7 @@ module _ (t : Tables) (b : List ℕ) (k : Kept t) (a : Accepted t b) where
     x = objectOf e (heldBy t)
 
     abbrev aim : any (isTarget e) (heldBy t) ≡ true
-    aim = admitted-target t b (a .admitted) c
+    aim = admitted-target t b (a .admitted) (set-aimed e c)
 
     abbrev sets : ℕ
     sets = length (matesOf t e) + 1
@@ -186,6 +161,7 @@ module _ (t : Tables) (b : List ℕ) (k : Kept t) (a : Accepted t b) where
     unfolding withSet
     set-leaves = record {
       objects = omega arith;
+      others = as-many x (withSet t b) (omega arith);
       creates = set-same;
       held = held-after t b s (k .wide) (a .admitted);
       none = λ o l d. not-on t b s a c (k .wide) o l d;
@@ -194,7 +170,24 @@ module _ (t : Tables) (b : List ℕ) (k : Kept t) (a : Accepted t b) where
           ap₂ take (other-groups (t .objects) o x sets after d)
           (row-other (t .groups) x (groupsAfter t e) (a .few c) (row-fits t s e aim) o d
           (omega (arith, s .groups-long, s .few-objects)));
-      others = as-many x (withSet t b) (omega arith) set-same;
+    }
+
+  -- ---- a layer edit, whatever object is called its own
+
+  module _ (c : isLayer e ≡ true) (own : ℕ) where
+    layer-same : (o : ℕ) → o < m → createOf (withLayer t b) o ≡ createOf t o
+    unfolding withLayer
+    layer-same o l = create-stays o l
+
+    layer-leaves : Leaves t (withLayer t b) own e
+    unfolding withLayer
+    layer-leaves = record {
+      objects = omega arith;
+      others = as-many own (withLayer t b) (omega arith);
+      creates = layer-same;
+      held = held-after t b s (k .wide) (a .admitted);
+      none = λ o l d. rw (layer-not-set e c);
+      row = λ o l d. refl;
     }
 
 -- ---- an accepted record
@@ -209,11 +202,11 @@ module _ (t : Tables) (k : Kept t) (b : List ℕ) (h : acceptanceOf t b .answer 
       subst (λ (u : Tables). Leaves t u (ownOf t b) (decodeOf b)) (sym q) (go (accepted t b z))
     where
       go : Accepted t b → Leaves t (taken t b) (ownOf t b) (decodeOf b)
-      go a = kinds (isCreate (decodeOf b)) refl
-        where
-          kinds : (x : Bool) → isCreate (decodeOf b) ≡ x → Leaves t (taken t b) (ownOf t b) (decodeOf b)
-          kinds true c = unfold ownOf in rw c (create-leaves t b k a c)
-          kinds false c = unfold ownOf in rw c (set-leaves t b k a (set-or-create t b (a .admitted) c))
+      go a =
+          taken-by-kind t b (a .admitted) (λ u. Leaves t u (ownOf t b) (decodeOf b))
+          (λ c. unfold ownOf in rw c (create-leaves t b k a c))
+          (λ c. unfold ownOf in rw (set-not-create (decodeOf b) c) (set-leaves t b k a c))
+          (λ c. layer-leaves t b k a c (ownOf t b))
 
   -- the lines of another object
   pub other-box-same :
@@ -224,11 +217,30 @@ module _ (t : Tables) (k : Kept t) (b : List ℕ) (h : acceptanceOf t b .answer 
 
   -- the other objects, in their order
   pub other-boxes-in-order : othersThan (ownOf t b) t′ ≡ othersThan (ownOf t b) t
-  other-boxes-in-order = leaves .others
+  other-boxes-in-order =
+      let e = decodeOf b in
+      let (z, q) = was-taken t t′ b (ap (λ (n : ℕ). outcomeOf n t′) (sym h)) in
+      others-in-order t t′ (k .isSound) (acceptance-keeps t b k .isSound) e (leaves .held) (leaves .creates) (ownOf t b)
+      (leaves .others)
+      (λ o l d c.
+      let aimed = layer-aimed e c in
+      not-on-others t (k .isSound) e (admitted-target t b (accepted t b z .admitted) aimed) o l
+      (λ p. d (p ∙ unfold ownOf in rw (aimed-not-create e aimed))))
 
   -- all lines of the others, in their order
   pub other-boxes-same : otherLines (ownOf t b) t′ ≡ otherLines (ownOf t b) t
-  other-boxes-same = same-others t t′ (ownOf t b) (decodeOf b) leaves
+  other-boxes-same = same-others t t′ (ownOf t b) (decodeOf b) leaves other-boxes-in-order
+
+  -- all lines of every object, where the record is a layer edit
+  pub layer-leaves-lines :
+      isLayer (decodeOf b) ≡ true → (o : ℕ) → o < t .counters .objects → linesFor t′ o ≡ linesFor t o
+  layer-leaves-lines c o l =
+      let (z, q) = was-taken t t′ b (ap (λ (n : ℕ). outcomeOf n t′) (sym h)) in
+      let after : t′ ≡ withLayer t b = q ∙ sym (layer-is-taken t b c) in
+      let none = t .counters .objects in
+      ap (λ (u : Tables). linesFor u o) after
+      ∙ same-lines t (withLayer t b) none (decodeOf b) (layer-leaves t b k (accepted t b z) c none) o l
+      (λ e. omega arith)
 
 -- ---- a call of the editor
 

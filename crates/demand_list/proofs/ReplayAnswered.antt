@@ -1,12 +1,12 @@
--- The answer of a replay from the list of its edits alone, record by record, and where a refusal stands. Assumes a right
--- number of sites, and records of the right length.
+-- The answer of a replay from the list of its edits alone, record by record, and where a refusal stands. Assumes a
+-- right number of sites, and records of the right length.
 use mathlib.Core.Logic.{inl, inr}
 use mathlib.Core.Path.{_≡_, refl, sym, ap, ap₂, _∙_}
 use mathlib.Core.Bool.{Bool, true, false, cond}
 use mathlib.Core.List.{List, [], _∷_, _++_}
 use Prim.Native.Nat.{ℕ, zero, suc, _+_, _≤_, _<_}
 use native.Mathlib.Omega.{arith}
-use lib.ListN.{length, getD, take, List·getD-append}
+use lib.ListN.{length, getD, take, length-append, List·getD-append}
 use lib.Seq.{take-suc, getD-append-add}
 use Rattle.math_lists.proofs.LastBelow.{last}
 use lib.Dec.{eqb}
@@ -20,7 +20,6 @@ use Rattle.table_arrival.specs.Answers6and7.{answerTo}
 use Rattle.table_arrival.specs.Arrival.{acceptanceOf}
 use Rattle.table_replay.specs.Replay.{oneMore, replayOf, editsIn}
 use Rattle.table_replay.proofs.ReplayFaithful.{replay-faithful}
-use Rattle.table_replay.proofs.RoomForAll.{edits-in-length}
 use Rattle.demand_any_order.specs.Settled.{listAnswer}
 use Rattle.demand_any_order.proofs.ReplayAccepted.{next-answer, replay-holds}
 use Rattle.list_lines.specs.List.{linesOf}
@@ -69,6 +68,12 @@ module _ (sites : ℕ) (rs : ℕ → List ℕ) (k : ℕ) where
       go e = rw e
 
 -- ---- over the edits
+
+edits-in-length : (rs : ℕ → List ℕ) (n : ℕ) → length (editsIn rs n) ≡ n
+unfolding editsIn
+edits-in-length rs zero = refl
+edits-in-length rs (suc n) =
+    omega (arith, length-append (editsIn rs n) (decodeOf (rs n) ∷ []), edits-in-length rs n)
 
 edits-in-at : (rs : ℕ → List ℕ) (n k : ℕ) → k < n → getD (editsIn rs n) k noEdit ≡ decodeOf (rs k)
 unfolding editsIn

@@ -35,6 +35,8 @@ use Rattle.list_version.specs.Identifier.{identifierOf}
 use Rattle.list_version.specs.Values.{later, lastAfter, lastWith}
 use Rattle.list_version.specs.VersionOrder.{lex, isAhead, versionsOf}
 use Rattle.list_line.specs.Line.{identifierText, settingText, settingsText, versionLine, objectLines}
+use Rattle.list_order.specs.Layers.{inOrder, lastOn, deciding, standing}
+use Rattle.list_order.specs.Moves.{orderBy, layeredOrder}
 use Rattle.demand_list.specs.ListOverEdits.{linesIn, versionLines, linesOver}
 use Rattle.demand_list.specs.WorkedCases.{Expected, refused, prints, Case, bytesOf, sites, recordBytes, Meets}
 use Rattle.demand_list.specs.WorkedCases.{Holds, AllHold, cases}
@@ -143,11 +145,11 @@ _also_ a b = (a, b)
 -- P10 to P12, and the example of 'The printed list'
 computed-last : AllComputed (drop 14 cases)
 unfolding cases bytesOf flatMap countBytes counts editsIn longFrom answerOver listAnswer firstOf unfit nonzeroPast
-    isRepeated isEarly countFrom isTorn largerSomewhere isAstray fullOver crowdedOver some all sum keep any filter creates
-    setsOn trueGroups groupsOf groups isMaximal fits rel bit linesOver versionLines linesIn gatherBy insertBy
-    gather insert vectorSum objectLines versionsOf isAhead lex identifierOf membersOf isDisputed versionLine
-    identifierText settingsText settingText lastWith lastAfter later headLine decimal lastDigits
-    sumOver wordsOver wordsIn
+    isRepeated isEarly countFrom isTorn largerSomewhere isAstray fullOver crowdedOver some all sum keep any filter
+    creates setsOn trueGroups groupsOf groups isMaximal fits rel bit linesOver versionLines linesIn layeredOrder orderBy
+    standing deciding lastOn inOrder gatherBy insertBy gather insert vectorSum objectLines versionsOf isAhead lex
+    identifierOf membersOf isDisputed versionLine identifierText settingsText settingText lastWith lastAfter later
+    headLine decimal lastDigits sumOver wordsOver wordsIn
 computed-last =
     (refl, refl, refl, (refl, refl, refl))
     also (refl, refl, refl, (refl, refl, refl))
@@ -158,11 +160,11 @@ computed-last =
 -- P8 and P9
 computed-later : AllComputed (drop 12 cases)
 unfolding cases bytesOf flatMap countBytes counts editsIn longFrom answerOver listAnswer firstOf unfit nonzeroPast
-    isRepeated isEarly countFrom isTorn largerSomewhere isAstray fullOver crowdedOver some all sum keep any filter creates
-    setsOn trueGroups groupsOf groups isMaximal fits rel bit linesOver versionLines linesIn gatherBy insertBy
-    gather insert vectorSum objectLines versionsOf isAhead lex identifierOf membersOf isDisputed versionLine
-    identifierText settingsText settingText lastWith lastAfter later headLine decimal lastDigits
-    sumOver wordsOver wordsIn
+    isRepeated isEarly countFrom isTorn largerSomewhere isAstray fullOver crowdedOver some all sum keep any filter
+    creates setsOn trueGroups groupsOf groups isMaximal fits rel bit linesOver versionLines linesIn layeredOrder orderBy
+    standing deciding lastOn inOrder gatherBy insertBy gather insert vectorSum objectLines versionsOf isAhead lex
+    identifierOf membersOf isDisputed versionLine identifierText settingsText settingText lastWith lastAfter later
+    headLine decimal lastDigits sumOver wordsOver wordsIn
 computed-later =
     (refl, refl, refl, (refl, refl, refl))
     also (refl, refl, refl, (refl, refl, refl))
@@ -171,11 +173,11 @@ computed-later =
 -- P7 in all six orders
 computed-seventh : AllComputed (drop 6 cases)
 unfolding cases bytesOf flatMap countBytes counts editsIn longFrom answerOver listAnswer firstOf unfit nonzeroPast
-    isRepeated isEarly countFrom isTorn largerSomewhere isAstray fullOver crowdedOver some all sum keep any filter creates
-    setsOn trueGroups groupsOf groups isMaximal fits rel bit linesOver versionLines linesIn gatherBy insertBy
-    gather insert vectorSum objectLines versionsOf isAhead lex identifierOf membersOf isDisputed versionLine
-    identifierText settingsText settingText lastWith lastAfter later headLine decimal lastDigits
-    sumOver wordsOver wordsIn
+    isRepeated isEarly countFrom isTorn largerSomewhere isAstray fullOver crowdedOver some all sum keep any filter
+    creates setsOn trueGroups groupsOf groups isMaximal fits rel bit linesOver versionLines linesIn layeredOrder orderBy
+    standing deciding lastOn inOrder gatherBy insertBy gather insert vectorSum objectLines versionsOf isAhead lex
+    identifierOf membersOf isDisputed versionLine identifierText settingsText settingText lastWith lastAfter later
+    headLine decimal lastDigits sumOver wordsOver wordsIn
 computed-seventh =
     (refl, refl, refl, (refl, refl, refl))
     also (refl, refl, refl, (refl, refl, refl))
@@ -188,11 +190,11 @@ computed-seventh =
 -- P1 to P6
 computed : AllComputed cases
 unfolding cases bytesOf flatMap countBytes counts editsIn longFrom answerOver listAnswer firstOf unfit nonzeroPast
-    isRepeated isEarly countFrom isTorn largerSomewhere isAstray fullOver crowdedOver some all sum keep any filter creates
-    setsOn trueGroups groupsOf groups isMaximal fits rel bit linesOver versionLines linesIn gatherBy insertBy
-    gather insert vectorSum objectLines versionsOf isAhead lex identifierOf membersOf isDisputed versionLine
-    identifierText settingsText settingText lastWith lastAfter later headLine decimal lastDigits
-    sumOver wordsOver wordsIn
+    isRepeated isEarly countFrom isTorn largerSomewhere isAstray fullOver crowdedOver some all sum keep any filter
+    creates setsOn trueGroups groupsOf groups isMaximal fits rel bit linesOver versionLines linesIn layeredOrder orderBy
+    standing deciding lastOn inOrder gatherBy insertBy gather insert vectorSum objectLines versionsOf isAhead lex
+    identifierOf membersOf isDisputed versionLine identifierText settingsText settingText lastWith lastAfter later
+    headLine decimal lastDigits sumOver wordsOver wordsIn
 computed =
     (refl, refl, refl, (refl, refl, refl))
     also (refl, refl, refl, (refl, refl, refl))

@@ -11,7 +11,7 @@ use Rattle.table_drawing.specs.Tables.{Tables, heldBy}
 use Rattle.list_lines.specs.List.{linesFor}
 use Rattle.list_objects.specs.Objects.{objectsOf}
 
--- a Create makes the next object, a Set is about the object that it names
+-- a Create makes the next object, a Set or a layer edit is about the object that it names
 unfoldable pub ownOf : Tables → List ℕ → ℕ
 ownOf t b = cond (isCreate (decodeOf b)) (t .counters .objects) (objectOf (decodeOf b) (heldBy t))
 

@@ -1,5 +1,5 @@
 -- What is known of records that pass 1 to 5 in their order: each is well formed and the next one of its site, two
--- places never hold the same edit, and a Set stands after the Create that it targets. Assumes nothing.
+-- places never hold the same edit, and an edit stands after the Create that it targets. Assumes nothing.
 use mathlib.Core.Path.{_≡_, sym, _∙_}
 use mathlib.Core.Logic.{_⊎_, inl, inr}
 use mathlib.Core.Bool.{Bool, true, false, not, _&&_, _||_}
@@ -16,8 +16,8 @@ use Rattle.math_lists.proofs.Booleans.{decide, both, neither, eqb-self}
 use Rattle.math_lists.proofs.NumbersBelow.{all-at, none-at}
 use Rattle.edit_record.specs.declared.Edit.{Edit}
 use Rattle.edit_record.specs.Layout.{mostSites}
-use Rattle.edit_record.specs.Answer1.{isSet, unfit}
-use Rattle.edit_record.proofs.WellFormed.{WellFormed, well-formed}
+use Rattle.edit_record.specs.Answer1.{isSet, isAimed, unfit}
+use Rattle.edit_record.proofs.WellFormed.{WellFormed, well-formed, set-aimed}
 use Rattle.edit_causal.specs.Causal.{sameEdit}
 use Rattle.edit_history.specs.EditsHeld.{recordAt, editsOf, countFrom, isSetOn, isTarget}
 use Rattle.edit_history.specs.Answers2to5.{isRepeated, isEarly, isTorn, isAstray, passes, recordsPass}
@@ -55,7 +55,7 @@ in-turn sites es e h2 h3 h4 =
 pub record Passed (sites : ℕ) (es : List Edit) (e : Edit) : Type 0 where
   pub inTurn : InTurn sites es e
   pub whole : isTorn es e ≡ false
-  pub aimed : isSet e ≡ true → any (isTarget e) es ≡ true
+  pub aimed : isAimed e ≡ true → any (isTarget e) es ≡ true
 
 pub passed : (sites : ℕ) (es : List Edit) (e : Edit) → passes sites es e ≡ true → Passed sites es e
 unfolding passes isAstray
@@ -64,7 +64,7 @@ passed sites es e h =
     let b = isRepeated es e in
     let c = isEarly es e in
     let d = isTorn es e in
-    let astray = isSet e && not (any (isTarget e) es) in
+    let astray = isAstray es e in
     let (h4, aim) = neither (a || b || c || d) astray (not-true (a || b || c || d || astray) h) in
     let (h3, whole) = neither (a || b || c) d h4 in
     let (h2, early) = neither (a || b) c h3 in
@@ -148,7 +148,7 @@ module _ (sites : ℕ) (rs : List ℕ) (n : ℕ) (pass : recordsPass sites rs n 
   -- ---- targets
 
   pub target-before :
-      (p : ℕ) → p < n → isSet (recordAt rs p) ≡ true →
+      (p : ℕ) → p < n → isAimed (recordAt rs p) ≡ true →
       (t : ℕ) × (t < p) × (isTarget (recordAt rs p) (recordAt rs t) ≡ true)
   target-before p l h = any-edit-at (isTarget (recordAt rs p)) rs p (passed-at p l .aimed h)
 
@@ -160,7 +160,7 @@ module _ (sites : ℕ) (rs : List ℕ) (n : ℕ) (pass : recordsPass sites rs n 
       let a = recordAt rs t in
       let (set, on) = both (isSet e) (sameEdit (e .tsite) (e .tseq) (a .site) (a .seq)) h in
       let (site, seq) = both (eqb (e .tsite .0) (a .site .0)) (eqb (e .tseq .0) (a .seq .0)) on in
-      let (u, before, target) = target-before p lp set in
+      let (u, before, target) = target-before p lp (set-aimed e set) in
       let parts = target-parts e (recordAt rs u) target in
       let same : t ≡ u
       = one-place t u lt (omega arith) (sym (eqb-true (e .tsite .0) (a .site .0) site) ∙ sym (parts .site))

@@ -9,7 +9,7 @@ use Rattle.math_lists.specs.NumbersBelow.{some, all}
 use Rattle.math_lists.specs.SortedLists.{any}
 use Rattle.edit_record.specs.declared.Edit.{Edit}
 use Rattle.edit_record.specs.Layout.{mostSites}
-use Rattle.edit_record.specs.Answer1.{isSet, unfit}
+use Rattle.edit_record.specs.Answer1.{isAimed, unfit}
 use Rattle.edit_causal.specs.Causal.{hasSeen}
 use Rattle.edit_history.specs.EditsHeld.{recordAt, editsOf, countFrom, isTarget}
 
@@ -34,9 +34,9 @@ tears e a = hasSeen (e .vector) (a .site) (a .seq) && largerSomewhere (a .vector
 unfoldable pub isTorn : List Edit → Edit → Bool
 isTorn es e = any (tears e) es
 
--- 5: for a Set, the target is not a Create that this edit's vector has seen
+-- 5: for a Set, and for a layer edit as for a Set, the target is not a Create that this edit's vector has seen
 unfoldable pub isAstray : List Edit → Edit → Bool
-isAstray es e = isSet e && not (any (isTarget e) es)
+isAstray es e = isAimed e && not (any (isTarget e) es)
 
 -- none of 1 to 5 applies, for a record of the right length in a drawing of n sites
 unfoldable pub passes : ℕ → List Edit → Edit → Bool

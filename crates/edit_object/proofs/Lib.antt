@@ -1,1 +1,1 @@
-pub mod SetTurns
+pub mod PlacesPassed

@@ -10,14 +10,15 @@ use lib.ListN.{getD}
 use lib.Dec.{eqb, leb}
 use borrow.Author.Tests.{eqb-true, eqb-false, eq-eqb, leb-false, le-leb, not-false}
 use Rattle.math_lists.specs.NumbersBelow.{all}
-use Rattle.math_lists.proofs.Booleans.{decide, same-test, both, neither, off}
+use Rattle.math_lists.proofs.Booleans.{clash, same-test, both, either, or-left, or-right, neither, off}
 use Rattle.math_lists.proofs.NumbersBelow.{none-at}
 use Rattle.edit_record.specs.Layout.{mostSites, keys, targetAt, targetSeqAt, valueAt, createKind, setKind}
 use Rattle.edit_record.specs.RecordBytes.{two, four, decodeOf}
-use Rattle.edit_record.specs.Answer1.{isCreate, isSet, entryOf, nonzeroPast, lastEightZero, unfit}
+use Rattle.edit_record.specs.Answer1.{isCreate, isSet, isLayer, isAimed, entryOf, nonzeroPast}
+use Rattle.edit_record.specs.Answer1.{lastEightZero, unfit}
 use Rattle.edit_record.specs.declared.Edit.{Edit}
 
--- ---- the two kinds
+-- ---- the kinds
 
 pub create-not-set : (e : Edit) → isCreate e ≡ true → isSet e ≡ false
 create-not-set e h = off (isSet e) (λ k. omega (arith, eqb-true (e .kind) createKind h, eqb-true (e .kind) setKind k))
@@ -26,15 +27,36 @@ pub set-not-create : (e : Edit) → isSet e ≡ true → isCreate e ≡ false
 set-not-create e h =
     off (isCreate e) (λ k. omega (arith, eqb-true (e .kind) setKind h, eqb-true (e .kind) createKind k))
 
+pub set-aimed : (e : Edit) → isSet e ≡ true → isAimed e ≡ true
+set-aimed e h = or-left (isSet e) (isLayer e) h
+
+pub layer-aimed : (e : Edit) → isLayer e ≡ true → isAimed e ≡ true
+layer-aimed e h = or-right (isSet e) (isLayer e) h
+
+-- an edit that is aimed is a Set or a layer edit, and no Create
+pub set-or-layer : (e : Edit) → isAimed e ≡ true → (isSet e ≡ true) ⊎ (isLayer e ≡ true)
+set-or-layer e h = either (isSet e) (isLayer e) h
+
+pub aimed-not-create : (e : Edit) → isAimed e ≡ true → isCreate e ≡ false
+aimed-not-create e h =
+    off (isCreate e) (λ k. clash h (rw (eqb-true (e .kind) createKind k)))
+
+pub layer-not-set : (e : Edit) → isLayer e ≡ true → isSet e ≡ false
+layer-not-set e h = off (isSet e) (λ k. clash h (rw (eqb-true (e .kind) setKind k)))
+
 -- ---- a well-formed edit
 
 pub record WellFormed (n : ℕ) (e : Edit) : Type 0 where
-  pub kind : (isCreate e ≡ true) ⊎ (isSet e ≡ true)
+  pub kind : (isCreate e ≡ true) ⊎ (isAimed e ≡ true)
   pub site : e .site .0 < n
   pub past : (i : ℕ) → i < mostSites → n ≤ i → getD (e .vector) i 0 ≡ 0
   pub seq : 0 < e .seq .0
   pub own : e .seq .0 ≡ getD (e .vector) (e .site .0) 0
   pub key : e .key < keys
+
+-- one that is neither a Create nor a Set is a layer edit
+pub otherwise-layer : (n : ℕ) (e : Edit) → WellFormed n e → isCreate e ≡ false → isSet e ≡ false → isLayer e ≡ true
+otherwise-layer n e w c s = elim (w .kind) [ inl k ↦ clash k c | inr k ↦ (rw s at k) ]
 
 nonzero-none : (n : ℕ) (v : List ℕ) → nonzeroPast n v ≡ false → (i : ℕ) → i < mostSites → n ≤ i → getD v i 0 ≡ 0
 unfolding nonzeroPast
@@ -46,25 +68,25 @@ pub well-formed : (n : ℕ) (e : Edit) → unfit n e ≡ false → WellFormed n 
 unfolding unfit
 well-formed n e h =
     let v = e .vector in
-    let kind = not (isCreate e) && not (isSet e) in
+    let kind = isCreate e || isAimed e in
     let site = leb n (e .site .0) in
     let past = nonzeroPast n v in
     let zero = eqb (e .seq .0) 0 in
     let own = eqb (e .seq .0) (entryOf v (e .site) .0) in
     let key = leb keys (e .key) in
-    let set = isSet e && eqb (e .tseq .0) 0 in
+    let aimed = isAimed e && eqb (e .tseq .0) 0 in
     let create = isCreate e && not (lastEightZero e) in
-    let (h7, _) = neither (kind || site || past || zero || not own || key || set) create h in
-    let (h6, _) = neither (kind || site || past || zero || not own || key) set h7 in
-    let (h5, key-off) = neither (kind || site || past || zero || not own) key h6 in
-    let (h4, own-off) = neither (kind || site || past || zero) (not own) h5 in
-    let (h3, zero-off) = neither (kind || site || past) zero h4 in
-    let (h2, past-off) = neither (kind || site) past h3 in
-    let (kind-off, site-off) = neither kind site h2 in
+    let layer = isLayer e && not (eqb (e .key) 0 && eqb (e .value) 0) in
+    let (h8, _) = neither (not kind || site || past || zero || not own || key || aimed || create) layer h in
+    let (h7, _) = neither (not kind || site || past || zero || not own || key || aimed) create h8 in
+    let (h6, _) = neither (not kind || site || past || zero || not own || key) aimed h7 in
+    let (h5, key-off) = neither (not kind || site || past || zero || not own) key h6 in
+    let (h4, own-off) = neither (not kind || site || past || zero) (not own) h5 in
+    let (h3, zero-off) = neither (not kind || site || past) zero h4 in
+    let (h2, past-off) = neither (not kind || site) past h3 in
+    let (kind-off, site-off) = neither (not kind) site h2 in
     record {
-      kind =
-          elim (decide (isCreate e))
-          [ inl c ↦ inl c | inr d ↦ inr (not-false (isSet e) (rw d at kind-off)) ];
+      kind = either (isCreate e) (isAimed e) (not-false kind kind-off);
       site = leb-false n (e .site .0) site-off;
       past = nonzero-none n v past-off;
       seq = let z = eqb-false (e .seq .0) 0 zero-off in omega arith;
@@ -77,15 +99,17 @@ pub create-aims-nowhere : (n : ℕ) (e : Edit) → unfit n e ≡ false → isCre
 unfolding unfit
 create-aims-nowhere n e h create =
     let rest =
-    not (isCreate e) && not (isSet e)
+    not (isCreate e || isAimed e)
     || leb n (e .site .0)
     || nonzeroPast n (e .vector)
     || eqb (e .seq .0) 0
     || not (eqb (e .seq .0) (entryOf (e .vector) (e .site) .0))
     || leb keys (e .key)
-    || isSet e && eqb (e .tseq .0) 0 in
+    || isAimed e && eqb (e .tseq .0) 0 in
     let zeros = lastEightZero e in
-    let (_, last) = neither rest (isCreate e && not zeros) h in
+    let create-off = isCreate e && not zeros in
+    let (start, _) = neither (rest || create-off) (isLayer e && not (eqb (e .key) 0 && eqb (e .value) 0)) h in
+    let (_, last) = neither rest create-off start in
     let front = eqb (e .tsite .0) 0 && eqb (e .key) 0 in
     let seq = eqb (e .tseq .0) 0 in
     let (three, _) = both (front && seq) (eqb (e .value) 0) (not-false zeros (rw create at last)) in

@@ -19,6 +19,12 @@ createKind = 1
 abbrev pub setKind : ℕ
 setKind = 2
 
+abbrev pub topKind : ℕ
+topKind = 4
+
+abbrev pub bottomKind : ℕ
+bottomKind = 5
+
 -- ---- the fields, in their order
 
 abbrev pub kindAt : ℕ

@@ -5,7 +5,8 @@ ghost use mathlib.Core.List.{[], _∷_, _++_};
 ghost use lib.ListN.{length, getD, take, drop};
 ghost use Rattle.edit_record.specs.Layout.{mostSites, vectorAt, targetAt, recordLength};
 ghost use Rattle.edit_record.specs.RecordBytes.{two, counts, countBytes, decodeOf, encodeOf};
-ghost use Rattle.edit_record.specs.Answer1.{entryOf, nonzeroPast, lastEightZero, unfit, malformed};
+ghost use Rattle.edit_record.specs.Answer1.{isLayer, isAimed, entryOf, nonzeroPast, lastEightZero, unfit};
+ghost use Rattle.edit_record.specs.Answer1.{malformed};
 
 // The sites that a drawing has at most: the entries of a vector.
 pub const SITES: usize = 16;
@@ -16,6 +17,10 @@ pub const KEYS: u8 = 16;
 pub const CREATE: u8 = 1;
 
 pub const SET: u8 = 2;
+
+pub const TOP: u8 = 4;
+
+pub const BOTTOM: u8 = 5;
 
 // Where each field of a record starts.
 pub const AT_KIND: usize = 0;
@@ -193,6 +198,20 @@ pub fn encode(e: Edit) -> [u8; RECORD]
     with_count(low, AT_VALUE + 2, (e.value / 65536) as u16)
 }
 
+// Whether the edit is to-top or to-bottom.
+pub fn is_layer(e: Edit) -> bool
+    ensures { λ r. ⌜ r ≡ isLayer e ⌝ }
+{
+    (e.kind == TOP) | (e.kind == BOTTOM)
+}
+
+// Whether the edit names an object as its target.
+pub fn is_aimed(e: Edit) -> bool
+    ensures { λ r. ⌜ r ≡ isAimed e ⌝ }
+{
+    (e.kind == SET) | is_layer(e)
+}
+
 // The count of a site in a vector, and 0 for a site that has no entry.
 pub fn entry(v: [u16; SITES], s: Site) -> Seq
     ensures { λ r. ⌜ r ≡ entryOf v s ⌝ }
@@ -229,14 +248,17 @@ pub fn is_unfit(n: u8, e: Edit) -> bool
     let own = entry(v, e.site);
     let past = is_nonzero_past(n, v);
     let zero = is_last_eight_zero(e);
-    ((e.kind != CREATE) & (e.kind != SET))
+    let layer = is_layer(e);
+    let aimed = is_aimed(e);
+    !((e.kind == CREATE) | aimed)
         | (n <= e.site.0)
         | past
         | (e.seq.0 == 0)
         | (e.seq.0 != own.0)
         | (KEYS <= e.key)
-        | ((e.kind == SET) & (e.tseq.0 == 0))
+        | (aimed & (e.tseq.0 == 0))
         | ((e.kind == CREATE) & !zero)
+        | (layer & !((e.key == 0) & (e.value == 0)))
 }
 
 // Whether answer 1 is given to these bytes, of any length, in a drawing of n sites.

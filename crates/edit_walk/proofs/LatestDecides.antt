@@ -15,7 +15,7 @@ use Rattle.math_lists.proofs.Booleans.{clash, off, same-test, both, and-on}
 use Rattle.math_lists.proofs.NumbersBelow.{some-on, some-at, none-at}
 use Rattle.edit_record.specs.declared.Edit.{Edit}
 use Rattle.edit_record.specs.Layout.{mostSites}
-use Rattle.edit_record.specs.Answer1.{isCreate, isSet, unfit}
+use Rattle.edit_record.specs.Answer1.{isCreate, isAimed, unfit}
 use Rattle.edit_record.proofs.WellFormed.{well-formed}
 use Rattle.edit_causal.specs.Causal.{sameEdit, hasSeen}
 use Rattle.edit_causal.proofs.VectorSums.{NowhereAbove}
@@ -237,12 +237,12 @@ pub latest-decides :
 unfolding passesAgainst passes isAstray
 latest-decides sites few rs n pass ps ix counts long counted e =
     first-three (unfit sites e) (repeatedAgainst counts e) (earlyAgainst counts e) (tornByLatest rs ps e)
-    (isSet e && not (targetHeld counts rs ps e)) (isRepeated (editsOf rs n) e) (isEarly (editsOf rs n) e)
-    (isTorn (editsOf rs n) e) (isSet e && not (any (isTarget e) (editsOf rs n)))
+    (isAimed e && not (targetHeld counts rs ps e)) (isRepeated (editsOf rs n) e) (isEarly (editsOf rs n) e)
+    (isTorn (editsOf rs n) e) (isAimed e && not (any (isTarget e) (editsOf rs n)))
     (λ fit.
     let low : e .site .0 < mostSites = omega (arith, well-formed sites e fit .site) in
     (repeated-against counts (editsOf rs n) counted e low, early-against counts (editsOf rs n) counted e low))
     (λ fit r x. (
       torn-same sites few rs n pass ps ix e (in-turn sites (editsOf rs n) e fit r x),
-      ap (λ (b : Bool). isSet e && not b) (target-same sites few rs n pass ps ix counts long counted e),
+      ap (λ (b : Bool). isAimed e && not b) (target-same sites few rs n pass ps ix counts long counted e),
     ))

@@ -10,7 +10,7 @@ use Rattle.math_lists.specs.NumbersBelow.{some}
 use Rattle.edit_record.specs.declared.Site.{Site}
 use Rattle.edit_record.specs.declared.Edit.{Edit}
 use Rattle.edit_record.specs.Layout.{mostSites}
-use Rattle.edit_record.specs.Answer1.{isCreate, isSet, entryOf, unfit}
+use Rattle.edit_record.specs.Answer1.{isCreate, isAimed, entryOf, unfit}
 use Rattle.edit_walk.specs.declared.Walked.{Walked}
 use Rattle.edit_history.specs.EditsHeld.{mostRecords, recordAt, editsOf, countFrom}
 use Rattle.edit_history.specs.Answers2to5.{largerSomewhere, recordsPass}
@@ -85,7 +85,7 @@ passesAgainst sites counts rs ps e =
     || repeatedAgainst counts e
     || earlyAgainst counts e
     || tornByLatest rs ps e
-    || isSet e && not (targetHeld counts rs ps e))
+    || isAimed e && not (targetHeld counts rs ps e))
 
 -- ---- the walk over the first n records: whether they pass, and then the counts and the index that they give
 

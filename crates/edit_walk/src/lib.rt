@@ -8,7 +8,6 @@ use edit_record::AT_VECTOR;
 use edit_record::CREATE;
 use edit_record::Edit;
 use edit_record::PLACE;
-use edit_record::SET;
 use edit_record::SITES;
 use edit_record::Seq;
 use edit_record::Site;
@@ -201,7 +200,7 @@ fn is_passing(sites: u8, held: [u16; SITES], recs: &[u8], places: &[u16], e: Edi
     if is_torn_by_latest(recs, places, e) {
         return false;
     }
-    if e.kind == SET {
+    if edit_record::is_aimed(e) {
         return is_target_held(held, recs, places, e);
     }
     true

@@ -108,7 +108,7 @@ module _ (t : Tables) (s : Sound t) where
     module _ (i left o count : ℕ) (low : i < n) (f : Left i left) (at : o ≡ getD order i 0)
         (many : count ≡ groupsAt (t .objects) o) where
       o-low : o < n
-      o-low = rw at (sorted-low t order e i low)
+      o-low = rw at (sorted-low t s order e i low)
 
       o-count : count ≡ length (linesFor t (getD order i 0))
       o-count = many ∙ sym (lines-count o o-low) ∙ ap (λ (x : ℕ). length (linesFor t x)) at

@@ -1,6 +1,6 @@
 -- The lines of an object from what the code gathers of it, and the objects in their order. Assumes nothing.
 use mathlib.Core.Path.{_≡_, refl, sym, ap, _∙_, fun-ext}
-use mathlib.Core.Bool.{true, false}
+use mathlib.Core.Bool.{Bool, true, false}
 use mathlib.Core.List.{List, [], _∷_, map}
 use Prim.Native.Nat.{ℕ, zero, suc, _-_, _<_}
 use native.Mathlib.Numerals.{add-one}
@@ -18,15 +18,17 @@ use Rattle.math_lists.proofs.Elements.{any-off}
 use Rattle.math_lists.proofs.ByPlaces.{any-place-on}
 use Rattle.math_lists.proofs.PutInOrder.{any-gathered, gathered-length}
 use Rattle.table_drawing.specs.Tables.{Tables}
+use Rattle.table_soundness.proofs.SoundFacts.{Sound}
 use Rattle.table_arrival.specs.Answers6and7.{rowOf}
 use Rattle.list_version.specs.VersionOrder.{versionsOf}
 use Rattle.list_line.specs.Line.{versionLine, objectLines}
 use Rattle.math_lists.proofs.ByPlaces.{map-place}
 use Rattle.list_line.proofs.LineByStamps.{line-by}
 use Rattle.list_objects.specs.declared.Gathered.{Gathered}
-use Rattle.list_objects.specs.Objects.{createOf, setsFor, createdBefore, objectsOf}
+use Rattle.list_objects.specs.Objects.{createOf, setsFor, objectsOf}
+use Rattle.list_objects.specs.ObjectForms.{goesFirst, GatheredOf}
+use Rattle.list_objects.proofs.KeysByMoves.{in-order}
 use Rattle.list_lines.specs.List.{linesFor}
-use Rattle.list_objects.specs.ObjectForms.{GatheredOf}
 use Rattle.list_lines.specs.LinesForms.{Ready, lineIn}
 
 -- ---- what is gathered of an object
@@ -81,20 +83,28 @@ count-all (suc n) = length-append (keep n (λ o. true)) (n ∷ []) ∙ rw (count
 none-above : (n : ℕ) → any (leb n) (keep n (λ o. true)) ≡ false
 none-above n = any-off (leb n) (keep n (λ o. true)) (λ x m. lt-leb n x (keep-at n (λ o. true) x m .0))
 
-module _ (t : Tables) where
+module _ (t : Tables) (s : Sound t) where
   abbrev n : ℕ
   n = t .counters .objects
 
+  abbrev first : ℕ → ℕ → Bool
+  first = goesFirst (t .records) (t .counters .records) (t .objects)
+
   objects-length : length (objectsOf t) ≡ n
-  unfolding objectsOf
-  objects-length = gathered-length (createdBefore t) [] (keep n (λ o. true)) ∙ omega (arith, count-all n)
+  objects-length =
+      ap length (sym (in-order t s))
+      ∙ gathered-length first [] (keep n (λ o. true))
+      ∙ omega (arith, count-all n)
 
   object-low : (i : ℕ) → i < n → getD (objectsOf t) i 0 < n
-  unfolding objectsOf any
+  unfolding any
   object-low i l = go (decLt (getD (objectsOf t) i 0) n)
     where
       none : any (leb n) (objectsOf t) ≡ false
-      none = any-gathered (createdBefore t) (leb n) [] (keep n (λ o. true)) ∙ none-above n
+      none =
+          ap (any (leb n)) (sym (in-order t s))
+          ∙ any-gathered first (leb n) [] (keep n (λ o. true))
+          ∙ none-above n
 
       go : Dec (getD (objectsOf t) i 0 < n) → getD (objectsOf t) i 0 < n
       go (yes h) = h

@@ -1,5 +1,5 @@
--- The printed list of the tables t: line 0, then a line for each version. Objects go by the total order of their
--- Creates, and the versions of an object as `versionsOf` has them. Assumes nothing.
+-- The printed list of the tables t: line 0, then a line for each version. Objects go as `objectsOf` has them, and the
+-- versions of an object as `versionsOf` has them. Assumes nothing.
 use mathlib.Core.List.{List, _∷_, flatMap}
 use Prim.Native.Nat.{ℕ}
 use Rattle.math_lists.specs.NumbersBelow.{sum}

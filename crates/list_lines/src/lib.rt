@@ -5,8 +5,8 @@ use list_line::LINE;
 use list_line::put_line;
 use list_objects::Gathered;
 use list_objects::gather;
+use list_objects::order::sort_objects;
 use list_objects::put_sets;
-use list_objects::sort_objects;
 use list_sort::ROWS;
 use table_drawing::Answer;
 use table_drawing::Counters;
@@ -73,7 +73,13 @@ fn find(c: Counters, records: &[u8], objects: &[u16], groups: &[u64], k: usize) 
         ⌜ FoundIn (tablesOf c (now (records .entry)) (now (objects .entry)) (now (groups .entry))) k r ⌝ }
 {
     let mut order = [0u16; OBJECTS];
-    sort_objects(&mut order, records, objects, c.objects as usize);
+    sort_objects(
+        &mut order,
+        records,
+        c.records as usize,
+        objects,
+        c.objects as usize,
+    );
     let mut left = k;
     let mut i: usize = 0;
     while i < c.objects as usize {

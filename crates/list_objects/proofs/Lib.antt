@@ -1,3 +1,6 @@
 pub mod RankOrder
+pub mod LargestMove
+pub mod KeysPut
+pub mod KeysByMoves
 pub mod GatheredIs
 pub mod SetsByIndex

@@ -1,13 +1,14 @@
--- The objects of the tables t: their Creates, their Sets, and their order in the printed list. Assumes nothing.
-use mathlib.Core.Bool.{Bool, true}
-use mathlib.Core.List.{List, []}
+-- The objects of the tables t: their Creates, their Sets, and their order in the printed list, which is document 01's
+-- but for the layer edits of document 02's Req 08. Assumes nothing.
+use mathlib.Core.Bool.{true}
+use mathlib.Core.List.{List}
 use Prim.Native.Nat.{ℕ}
 use Rattle.math_lists.specs.NumbersBelow.{keep}
-use Rattle.math_lists.specs.SortedLists.{gatherBy}
 use Rattle.edit_record.specs.declared.Edit.{Edit}
-use Rattle.edit_causal.specs.TotalOrder.{ranksBefore}
 use Rattle.edit_history.specs.EditsHeld.{recordAt, setsOn}
 use Rattle.table_drawing.specs.Tables.{Tables, placeAt, heldBy}
+use Rattle.edit_record.specs.Answer1.{isLayer}
+use Rattle.list_order.specs.Layers.{deciding, standing}
 
 -- the Create of object o, and its Sets in the order of arrival
 abbrev pub createOf : Tables → ℕ → Edit
@@ -16,9 +17,11 @@ createOf t o = recordAt (t .records) (placeAt (t .objects) o)
 abbrev pub setsFor : Tables → ℕ → List Edit
 setsFor t o = setsOn (createOf t o .site) (createOf t o .seq) (heldBy t)
 
--- the objects by the total order of their Creates
-abbrev pub createdBefore : Tables → ℕ → ℕ → Bool
-createdBefore t a b = ranksBefore (createOf t a) (createOf t b)
+-- what decides the place of object o: its last layer edit in the total order, or its Create if it has none
+abbrev pub decidingFor : Tables → ℕ → Edit
+decidingFor t o = deciding isLayer (heldBy t) (createOf t o)
 
+-- an object whose last layer edit is to-bottom stands first, the latest of these foremost; to-top ones stand last, the
+-- latest rearmost; the rest go by the total order of their Creates
 unfoldable pub objectsOf : Tables → List ℕ
-objectsOf t = gatherBy (createdBefore t) [] (keep (t .counters .objects) (λ o. true))
+objectsOf t = standing (decidingFor t) (keep (t .counters .objects) (λ o. true))

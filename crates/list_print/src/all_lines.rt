@@ -7,7 +7,7 @@ use group_step::SETS;
 use list_line::LINE;
 use list_lines::head;
 use list_objects::gather;
-use list_objects::sort_objects;
+use list_objects::order::sort_objects;
 use list_sort::ROWS;
 use table_drawing::Counters;
 use table_index::MEMBERS;
@@ -90,7 +90,7 @@ fn put_objects(
 {
     let m = c.objects as usize;
     let mut order = [0u16; OBJECTS];
-    sort_objects(&mut order, records, objects, m);
+    sort_objects(&mut order, records, c.records as usize, objects, m);
     let mut w = n;
     let mut i: usize = 0;
     while i < m {

@@ -58,7 +58,7 @@ names-apart es u small c i j li lj e =
 -- ---- the edits of a table of records
 
 module _ (rs : List ℕ) where
-  edit-in : (k : ℕ) (y : Edit) → Mem y (editsOf rs k) → (p : ℕ) × (p < k) × (y ≡ recordAt rs p)
+  pub edit-in : (k : ℕ) (y : Edit) → Mem y (editsOf rs k) → (p : ℕ) × (p < k) × (y ≡ recordAt rs p)
   unfolding editsOf
   edit-in zero y w = absurd (List·Memᴰ·not-nil w)
   edit-in (suc k) y w =
@@ -102,7 +102,7 @@ module _ (t : Tables) (s : Sound t) where
       ) in
       rw q low
 
-  held-apart : Apart (heldBy t)
+  pub held-apart : Apart (heldBy t)
   held-apart =
       edits-pairs rs Differ n (λ p q l m.
       let a = recordAt rs p in

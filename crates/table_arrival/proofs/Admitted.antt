@@ -1,29 +1,45 @@
 -- What is known of an edit that passes 1 to 6, of one that is accepted, and of the tables after it. Assumes nothing.
-use mathlib.Core.Path.{_≡_, refl, sym, ap, _∙_}
+use mathlib.Core.Path.{_≡_, refl, sym, ap, subst, _∙_}
 use mathlib.Core.Logic.{inl, inr}
 use mathlib.Core.Bool.{Bool, true, false, not, _&&_, _||_, cond}
 use mathlib.Core.List.{List}
 use Prim.Native.Nat.{ℕ, _+_, _≤_, _<_}
 use native.Mathlib.Omega.{arith}
 use lib.ListN.{length, getD}
-use lib.Dec.{eqb, leb, ltb}
+use lib.Dec.{eqb, leb}
 use borrow.Author.Tests.{eqb-true, eqb-false, leb-false, ltb-false, not-false}
 use Rattle.math_lists.specs.SortedLists.{any}
-use Rattle.math_lists.proofs.Booleans.{clash, neither, then-off}
+use Rattle.math_lists.proofs.Booleans.{neither, then-off}
 use Rattle.edit_record.specs.Layout.{recordLength}
 use Rattle.edit_record.specs.RecordBytes.{decodeOf}
-use Rattle.edit_record.specs.Answer1.{isCreate, isSet, malformed, unfit}
-use Rattle.edit_record.proofs.WellFormed.{WellFormed, well-formed}
+use Rattle.edit_record.specs.Answer1.{isCreate, isSet, isLayer, isAimed, malformed, unfit}
+use Rattle.edit_record.proofs.WellFormed.{WellFormed, well-formed, set-not-create, layer-aimed, set-or-layer}
+use Rattle.edit_record.proofs.WellFormed.{aimed-not-create, layer-not-set}
 use Rattle.edit_history.specs.EditsHeld.{mostRecords, isTarget}
 use Rattle.edit_history.specs.Answers2to5.{isRepeated, isEarly, isTorn, isAstray, passes}
 use Rattle.group_step.specs.GroupRows.{mostObjects, mostSets, mostGroups}
+use Rattle.table_drawing.specs.declared.Counters.{Counters}
 use Rattle.table_drawing.specs.Tables.{Tables, heldBy}
 use Rattle.table_drawing.specs.AnswerNumbers.{Outcome, outcomeOf}
 use Rattle.table_arrival.specs.Answers6and7.{matesOf, groupsAfter, isFull, isCrowded, answerTo}
-use Rattle.table_arrival.specs.Arrival.{putRecord, withCreate, withSet, taken, acceptanceOf}
+use Rattle.table_arrival.specs.Arrival.{counted, putRecord, withCreate, withSet, withLayer, taken}
+use Rattle.table_arrival.specs.Arrival.{acceptanceOf}
 use Rattle.table_arrival.specs.ArrivalForms.{six, sixth}
 use Rattle.table_arrival.proofs.FirstReason.{none-present}
 use Rattle.table_arrival.proofs.SixByCounters.{answer-is}
+
+-- ---- the tables with an edit in, by its kind
+
+module _ (t : Tables) (b : List ℕ) where
+  pub create-is-taken : isCreate (decodeOf b) ≡ true → withCreate t b ≡ taken t b
+  create-is-taken k = rw k
+
+  pub set-is-taken : isSet (decodeOf b) ≡ true → withSet t b ≡ taken t b
+  set-is-taken k = rw (set-not-create (decodeOf b) k, k)
+
+  pub layer-is-taken : isLayer (decodeOf b) ≡ true → withLayer t b ≡ taken t b
+  layer-is-taken k =
+      rw (aimed-not-create (decodeOf b) (layer-aimed (decodeOf b) k), layer-not-set (decodeOf b) k)
 
 -- ---- an edit that passes 1 to 6
 
@@ -68,15 +84,26 @@ module _ (t : Tables) (b : List ℕ) (a : Admitted t b) where
   unfolding passes
   admitted-passes = rw (a .fit, a .fresh, a .timely, a .seamless, a .aimed)
 
-  -- a Set has its target
-  pub admitted-target : isSet (decodeOf b) ≡ true → any (isTarget (decodeOf b)) (heldBy t) ≡ true
+  -- a Set or a layer edit has its target
+  pub admitted-target : isAimed (decodeOf b) ≡ true → any (isTarget (decodeOf b)) (heldBy t) ≡ true
   unfolding isAstray
   admitted-target k =
       not-false (any (isTarget (decodeOf b)) (heldBy t))
-      (then-off (isSet (decodeOf b)) (not (any (isTarget (decodeOf b)) (heldBy t))) k (a .aimed))
+      (then-off (isAimed (decodeOf b)) (not (any (isTarget (decodeOf b)) (heldBy t))) k (a .aimed))
 
-  pub set-or-create : isCreate (decodeOf b) ≡ false → isSet (decodeOf b) ≡ true
-  set-or-create k = elim (a .formed .kind) [ inl c ↦ clash c k | inr s ↦ s ]
+  -- what holds after each kind holds after an edit that is taken
+  pub taken-by-kind :
+      (P : Tables → Type 0) → (isCreate (decodeOf b) ≡ true → P (withCreate t b)) →
+      (isSet (decodeOf b) ≡ true → P (withSet t b)) → (isLayer (decodeOf b) ≡ true → P (withLayer t b)) →
+      P (taken t b)
+  taken-by-kind P f g h = elim (a .formed .kind) [
+    | inl k ↦ subst P (create-is-taken t b k) (f k)
+    | inr aim ↦
+        elim (set-or-layer (decodeOf b) aim) [
+          | inl k ↦ subst P (set-is-taken t b k) (g k)
+          | inr k ↦ subst P (layer-is-taken t b k) (h k)
+        ]
+  ]
 
 -- ---- an edit that is accepted
 
@@ -112,18 +139,27 @@ was-taken u t b h = go (eqb (answerTo u b) 0) refl h
     go true e q = (eqb-true (answerTo u b) 0 e, ap (λ (o : Outcome). o .after) q)
     go false e q = absurd (eqb-false (answerTo u b) 0 e (sym (ap (λ (o : Outcome). o .answer) q)))
 
--- which is one record more
+-- which is, for any kind, one record more, and one object more for a Create
+pub taken-one-more :
+    (u : Tables) (b : List ℕ) →
+    (taken u b .records ≡ putRecord (u .records) (u .counters .records) b)
+    × (taken u b .counters ≡ counted (u .counters) (decodeOf b .site) b (cond (isCreate (decodeOf b)) 1 0))
+unfolding withCreate withSet withLayer
+taken-one-more u b = go (isCreate (decodeOf b)) (isSet (decodeOf b))
+  where
+    go : (x y : Bool) →
+        let after = cond x (withCreate u b) (cond y (withSet u b) (withLayer u b)) in
+        (after .records ≡ putRecord (u .records) (u .counters .records) b)
+        × (after .counters ≡ counted (u .counters) (decodeOf b .site) b (cond x 1 0))
+    go true y = (refl, refl)
+    go false true = (refl, refl)
+    go false false = (refl, refl)
+
 pub taken-records :
     (u : Tables) (b : List ℕ) →
     (taken u b .records ≡ putRecord (u .records) (u .counters .records) b)
     × (taken u b .counters .records ≡ u .counters .records + 1)
     × (taken u b .counters .sites ≡ u .counters .sites)
-unfolding withCreate withSet
-taken-records u b = go (isCreate (decodeOf b))
-  where
-    go : (k : Bool) →
-        (cond k (withCreate u b) (withSet u b) .records ≡ putRecord (u .records) (u .counters .records) b)
-        × (cond k (withCreate u b) (withSet u b) .counters .records ≡ u .counters .records + 1)
-        × (cond k (withCreate u b) (withSet u b) .counters .sites ≡ u .counters .sites)
-    go true = (refl, refl, refl)
-    go false = (refl, refl, refl)
+taken-records u b =
+    let (records, counters) = taken-one-more u b in
+    (records, ap (λ (c : Counters). c .records) counters, ap (λ (c : Counters). c .sites) counters)

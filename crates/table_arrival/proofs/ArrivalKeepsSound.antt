@@ -1,29 +1,30 @@
 -- An empty drawing is sound, and an arrival leaves sound tables sound, whatever it is answered. Assumes nothing.
-use mathlib.Core.Path.{_≡_, refl, _∙_}
+use mathlib.Core.Path.{_≡_, refl, ap, _∙_}
 use mathlib.Core.Bool.{Bool, true, false, cond}
 use mathlib.Core.List.{List}
 use Prim.Native.Nat.{ℕ, _+_, _≤_}
 use native.Mathlib.Omega.{arith}
-use lib.ListN.{length, getD, set, replicate, length-set, length-replicate}
+use lib.ListN.{length, getD, length-set, length-replicate}
 use lib.Dec.{eqb}
 use borrow.Author.Tests.{eqb-true}
 use Rattle.math_lists.specs.NumbersBelow.{all, sum}
 use Rattle.math_lists.specs.SortedLists.{filter}
 use Rattle.edit_record.specs.Layout.{mostSites}
 use Rattle.edit_record.specs.RecordBytes.{decodeOf}
-use Rattle.edit_record.specs.Answer1.{isCreate}
 use Rattle.edit_history.specs.EditsHeld.{editsOf, countFrom, creates}
 use Rattle.edit_history.specs.Answers2to5.{recordsPass}
 use Rattle.edit_sum.specs.WordSum.{sumOf}
+use Rattle.table_drawing.specs.declared.Counters.{Counters}
 use Rattle.table_drawing.specs.Tables.{Tables, emptyDrawing, recordsLength, objectsLength, groupsLength}
 use Rattle.table_drawing.specs.AnswerNumbers.{outcomeOf}
 use Rattle.table_soundness.specs.Sound.{sound}
 use Rattle.table_soundness.proofs.SoundFacts.{Sound, sound-at, sound-on}
 use Rattle.table_arrival.specs.Answers6and7.{answerTo}
-use Rattle.table_arrival.specs.Arrival.{withCreate, withSet, taken, acceptanceOf, arrivalOf}
-use Rattle.table_arrival.proofs.Admitted.{accepted, set-or-create}
+use Rattle.table_arrival.specs.Arrival.{taken, acceptanceOf, arrivalOf}
+use Rattle.table_arrival.proofs.Admitted.{accepted, taken-by-kind, taken-one-more}
 use Rattle.table_arrival.proofs.CreateKeepsSound.{create-keeps-sound}
 use Rattle.table_arrival.proofs.SetKeepsSound.{set-keeps-sound}
+use Rattle.table_arrival.proofs.LayerKeepsSound.{layer-keeps-sound}
 use Rattle.math_lists.proofs.ByPlaces.{zero-anywhere}
 
 -- sound tables with a count for each site, as the code's arrays have
@@ -62,27 +63,20 @@ empty-kept n some few =
 
 module _ (t : Tables) (b : List ℕ) (k : Kept t) where
   taken-kept : answerTo t b ≡ 0 → Kept (taken t b)
-  taken-kept h = go (isCreate (decodeOf b)) refl
-    where
-      bumped : (x : ℕ) → length (set (t .counters .held) (decodeOf b .site .0) x) ≡ mostSites
-      bumped x = length-set (t .counters .held) (decodeOf b .site .0) x ∙ k .wide
-
-      count : ℕ
-      count = getD (t .counters .held) (decodeOf b .site .0) 0 + 1
-
-      go : (c : Bool) → isCreate (decodeOf b) ≡ c → Kept (cond c (withCreate t b) (withSet t b))
-      go true c =
-          record {
-            isSound = create-keeps-sound t b (k .isSound) (k .wide) (accepted t b h .admitted) c;
-            wide = unfold withCreate in bumped count;
-          }
-      go false c =
-          record {
-            isSound =
-                set-keeps-sound t b (k .isSound) (accepted t b h) (set-or-create t b (accepted t b h .admitted) c)
-                (k .wide);
-            wide = unfold withSet in bumped count;
-          }
+  taken-kept h =
+      let a = accepted t b h in
+      let own = decodeOf b .site .0 in
+      let held = t .counters .held in
+      record {
+        isSound =
+            taken-by-kind t b (a .admitted) Sound (create-keeps-sound t b (k .isSound) (k .wide) (a .admitted))
+            (λ c. set-keeps-sound t b (k .isSound) a c (k .wide))
+            (layer-keeps-sound t b (k .isSound) (k .wide) (a .admitted));
+        wide =
+            ap (λ (c : Counters). length (c .held)) (taken-one-more t b .1)
+            ∙ length-set held own (getD held own 0 + 1)
+            ∙ k .wide;
+      }
 
   pub acceptance-keeps : Kept (acceptanceOf t b .after)
   unfolding acceptanceOf

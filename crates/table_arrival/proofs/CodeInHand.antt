@@ -9,6 +9,7 @@ use Rattle.edit_record.specs.declared.Edit.{Edit}
 use Rattle.edit_record.specs.Layout.{recordLength}
 use Rattle.edit_record.specs.RecordBytes.{decodeOf}
 use Rattle.edit_record.specs.Answer1.{isCreate, isSet}
+use Rattle.edit_record.proofs.WellFormed.{otherwise-layer}
 use Rattle.edit_history.specs.declared.Surveyed.{Surveyed}
 use Rattle.edit_history.specs.EditsHeld.{mostRecords, editsOf, setsOn}
 use Rattle.edit_history.specs.SurveyForms.{markBits, surveyOf}
@@ -19,12 +20,13 @@ use Rattle.table_soundness.specs.Sound.{sound}
 use Rattle.table_soundness.proofs.SoundFacts.{sound-at}
 use Rattle.table_index.specs.IndexForms.{Holds}
 use Rattle.table_arrival.specs.Answers6and7.{firstOf}
-use Rattle.table_arrival.specs.Arrival.{counted, putRecord, putEntry, withCreate, acceptanceOf}
+use Rattle.table_arrival.specs.Arrival.{counted, putRecord, putEntry, withCreate, withLayer}
+use Rattle.table_arrival.specs.Arrival.{acceptanceOf}
 use Rattle.table_arrival.specs.ArrivalForms.{sixBy, sixth, Ready}
 use Rattle.table_arrival.proofs.SixByCounters.{six-are}
-use Rattle.table_arrival.proofs.Admitted.{admitted, set-or-create}
+use Rattle.table_arrival.proofs.Admitted.{admitted}
 use Rattle.table_arrival.proofs.ObjectsByNumber.{sets-few}
-use Rattle.table_arrival.proofs.CodeOutcomes.{create-is, count-room}
+use Rattle.table_arrival.proofs.CodeOutcomes.{create-is, layer-is, count-room}
 
 module _ (t : Tables) (h : sound t ≡ true) where
   -- the records may be surveyed for any edit
@@ -88,12 +90,30 @@ module _ (t : Tables) (h : sound t ≡ true) where
 
       -- ---- a Set
 
-      pub set-ready : (v : Surveyed) → v ≡ surveyOf (heldBy t) e → isCreate e ≡ false → Ready t b e v
-      set-ready v dv k =
-          record {
-            isSound = h;
-            edit = de;
-            surveyed = dv;
-            passes = z;
-            set = ap isSet de ∙ set-or-create t b (admitted t b z) (sym (ap isCreate de) ∙ k);
-          }
+      pub set-ready : (v : Surveyed) → v ≡ surveyOf (heldBy t) e → isSet e ≡ true → Ready t b e v
+      set-ready v dv k = record { isSound = h; edit = de; surveyed = dv; passes = z; set = k }
+
+      -- ---- a layer edit
+
+      pub layer-given :
+          (t .counters .records < mostRecords)
+          × (t .counters .objects ≤ mostObjects)
+          × (length (t .records) ≡ recordsLength)
+          × (length b ≡ recordLength)
+          × (getD (t .counters .held) (e .site .0) 0 < mostRecords)
+      layer-given =
+          let s = sound-at t h in
+          let a = admitted t b z in
+          (a .room, s .few-objects, s .records-long, a .whole, rw de (count-room t b s a))
+
+      pub layer-taken :
+          isCreate e ≡ false → isSet e ≡ false →
+          outcomeOf 0
+          (tablesOf (counted (t .counters) (e .site) b 0) (putRecord (t .records) (t .counters .records) b)
+          (t .objects) (t .groups))
+          ≡ acceptanceOf t b
+      unfolding withLayer
+      layer-taken c s =
+          let layer = otherwise-layer (t .counters .sites) (decodeOf b) (admitted t b z .formed)
+          (sym (ap isCreate de) ∙ c) (sym (ap isSet de) ∙ s) in
+          rw de (layer-is t b z layer)

@@ -1,5 +1,5 @@
--- What the code leaves is what the definition says, case by case: refused, a Create taken, a Set taken, a Set refused
--- with 7. Assumes nothing.
+-- What the code leaves is what the definition says, case by case: refused, a Create taken, a layer edit taken, a Set
+-- taken, a Set refused with 7. Assumes nothing.
 use mathlib.Core.Path.{_≡_, sym, ap, _∙_}
 use mathlib.Core.Bool.{Bool, true, false, cond}
 use mathlib.Core.List.{List, _++_}
@@ -11,7 +11,7 @@ use lib.Dec.{eqb, ltb}
 use borrow.Author.Tests.{eq-eqb, ne-eqb, lt-ltb, le-ltb}
 use Rattle.edit_record.specs.declared.Edit.{Edit}
 use Rattle.edit_record.specs.RecordBytes.{decodeOf}
-use Rattle.edit_record.specs.Answer1.{isCreate, isSet}
+use Rattle.edit_record.specs.Answer1.{isCreate, isSet, isLayer}
 use Rattle.edit_history.specs.EditsHeld.{objectOf, mostRecords}
 use Rattle.edit_history.proofs.EditsHeld.{count-few}
 use Rattle.group_step.specs.GroupRows.{mostGroups, row, putRow, settled}
@@ -19,11 +19,13 @@ use Rattle.table_drawing.specs.Tables.{Tables, tablesOf, heldBy}
 use Rattle.table_drawing.specs.AnswerNumbers.{outcomeOf}
 use Rattle.table_soundness.proofs.SoundFacts.{Sound}
 use Rattle.table_arrival.specs.Answers6and7.{matesOf, groupsAfter, isCrowded, answerTo}
-use Rattle.table_arrival.specs.Arrival.{counted, putRecord, putCounts, withCreate, withSet, acceptanceOf}
+use Rattle.table_arrival.specs.Arrival.{counted, putRecord, putCounts, withCreate, withSet, withLayer}
+use Rattle.table_arrival.specs.Arrival.{taken, acceptanceOf}
 use Rattle.table_arrival.specs.ArrivalForms.{sixth}
 use Rattle.table_arrival.proofs.SixByCounters.{answer-is}
-use Rattle.table_arrival.proofs.Admitted.{Admitted}
-use Rattle.edit_record.proofs.WellFormed.{create-not-set, set-not-create}
+use Rattle.table_arrival.proofs.Admitted.{Admitted, create-is-taken, set-is-taken, layer-is-taken}
+use Rattle.table_arrival.proofs.RefusedForReason.{never-crowded}
+use Rattle.edit_record.proofs.WellFormed.{create-not-set, layer-not-set}
 
 module _ (t : Tables) (b : List ℕ) where
   abbrev e : Edit
@@ -42,15 +44,18 @@ module _ (t : Tables) (b : List ℕ) where
     answer-seven : answerTo t b ≡ cond (isCrowded t e) 7 0
     answer-seven = answer-is t b ∙ rw (eq-eqb (sixth t b) 0 z)
 
-    taken-is : (k : Bool) → isCreate e ≡ k → isCrowded t e ≡ false →
-        outcomeOf 0 (cond k (withCreate t b) (withSet t b)) ≡ acceptanceOf t b
+    -- what is left of an edit that 7 is not given to
+    taken-is : {u : Tables} → u ≡ taken t b → isCrowded t e ≡ false → outcomeOf 0 u ≡ acceptanceOf t b
     unfolding acceptanceOf
-    taken-is k h c =
+    taken-is h c =
         let a : answerTo t b ≡ 0 = answer-seven ∙ rw c in
         rw (a, h)
 
     pub create-is : isCreate e ≡ true → outcomeOf 0 (withCreate t b) ≡ acceptanceOf t b
-    create-is k = taken-is true k (unfold isCrowded in rw (create-not-set e k))
+    create-is k = taken-is (create-is-taken t b k) (never-crowded t e (create-not-set e k))
+
+    pub layer-is : isLayer e ≡ true → outcomeOf 0 (withLayer t b) ≡ acceptanceOf t b
+    layer-is k = taken-is (layer-is-taken t b k) (never-crowded t e (layer-not-set e k))
 
     -- ---- a Set
 
@@ -74,7 +79,7 @@ module _ (t : Tables) (b : List ℕ) where
       unfolding settled withSet
       set-is few =
           let low : ltb mostGroups (length after) ≡ false = le-ltb mostGroups (length after) few in
-          rw low (taken-is false (set-not-create e k) (crowd false low))
+          rw low (taken-is (set-is-taken t b k) (crowd false low))
 
       row-back : putRow o (t .groups) (row o (t .groups)) ≡ t .groups
       row-back =

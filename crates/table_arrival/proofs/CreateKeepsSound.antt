@@ -31,10 +31,8 @@ use Rattle.table_arrival.proofs.RecordsOneMore.{put-here, put-edits-bef
 use Rattle.edit_causal.proofs.Identities.{same-parts}
 use Rattle.table_arrival.proofs.ObjectsByNumber.{chosen-none}
 use Rattle.table_arrival.proofs.EntriesAfterStore.{object-of, entry-long, entry-past, entry-here, entry-other}
-use Rattle.table_arrival.proofs.UntouchedSound.{creates-snoc, sets-snoc, room, held-after, records-long-after}
-use Rattle.table_arrival.proofs.UntouchedSound.{counts-after, sum-after, pass-after, entry-kept}
-use Rattle.table_arrival.proofs.UntouchedSound.{records-zero-after}
-use Rattle.edit_record.proofs.WellFormed.{create-not-set}
+use Rattle.table_arrival.proofs.UntouchedSound.{sets-snoc, room, held-after, entry-kept, sound-after}
+use Rattle.edit_record.proofs.WellFormed.{create-not-set, set-aimed}
 
 -- ---- an accepted edit is the first of its identity
 
@@ -70,7 +68,7 @@ module _ (t : Tables) (b : List ℕ) (s : Sound t) (wide : length (t .counters .
       let m = recordAt rs p in
       let (is, eq) = both (isSet m) (sameEdit (m .tsite) (m .tseq) (e .site) (e .seq)) h in
       let (ts, tq) = same-parts (m .tsite) (m .tseq) (e .site) (e .seq) eq in
-      let (q, lq, tgt) = target-before (t .counters .sites) rs n (s .pass) p l is in
+      let (q, lq, tgt) = target-before (t .counters .sites) rs n (s .pass) p l (set-aimed m is) in
       let x = target-parts m (recordAt rs q) tgt in
       identity-new q (omega arith) (x .site ∙ ap (λ (y : Site). y .0) ts) (x .seq ∙ ap (λ (y : Seq). y .0) tq)))
 
@@ -137,28 +135,12 @@ module _ (t : Tables) (b : List ℕ) (s : Sound t) (wide : length (t .counters .
     pub create-keeps-sound : Sound (withCreate t b)
     unfolding withCreate
     create-keeps-sound =
-        record {
-          records-long = records-long-after t b s wide a;
-          objects-long = entry-long (t .objects) m n 0 1 ∙ s .objects-long;
-          groups-long = s .groups-long;
-          some-sites = s .some-sites;
-          few-sites = s .few-sites;
-          few-records = omega (arith, a .room);
-          few-objects = omega (arith, a .create-room k);
-          held = counts-after t b s wide a;
-          sum = sum-after t b s wide a;
-          objects =
-              ap (λ (x : ℕ). x + 1) (s .objects)
-              ∙ sym (ap (λ (es : List Edit). length (creates es)) (held-after t b s wide a) ∙ creates-snoc (heldBy t)
-              e ∙ rw k);
-          pass = pass-after t b s wide a;
-          object =
-              λ o l.
-              let l′ : o < suc m = omega arith in
-              elim (last l′) [ inl j ↦ old-object o j | inr q ↦ rw q new-object ];
-          records-zero = records-zero-after t b s wide a;
-          objects-zero =
-              λ i l j. entry-past (t .objects) m n 0 1 i (omega arith)
-              ∙ s .objects-zero i (omega arith) (omega (arith, entry-long (t .objects) m n 0 1));
-          groups-zero = λ i l j. s .groups-zero i (omega arith) j;
-        }
+        sound-after t b s wide a 1 os′ (t .groups) (rw k) (omega (arith, a .create-room k))
+        (entry-long (t .objects) m n 0 1 ∙ s .objects-long) (s .groups-long)
+        (λ o l.
+        let l′ : o < suc m = omega arith in
+        elim (last l′) [ inl j ↦ old-object o j | inr q ↦ rw q new-object ])
+        (λ i l j.
+        entry-past (t .objects) m n 0 1 i (omega arith)
+        ∙ s .objects-zero i (omega arith) (omega (arith, entry-long (t .objects) m n 0 1)))
+        (λ i l j. s .groups-zero i (omega arith) j)

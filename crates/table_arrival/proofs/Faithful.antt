@@ -16,25 +16,26 @@ use Rattle.math_lists.proofs.LastBelow.{last}
 use Rattle.edit_record.specs.declared.Edit.{Edit}
 use Rattle.edit_record.specs.Layout.{mostSites}
 use Rattle.edit_record.specs.RecordBytes.{decodeOf}
-use Rattle.edit_record.specs.Answer1.{isCreate, isSet}
+use Rattle.edit_record.specs.Answer1.{isCreate, isSet, isLayer}
 use Rattle.math_maximal.specs.Groups.{groups}
 use Rattle.math_maximal.specs.Step.{step}
-use Rattle.edit_history.specs.EditsHeld.{recordAt, editsOf, isTarget, objectOf, conflictsWith}
+use Rattle.edit_history.specs.EditsHeld.{recordAt, editsOf, isSetOn, isTarget, objectOf, conflictsWith}
 use Rattle.group_step.specs.GroupRows.{mostGroups, row, putRow}
 use Rattle.table_drawing.specs.Tables.{Tables, heldBy, placeAt, groupsAt, emptyDrawing, entryLength}
 use Rattle.table_drawing.specs.AnswerNumbers.{outcomeOf}
 use Rattle.table_soundness.proofs.SoundFacts.{Sound}
 use Rattle.table_arrival.specs.Answers6and7.{matesOf, rowOf, groupsAfter, answerTo}
-use Rattle.table_arrival.specs.Arrival.{putRecord, putEntry, putCounts, withCreate, withSet, taken, acceptanceOf}
+use Rattle.table_arrival.specs.Arrival.{putRecord, putEntry, putCounts, withCreate, withSet, withLayer}
+use Rattle.table_arrival.specs.Arrival.{taken, acceptanceOf}
 use Rattle.group_true.specs.TrueGroups.{trueGroups}
-use Rattle.table_arrival.proofs.Admitted.{Accepted, accepted, admitted-target, set-or-create}
+use Rattle.table_arrival.proofs.Admitted.{Accepted, accepted, admitted-target, taken-by-kind}
 use Rattle.table_arrival.proofs.RecordsOneMore.{put-before, put-here}
 use Rattle.table_arrival.proofs.EntriesAfterStore.{counts-place, counts-groups, other-place, other-groups}
 use Rattle.table_arrival.proofs.EntriesAfterStore.{entry-here, entry-other}
 use Rattle.group_true.proofs.TrueGroups.{groups-same, groups-more, groups-first}
 use Rattle.table_arrival.proofs.RowsAfterStore.{row-back, row-other}
 use Rattle.table_arrival.proofs.UntouchedSound.{room, held-after}
-use Rattle.edit_record.proofs.WellFormed.{create-not-set}
+use Rattle.edit_record.proofs.WellFormed.{create-not-set, set-aimed, layer-not-set}
 use Rattle.table_arrival.proofs.CreateKeepsSound.{no-set-held}
 use Rattle.table_arrival.proofs.ObjectOfSet.{object-less, target-site, target-seq, row-fits}
 use Rattle.table_arrival.proofs.SetKeepsSound.{not-on}
@@ -64,7 +65,7 @@ after-true t f e k aim =
     ∙ groups-more (heldBy t) e k (recordAt (t .records) (placeAt (t .objects) o)) (target-site t s e aim)
     (target-seq t s e aim)
 
--- ---- a Create
+-- ---- an accepted edit
 
 module _ (t : Tables) (b : List ℕ) (f : Faithful t) (a : Accepted t b) where
   abbrev e : Edit
@@ -92,6 +93,20 @@ module _ (t : Tables) (b : List ℕ) (f : Faithful t) (a : Accepted t b) where
       ap₂ trueGroups (held-after t b s wide (a .admitted))
       (put-before rs n b (a .admitted .whole) (room t b s wide (a .admitted)) p l)
 
+  -- the row of an object that the edit is no Set of
+  row-stays :
+      (o : ℕ) → o < t .counters .objects →
+      let p = placeAt (t .objects) o in
+      isSetOn (recordAt rs p .site) (recordAt rs p .seq) e ≡ false →
+      rowOf t o ≡ trueGroups (editsOf rs′ (n + 1)) (recordAt rs′ p)
+  row-stays o l d =
+      let p = placeAt (t .objects) o in
+      f .rows o l
+      ∙ sym (groups-same (heldBy t) (recordAt rs p) e d)
+      ∙ sym (groups-in p (s .object o l .entry .place))
+
+  -- ---- a Create
+
   module _ (k : isCreate e ≡ true) where
     abbrev m : ℕ
     m = t .counters .objects
@@ -103,11 +118,8 @@ module _ (t : Tables) (b : List ℕ) (f : Faithful t) (a : Accepted t b) where
         take (groupsAt os′ o) (row o (t .groups)) ≡ trueGroups (editsOf rs′ (n + 1)) (recordAt rs′ (placeAt os′ o))
     create-old o l =
         let (ep, ek, eg) = entry-other (t .objects) m n 0 1 o (λ q. omega arith) in
-        let p = placeAt (t .objects) o in
         ap (λ (g : ℕ). take g (row o (t .groups))) eg
-        ∙ f .rows o l
-        ∙ sym (groups-same (heldBy t) (recordAt rs p) e (rw (create-not-set e k)))
-        ∙ sym (groups-in p (s .object o l .entry .place))
+        ∙ row-stays o l (rw (create-not-set e k))
         ∙ ap (λ (q : ℕ). trueGroups (editsOf rs′ (n + 1)) (recordAt rs′ q)) (sym ep)
 
     first-row : take 1 (row m (t .groups)) ≡ 0 ∷ []
@@ -142,7 +154,7 @@ module _ (t : Tables) (b : List ℕ) (f : Faithful t) (a : Accepted t b) where
     x = objectOf e (heldBy t)
 
     abbrev aim : any (isTarget e) (heldBy t) ≡ true
-    aim = admitted-target t b (a .admitted) k
+    aim = admitted-target t b (a .admitted) (set-aimed e k)
 
     abbrev after : List ℕ
     after = groupsAfter t e
@@ -170,13 +182,10 @@ module _ (t : Tables) (b : List ℕ) (f : Faithful t) (a : Accepted t b) where
     set-other : (o : ℕ) → o < t .counters .objects → (o ≡ x → ⊥) →
         take (groupsAt os″ o) (row o gs′) ≡ trueGroups (editsOf rs′ (n + 1)) (recordAt rs′ (placeAt os″ o))
     set-other o l d =
-        let p = placeAt (t .objects) o in
         ap₂ take (other-groups (t .objects) o x sets (length after) d)
         (row-other (t .groups) x after (a .few k) (row-fits t s e aim) o d
         (omega (arith, s .groups-long, s .few-objects)))
-        ∙ f .rows o l
-        ∙ sym (groups-same (heldBy t) (recordAt rs p) e (not-on t b s a k wide o l d))
-        ∙ sym (groups-in p (s .object o l .entry .place))
+        ∙ row-stays o l (not-on t b s a k wide o l d)
         ∙ ap (λ (q : ℕ). trueGroups (editsOf rs′ (n + 1)) (recordAt rs′ q))
         (sym (other-place (t .objects) o x sets (length after) d))
 
@@ -186,24 +195,29 @@ module _ (t : Tables) (b : List ℕ) (f : Faithful t) (a : Accepted t b) where
         let l′ : o < t .counters .objects = omega arith in
         elim (ℕ-discrete o x) [ yes q ↦ rw q set-its | no d ↦ set-other o l′ d ]
 
+  -- ---- a layer edit
+
+  layer-keeps-true : isLayer e ≡ true → RowsTrue (withLayer t b)
+  unfolding withLayer
+  layer-keeps-true k o l = row-stays o (omega arith) (rw (layer-not-set e k))
+
 -- ---- any records from an empty drawing
 
 pub acceptance-faithful : (t : Tables) (b : List ℕ) → Faithful t → Faithful (acceptanceOf t b .after)
 acceptance-faithful t b f = record { kept = acceptance-keeps t b (f .kept); rows = rows }
   where
-    both-kinds : answerTo t b ≡ 0 → RowsTrue (taken t b)
-    both-kinds h = go (isCreate (decodeOf b)) refl
-      where
-        go : (c : Bool) → isCreate (decodeOf b) ≡ c → RowsTrue (cond c (withCreate t b) (withSet t b))
-        go true c = create-keeps-true t b f (accepted t b h) c
-        go false c = set-keeps-true t b f (accepted t b h) (set-or-create t b (accepted t b h .admitted) c)
+    all-kinds : answerTo t b ≡ 0 → RowsTrue (taken t b)
+    all-kinds h =
+        let a = accepted t b h in
+        taken-by-kind t b (a .admitted) RowsTrue (create-keeps-true t b f a) (set-keeps-true t b f a)
+        (layer-keeps-true t b f a)
 
     rows : RowsTrue (acceptanceOf t b .after)
     rows = unfold acceptanceOf in go (eqb (answerTo t b) 0) refl
       where
         go : (x : Bool) → eqb (answerTo t b) 0 ≡ x →
             RowsTrue (cond x (outcomeOf 0 (taken t b)) (outcomeOf (answerTo t b) t) .after)
-        go true h = both-kinds (eqb-true (answerTo t b) 0 h)
+        go true h = all-kinds (eqb-true (answerTo t b) 0 h)
         go false h = f .rows
 
 pub empty-faithful : (n : ℕ) → 1 ≤ n → n ≤ mostSites → Faithful (emptyDrawing n)

@@ -9,6 +9,7 @@ pub mod CreateKeepsSound
 pub mod RowsAfterStore
 pub mod ObjectOfSet
 pub mod SetKeepsSound
+pub mod LayerKeepsSound
 pub mod ArrivalKeepsSound
 pub mod Faithful
 pub mod RefusedForReason

@@ -1,5 +1,5 @@
 -- Objects by their numbers: the object in an entry is the Create with so many Creates before it, and the object that a
--- Set names is the one whose Create is its target. Assumes nothing.
+-- Set or a layer edit names is the one whose Create is its target. Assumes nothing.
 use mathlib.Core.Path.{_≡_, refl, sym, ap, ap₂, _∙_}
 use mathlib.Core.Logic.{_⊎_, inl, inr}
 use mathlib.Core.Bool.{Bool, true, false, _||_, cond}
@@ -17,6 +17,7 @@ use Rattle.edit_record.specs.declared.Site.{Site}
 use Rattle.edit_record.specs.declared.Seq.{Seq}
 use Rattle.edit_record.specs.declared.Edit.{Edit}
 use Rattle.edit_record.specs.Answer1.{isCreate, isSet}
+use Rattle.edit_record.proofs.WellFormed.{set-aimed}
 use Rattle.edit_causal.specs.Causal.{sameEdit}
 use Rattle.edit_causal.proofs.Identities.{same-site, same-seq, same-parts}
 use Rattle.edit_history.specs.EditsHeld.{recordAt, editsOf, creates, isSetOn, setsOn, isTarget, indexOf, objectOf}
@@ -77,7 +78,7 @@ chosen-none f rs (suc n) h =
     let none : _≡_ {A = ℕ} (cond (f (recordAt rs n)) 1 0) 0 = ap (λ (b : Bool). cond b 1 0) (h n (omega arith)) in
     omega (arith, chosen-more f rs n, chosen-none f rs n (λ p l. h p (omega arith)))
 
--- ---- the object that a Set names
+-- ---- the object that an edit names
 
 module _ (t : Tables) (s : Sound t) where
   -- the Create of object o
@@ -151,7 +152,7 @@ module _ (t : Tables) (s : Sound t) where
           let m = recordAt rs p in
           let (is, eq) = both (isSet m) (sameEdit (m .tsite) (m .tseq) x y) on in
           let (es, eq′) = same-parts (m .tsite) (m .tseq) x y eq in
-          let (c, lc, tgt) = target-before (t .counters .sites) rs n (s .pass) p l is in
+          let (c, lc, tgt) = target-before (t .counters .sites) rs n (s .pass) p l (set-aimed m is) in
           let parts = target-parts m (recordAt rs c) tgt in
           let (less, place) = object-at-place c (omega arith) (parts .create) in
           let entry = s .object (length (creates (editsOf rs c))) less .entry in

@@ -1,19 +1,21 @@
--- Demand 2, refusals: an edit is refused only for a listed reason that is present, and always when one is; and 7 is
--- given exactly when more than 32 maximal sets would exist. Assumes nothing.
+-- Demand 2, refusals: an edit is refused only for a listed reason that is present, and always when one is; 7 is given
+-- exactly when more than 32 maximal sets would exist; and of 6 and 7 a layer edit has only that 256 records are held.
+-- Assumes nothing.
 use mathlib.Core.Path.{_≡_, ap}
 use mathlib.Core.Logic.{_⊎_}
-use mathlib.Core.Bool.{true}
+use mathlib.Core.Bool.{true, false, or-false}
 use mathlib.Core.List.{List, [], _∷_, _++_}
 use Prim.Native.Nat.{ℕ, _+_}
 use lib.ListN.{length}
-use lib.Dec.{ltb}
+use lib.Dec.{leb, ltb}
 use Rattle.math_lists.specs.SortedLists.{any}
 use Rattle.edit_record.specs.declared.Edit.{Edit}
-use Rattle.edit_record.specs.Answer1.{isSet}
-use Rattle.edit_history.specs.EditsHeld.{recordAt, isTarget, objectOf}
+use Rattle.edit_record.specs.Answer1.{isSet, isLayer}
+use Rattle.edit_record.proofs.WellFormed.{layer-aimed, aimed-not-create, layer-not-set}
+use Rattle.edit_history.specs.EditsHeld.{mostRecords, recordAt, isTarget, objectOf}
 use Rattle.group_step.specs.GroupRows.{mostGroups}
 use Rattle.table_drawing.specs.Tables.{Tables, heldBy, placeAt}
-use Rattle.table_arrival.specs.Answers6and7.{isCrowded, reasons, answerTo}
+use Rattle.table_arrival.specs.Answers6and7.{isFull, isCrowded, reasons, answerTo}
 use Rattle.group_true.specs.TrueGroups.{trueGroups}
 use Rattle.table_arrival.proofs.FirstReason.{First, first-present, answer-present}
 use Rattle.table_arrival.proofs.Faithful.{Faithful, after-true}
@@ -38,3 +40,21 @@ pub crowded-exactly :
     (trueGroups (heldBy t ++ (e ∷ [])) (recordAt (t .records) (placeAt (t .objects) (objectOf e (heldBy t))))))
 unfolding isCrowded
 crowded-exactly t f e k aim = rw k (ap (λ (l : List ℕ). ltb mostGroups (length l)) (after-true t f e k aim))
+
+-- ---- the layer edits
+
+-- 7 is given to Sets alone
+pub never-crowded : (t : Tables) (e : Edit) → isSet e ≡ false → isCrowded t e ≡ false
+unfolding isCrowded
+never-crowded t e d = rw d
+
+-- and 6's reason for a layer edit is that 256 records are held
+pub layer-full : (t : Tables) (e : Edit) → isLayer e ≡ true → isFull t e ≡ leb mostRecords (t .counters .records)
+unfolding isFull
+layer-full t e k =
+    rw (
+      aimed-not-create e (layer-aimed e k),
+      layer-not-set e k,
+      or-false (leb mostRecords (t .counters .records)),
+      or-false (leb mostRecords (t .counters .records)),
+    )

@@ -1,9 +1,9 @@
 -- An accepted Set leaves sound tables sound: its object has one Set more and the groups that the step gives.
 -- Assumes nothing.
 use mathlib.Core.Path.{_≡_, sym, ap, ap₂, _∙_}
-use mathlib.Core.Bool.{Bool, true, false, not, _&&_, cond}
+use mathlib.Core.Bool.{true, false, _&&_}
 use mathlib.Core.List.{List, _++_}
-use Prim.Native.Nat.{ℕ, zero, suc, _+_, _-_, _*_, _≤_, _<_}
+use Prim.Native.Nat.{ℕ, suc, _+_, _-_, _*_, _≤_, _<_}
 use native.Mathlib.Omega.{arith}
 use native.Mathlib.Numerals.{add-one}
 use native.Mathlib.Decide.{ℕ-discrete}
@@ -15,7 +15,7 @@ use Rattle.edit_record.specs.declared.Seq.{Seq}
 use Rattle.edit_record.specs.declared.Edit.{Edit}
 use Rattle.edit_record.specs.Layout.{mostSites}
 use Rattle.edit_record.specs.RecordBytes.{decodeOf}
-use Rattle.edit_record.specs.Answer1.{isCreate, isSet}
+use Rattle.edit_record.specs.Answer1.{isSet}
 use Rattle.edit_causal.specs.Causal.{sameEdit}
 use Rattle.edit_causal.proofs.CausalLaws.{same-reflexive}
 use Rattle.edit_history.specs.EditsHeld.{recordAt, editsOf, creates, isSetOn, isTarget, objectOf}
@@ -34,10 +34,8 @@ use Rattle.table_arrival.proofs.EntriesAfterStore.{object-of, counts-lo
 use Rattle.table_arrival.proofs.EntriesAfterStore.{counts-sets, counts-groups, other-place, other-sets}
 use Rattle.table_arrival.proofs.EntriesAfterStore.{other-groups}
 use Rattle.table_arrival.proofs.RowsAfterStore.{row-put-long, row-elsewhere, new-row, other-row}
-use Rattle.table_arrival.proofs.UntouchedSound.{creates-snoc, held-after, records-long-after, counts-after}
-use Rattle.table_arrival.proofs.UntouchedSound.{sum-after, pass-after, entry-kept, entry-grown}
-use Rattle.table_arrival.proofs.UntouchedSound.{records-zero-after}
-use Rattle.edit_record.proofs.WellFormed.{set-not-create}
+use Rattle.table_arrival.proofs.UntouchedSound.{entry-kept, entry-grown, sound-after}
+use Rattle.edit_record.proofs.WellFormed.{set-not-create, set-aimed}
 
 -- ---- the row of its object
 
@@ -52,7 +50,7 @@ module _ (t : Tables) (b : List ℕ) (s : Sound t) (a : Accepted t b) (k : isSet
   p = placeAt (t .objects) o
 
   abbrev aim : any (isTarget e) (heldBy t) ≡ true
-  aim = admitted-target t b (a .admitted) k
+  aim = admitted-target t b (a .admitted) (set-aimed e k)
 
   abbrev after : List ℕ
   after = groupsAfter t e
@@ -135,36 +133,17 @@ module _ (t : Tables) (b : List ℕ) (s : Sound t) (a : Accepted t b) (k : isSet
     set-keeps-sound =
         let m = length (matesOf t e) + 1 in
         let long : length os′ ≡ length (t .objects) = counts-long (t .objects) o m (length after) in
-        let none : _≡_ {A = ℕ} (cond (isCreate e) 1 0) 0 = ap (λ (x : Bool). cond x 1 0) (set-not-create e k) in
-        record {
-          records-long = records-long-after t b s wide (a .admitted);
-          objects-long = long ∙ s .objects-long;
-          groups-long = row-put-long (t .groups) o after (a .few k) (row-fits t s e aim) ∙ s .groups-long;
-          some-sites = s .some-sites;
-          few-sites = s .few-sites;
-          few-records = omega (arith, a .admitted .room);
-          few-objects = omega (arith, s .few-objects);
-          held = counts-after t b s wide (a .admitted);
-          sum = sum-after t b s wide (a .admitted);
-          objects =
-              ap (λ (x : ℕ). x + 0) (s .objects)
-              ∙ sym (ap (λ (es : List Edit). length (creates es)) (held-after t b s wide (a .admitted))
-              ∙ creates-snoc (heldBy t) e ∙ rw none);
-          pass = pass-after t b s wide (a .admitted);
-          object =
-              λ q l.
-              let l′ : q < t .counters .objects = omega arith in
-              elim (ℕ-discrete q o) [ yes h ↦ rw h its-object | no d ↦ other-object q l′ d ];
-          records-zero = records-zero-after t b s wide (a .admitted);
-          objects-zero =
-              λ i l j.
-              counts-other (t .objects) o m (length after) i (λ q. omega (arith, (object-less t s e aim)))
-              (λ q. omega (arith, (object-less t s e aim)))
-              ∙ s .objects-zero i (omega arith) (omega arith);
-          groups-zero =
-              λ i l j.
-              row-elsewhere (t .groups) o after (a .few k) (row-fits t s e aim) i
-              (omega (arith, (object-less t s e aim)))
-              ∙ s .groups-zero i (omega arith) (omega
-              (arith, row-put-long (t .groups) o after (a .few k) (row-fits t s e aim)));
-        }
+        let wide-row : length gs′ ≡ length (t .groups)
+        = row-put-long (t .groups) o after (a .few k) (row-fits t s e aim) in
+        sound-after t b s wide (a .admitted) 0 os′ gs′ (rw (set-not-create e k)) (omega (arith, s .few-objects))
+        (long ∙ s .objects-long) (wide-row ∙ s .groups-long)
+        (λ q l.
+        let l′ : q < t .counters .objects = omega arith in
+        elim (ℕ-discrete q o) [ yes h ↦ rw h its-object | no d ↦ other-object q l′ d ])
+        (λ i l j.
+        counts-other (t .objects) o m (length after) i (λ q. omega (arith, (object-less t s e aim)))
+        (λ q. omega (arith, (object-less t s e aim)))
+        ∙ s .objects-zero i (omega arith) (omega arith))
+        (λ i l j.
+        row-elsewhere (t .groups) o after (a .few k) (row-fits t s e aim) i (omega (arith, (object-less t s e aim)))
+        ∙ s .groups-zero i (omega arith) (omega arith))

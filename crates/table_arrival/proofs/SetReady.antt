@@ -11,6 +11,7 @@ use Rattle.edit_record.specs.declared.Edit.{Edit}
 use Rattle.edit_record.specs.Layout.{recordLength}
 use Rattle.edit_record.specs.RecordBytes.{decodeOf}
 use Rattle.edit_record.specs.Answer1.{isSet}
+use Rattle.edit_record.proofs.WellFormed.{set-aimed}
 use Rattle.math_maximal.specs.Step.{step}
 use Rattle.edit_history.specs.declared.Surveyed.{Surveyed}
 use Rattle.edit_history.specs.EditsHeld.{mostRecords, isTarget}
@@ -83,7 +84,7 @@ module _ (t : Tables) (b : List ℕ) (isSound : Sound t) (z : sixth t b ≡ 0) (
   a = admitted t b z
 
   abbrev aim : any (isTarget e) (heldBy t) ≡ true
-  aim = admitted-target t b a k
+  aim = admitted-target t b a (set-aimed e k)
 
   given : Given t b e v
   unfolding surveyOf

@@ -11,7 +11,7 @@ use Rattle.math_lists.specs.SortedLists.{any}
 use Rattle.math_lists.proofs.Booleans.{neither}
 use Rattle.edit_record.specs.Layout.{mostSites, recordLength}
 use Rattle.edit_record.specs.RecordBytes.{decodeOf}
-use Rattle.edit_record.specs.Answer1.{isSet, unfit, malformed}
+use Rattle.edit_record.specs.Answer1.{isAimed, unfit, malformed}
 use Rattle.edit_record.proofs.WellFormed.{well-formed}
 use Rattle.edit_history.specs.EditsHeld.{isTarget}
 use Rattle.edit_history.specs.Answers2to5.{isRepeated, isEarly, isTorn, isAstray}
@@ -45,7 +45,7 @@ six-are t s b =
     let (_, fit) = neither (not (eqb (length b) recordLength)) (unfit (c .sites) e) h in
     omega (arith, well-formed (c .sites) e fit .site, s .few-sites) in
     first-same one (repeatedAgainst (c .held) e) (earlyAgainst (c .held) e) (isRepeated (heldBy t) e)
-    (isEarly (heldBy t) e) (isTorn (heldBy t) e) (isSet e && not (any (isTarget e) (heldBy t)))
+    (isEarly (heldBy t) e) (isTorn (heldBy t) e) (isAimed e && not (any (isTarget e) (heldBy t)))
     (fullWith c e (length (matesOf t e)))
     (λ h. repeated-against (c .held) (heldBy t) (s .held) e (low h))
     (λ h. early-against (c .held) (heldBy t) (s .held) e (low h))

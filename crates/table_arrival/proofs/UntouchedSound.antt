@@ -1,5 +1,5 @@
--- What an accepted edit, Create or Set, leaves sound: the records and their counts, and the entries and rows of the
--- objects that it does not touch. Assumes nothing.
+-- What an accepted edit of any kind leaves sound: the records and their counts, and the entries and rows of the objects
+-- that it does not touch. Assumes nothing.
 use mathlib.Core.Path.{_≡_, refl, sym, ap, ap₂, _∙_}
 use mathlib.Core.Logic.{inl, inr}
 use mathlib.Core.Bool.{Bool, true, false, cond}
@@ -28,11 +28,12 @@ use Rattle.edit_history.specs.Answers2to5.{passes, recordsPass}
 use Rattle.edit_sum.specs.WordSum.{recordWords, wrapped, sumOf}
 use Rattle.edit_sum.specs.SumOfEdits.{sumOver}
 use Rattle.edit_sum.proofs.SumOfRecords.{joined-sum, held-sum, record-sum}
-use Rattle.group_step.specs.GroupRows.{mostSets}
-use Rattle.table_drawing.specs.Tables.{Tables, heldBy, recordsLength}
+use Rattle.group_step.specs.GroupRows.{mostObjects, mostSets, mostGroups}
+use Rattle.table_drawing.specs.Tables.{Tables, tablesOf, heldBy, entryLength, recordsLength, objectsLength}
+use Rattle.table_drawing.specs.Tables.{groupsLength}
 use Rattle.table_soundness.proofs.SoundFacts.{Sound, ZeroFrom}
-use Rattle.table_soundness.proofs.EachObject.{Entry}
-use Rattle.table_arrival.specs.Arrival.{putRecord}
+use Rattle.table_soundness.proofs.EachObject.{Entry, Object}
+use Rattle.table_arrival.specs.Arrival.{counted, putRecord}
 use Rattle.table_arrival.proofs.Admitted.{Admitted, admitted-passes}
 use Rattle.table_arrival.proofs.RecordsOneMore.{put-long, put-after, put-before, put-here, put-edits-before}
 use Rattle.table_arrival.proofs.RecordsOneMore.{put-edits}
@@ -78,11 +79,11 @@ module _ (t : Tables) (b : List ℕ) (s : Sound t) (wide : length (t .counters .
   pub held-after : editsOf rs′ (n + 1) ≡ heldBy t ++ (e ∷ [])
   held-after = ap (editsOf rs′) (add-one n) ∙ put-edits rs n b (a .whole) room
 
-  pub records-long-after : length rs′ ≡ recordsLength
+  records-long-after : length rs′ ≡ recordsLength
   records-long-after = put-long rs n b (a .whole) room ∙ s .records-long
 
   -- the counts of the sites
-  pub counts-after :
+  counts-after :
       (x : ℕ) → x < mostSites →
       getD (set (t .counters .held) (e .site .0) (getD (t .counters .held) (e .site .0) 0 + 1)) x 0
       ≡ countFrom x (editsOf rs′ (n + 1))
@@ -103,13 +104,13 @@ module _ (t : Tables) (b : List ℕ) (s : Sound t) (wide : length (t .counters .
       ]
 
   -- the sum is that of the records
-  pub sum-after : wrapped (t .counters .sum + sumOf recordWords b) ≡ sumOf ((n + 1) * recordWords) rs′
+  sum-after : wrapped (t .counters .sum + sumOf recordWords b) ≡ sumOf ((n + 1) * recordWords) rs′
   sum-after =
       ap₂ (λ (x y : ℕ). wrapped (x + y)) (s .sum ∙ held-sum rs n) (record-sum b)
       ∙ sym (held-sum rs′ (n + 1) ∙ ap sumOver held-after ∙ joined-sum (heldBy t) (e ∷ []))
 
   -- the records pass 1 to 5 in their order
-  pub pass-after : recordsPass (t .counters .sites) rs′ (n + 1) ≡ true
+  pass-after : recordsPass (t .counters .sites) rs′ (n + 1) ≡ true
   unfolding recordsPass
   pass-after =
       let f : ℕ → Bool = λ p. passes (t .counters .sites) (editsOf rs p) (recordAt rs p) in
@@ -125,7 +126,7 @@ module _ (t : Tables) (b : List ℕ) (s : Sound t) (wide : length (t .counters .
       ]))
 
   -- past the last record there are zeros
-  pub records-zero-after : ZeroFrom rs′ ((n + 1) * placeLength)
+  records-zero-after : ZeroFrom rs′ ((n + 1) * placeLength)
   records-zero-after i l k =
       put-after rs n b (a .whole) room i (omega arith)
       ∙ s .records-zero i (omega arith) (omega (arith, put-long rs n b (a .whole) room))
@@ -176,4 +177,32 @@ module _ (t : Tables) (b : List ℕ) (s : Sound t) (wide : length (t .counters .
         number = number-after p (x .place) ∙ x .number;
         sets = ap (λ (m : ℕ). m + 1) (x .sets) ∙ sym (sets-after p (x .place) ∙ rw d);
         few = few;
+      }
+
+  -- the tables after it are sound where the entries and rows of the objects, d of them new, are
+  pub sound-after :
+      (d : ℕ) (os gs : List ℕ) →
+      let m = t .counters .objects + d in
+      cond (isCreate e) 1 0 ≡ d → m ≤ mostObjects → length os ≡ objectsLength → length gs ≡ groupsLength →
+      ((o : ℕ) → o < m → Object rs′ (n + 1) os gs o) → ZeroFrom os (m * entryLength) → ZeroFrom gs (m * mostGroups) →
+      Sound (tablesOf (counted (t .counters) (e .site) b d) rs′ os gs)
+  sound-after d os gs new few os-long gs-long object os-zero gs-zero =
+      record {
+        records-long = records-long-after;
+        objects-long = os-long;
+        groups-long = gs-long;
+        some-sites = s .some-sites;
+        few-sites = s .few-sites;
+        few-records = omega (arith, a .room);
+        few-objects = few;
+        held = counts-after;
+        sum = sum-after;
+        objects =
+            ap₂ (λ (x y : ℕ). x + y) (s .objects) (sym new)
+            ∙ sym (ap (λ (es : List Edit). length (creates es)) held-after ∙ creates-snoc (heldBy t) e);
+        pass = pass-after;
+        object = object;
+        records-zero = records-zero-after;
+        objects-zero = os-zero;
+        groups-zero = gs-zero;
       }

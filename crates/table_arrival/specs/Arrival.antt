@@ -1,5 +1,5 @@
--- What an arriving edit does: 8, then 1 to 7 in turn, the first that applies; else the tables with the Create or the
--- Set in. Assumes nothing.
+-- What an arriving edit does: 8, then 1 to 7 in turn, the first that applies; else the tables with the Create, the Set
+-- or the layer edit in. Assumes nothing.
 use Prim.Native.Nat.{ℕ, _+_, _-_, _*_}
 use mathlib.Core.List.{List, _++_}
 use mathlib.Core.Bool.{cond}
@@ -8,7 +8,7 @@ use lib.Dec.{eqb}
 use Rattle.edit_record.specs.declared.Site.{Site}
 use Rattle.edit_record.specs.Layout.{recordLength, placeLength}
 use Rattle.edit_record.specs.RecordBytes.{decodeOf}
-use Rattle.edit_record.specs.Answer1.{isCreate}
+use Rattle.edit_record.specs.Answer1.{isCreate, isSet}
 use Rattle.edit_history.specs.EditsHeld.{objectOf}
 use Rattle.edit_sum.specs.WordSum.{recordWords, wrapped, sumOf}
 use Rattle.group_step.specs.GroupRows.{mostGroups, putRow}
@@ -60,10 +60,18 @@ withSet t b =
     (putCounts (t .objects) o (length (matesOf t e) + 1) (length gs))
     (putRow o (t .groups) (gs ++ replicate (mostGroups - length gs) 0))
 
+-- a layer edit adds one record, and leaves the objects and their groups as they were
+unfoldable pub withLayer : Tables → List ℕ → Tables
+withLayer t b =
+    let c = t .counters in
+    tablesOf (counted c (decodeOf b .site) b 0) (putRecord (t .records) (c .records) b) (t .objects) (t .groups)
+
 -- ---- the arrival
 
 abbrev pub taken : Tables → List ℕ → Tables
-taken t b = cond (isCreate (decodeOf b)) (withCreate t b) (withSet t b)
+taken t b =
+    let e = decodeOf b in
+    cond (isCreate e) (withCreate t b) (cond (isSet e) (withSet t b) (withLayer t b))
 
 -- at tables that are known to be sound
 unfoldable pub acceptanceOf : Tables → List ℕ → Outcome

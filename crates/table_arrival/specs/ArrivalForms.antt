@@ -8,7 +8,7 @@ use lib.Dec.{eqb, leb}
 use Rattle.edit_record.specs.declared.Edit.{Edit}
 use Rattle.edit_record.specs.Layout.{recordLength}
 use Rattle.edit_record.specs.RecordBytes.{decodeOf}
-use Rattle.edit_record.specs.Answer1.{isCreate, isSet, unfit, malformed}
+use Rattle.edit_record.specs.Answer1.{isCreate, isSet, isAimed, unfit, malformed}
 use Rattle.edit_history.specs.declared.Surveyed.{Surveyed}
 use Rattle.edit_history.specs.EditsHeld.{mostRecords}
 use Rattle.edit_history.specs.Answers2to5.{isRepeated, isEarly, isTorn, isAstray}
@@ -31,7 +31,7 @@ sixBy c bytes e v =
     ∷ repeatedAgainst (c .held) e
     ∷ earlyAgainst (c .held) e
     ∷ v .torn
-    ∷ (isSet e && not (v .found))
+    ∷ (isAimed e && not (v .found))
     ∷ fullWith c e (v .sets)
     ∷ []
 

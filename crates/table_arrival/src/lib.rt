@@ -141,7 +141,7 @@ fn refusal(c: Counters, bytes: usize, e: Edit, v: Surveyed) -> Answer
     let one = (bytes != RECORD) | edit_record::is_unfit(c.sites, e);
     let two = edit_history::is_repeated(held, e);
     let three = edit_history::is_early(held, e);
-    let five = (e.kind == SET) & !v.found;
+    let five = edit_record::is_aimed(e) & !v.found;
     let six = is_full(c, e, v.sets);
     first_reason(one, two, three, v.torn, five, six)
 }
@@ -230,6 +230,20 @@ fn take_set(
     }
 }
 
+// Takes a layer edit that passes 1 to 6: its record and the counters after it.
+fn take_layer(c: Counters, records: &mut [u8], rec: &[u8], s: Site) -> Counters
+    requires { ⌜ (c .records < mostRecords)
+        × (c .objects ≤ mostObjects)
+        × (length (now records) ≡ recordsLength)
+        × (length (now rec) ≡ recordLength)
+        × (getD (c .held) (s .0) 0 < mostRecords) ⌝ }
+    ensures { λ r. ⌜ (r ≡ counted c s (now (rec .entry)) 0)
+        × (now (records .exit) ≡ putRecord (now (records .entry)) (c .records) (now (rec .entry))) ⌝ }
+{
+    put_record(records, c.records as usize, rec);
+    counted_with(c, s, rec, 0)
+}
+
 // An arrival at tables that are known to be sound, as those that an arrival left are, of the record's edit e with its
 // survey v.
 pub fn accept(
@@ -263,7 +277,14 @@ pub fn accept(
             counters: d,
         };
     }
-    take_set(c, records, objects, groups, rec, e, v)
+    if e.kind == SET {
+        return take_set(c, records, objects, groups, rec, e, v);
+    }
+    let d = take_layer(c, records, rec, e.site);
+    Arrived {
+        answer: Answer::Done,
+        counters: d,
+    }
 }
 
 // An arriving edit, any bytes, at any tables: 8, then 1 to 7 in turn, the first that applies; else the edit is taken.

@@ -25,6 +25,7 @@ use Rattle.math_lists.proofs.NumbersBelow.{all-at}
 use Rattle.edit_record.specs.declared.Edit.{Edit}
 use Rattle.edit_record.specs.Layout.{recordLength, placeLength}
 use Rattle.edit_record.specs.Answer1.{isCreate, isSet, unfit}
+use Rattle.edit_record.proofs.WellFormed.{set-aimed}
 use Rattle.edit_causal.proofs.CausalLaws.{same-reflexive}
 use Rattle.edit_history.specs.EditsHeld.{bytesAt, recordAt, editsOf, creates, isSetOn, setsOn, isTarget, objectOf}
 use Rattle.edit_history.specs.EditsHeld.{mostRecords}
@@ -130,7 +131,7 @@ module _ (t : Tables) (s : Sound t) (rows : RowsTrue t) where
     -- its object has no more than a row of groups in the end, so never before
     few-groups : isSet e ≡ true → length (trueGroups (editsOf rs (suc p)) (named e)) ≤ mostGroups
     few-groups k =
-        let (q, m, h) = target-before sites rs n (s .pass) p l k in
+        let (q, m, h) = target-before sites rs n (s .pass) p l (set-aimed e k) in
         let aim : any (isTarget e) (heldBy t) ≡ true = any-edit-on (isTarget e) rs n q (omega arith) h in
         let o = objectOf e (heldBy t) in
         let c = recordAt rs (placeAt (t .objects) o) in

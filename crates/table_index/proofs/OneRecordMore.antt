@@ -1,5 +1,5 @@
 -- One record more in the index: a Create gets the next number and a row with no places yet, a Set's place is put behind
--- those of its object. Assumes that the records pass and are within the limits.
+-- those of its object, and any other has its place alone. Assumes that the records pass and are within the limits.
 use mathlib.Core.Path.{_≡_, refl, sym, ap, _∙_}
 use mathlib.Core.Logic.{_⊎_, inl, inr}
 use mathlib.Core.Bool.{true, false, cond}
@@ -23,13 +23,13 @@ use Rattle.edit_history.specs.EditsHeld.{mostRecords, recordAt, editsOf, create
 use Rattle.edit_history.specs.Answers2to5.{passes, recordsPass}
 use Rattle.edit_walk.specs.WalkForms.{placesLength, slotOf, placeOf, Indexed, Spaced, SameStarts, countIn}
 use Rattle.edit_history.proofs.EditsHeld.{target-parts, create-less, chosen-grow, chosen-more}
-use Rattle.edit_history.proofs.RecordsPassed.{formed-at, one-place, target-before, set-after}
+use Rattle.edit_history.proofs.RecordsPassed.{one-place, target-before, set-after}
 use Rattle.edit_walk.proofs.WalkKeeps.{slot-low, starts-same, indexed-more}
 use Rattle.group_step.specs.GroupRows.{mostObjects, mostSets}
 use Rattle.table_drawing.specs.declared.Counters.{Counters}
 use Rattle.table_index.specs.IndexForms.{numberAt, isOn, placesOn, membersLength, IndexOf, Holds}
 use Rattle.table_index.proofs.PlacesOfSets.{places-added, places-stay, places-none, places-length, one-number}
-use Rattle.edit_record.proofs.WellFormed.{create-not-set}
+use Rattle.edit_record.proofs.WellFormed.{create-not-set, set-aimed}
 
 -- ---- the start
 
@@ -125,11 +125,39 @@ module _ (c : Counters) (rs : List ℕ) (h : Holds c rs) (n : ℕ) (l : n < c .r
     starts-kept =
         starts-same (c .sites) (h .few-sites) rs n (pass-below (suc n) l) (countIn rs (suc n)) fits ps spaced
 
+    -- ---- no Set
+
+    -- the places of the Sets stay as they are
+    not-on : isSet (recordAt rs n) ≡ false → (p : ℕ) → isOn rs p n ≡ false
+    not-on d p = off (isOn rs p n) (λ on. clash (on-target p n on .0) d)
+
+    -- ---- neither a Create nor a Set
+
+    pub place-added :
+        isCreate (recordAt rs n) ≡ false → isSet (recordAt rs n) ≡ false → IndexOf rs (suc n) (set ps at n) ns cs ms
+    place-added d e =
+        record {
+          places-long = simp length-set (x .places-long);
+          numbers-long = x .numbers-long;
+          counts-long = x .counts-long;
+          members-long = x .members-long;
+          indexed = placed;
+          numbered = λ p k cp. x .numbered p (before p k cp) cp;
+          counted = λ p k cp. x .counted p (before p k cp) cp ∙ ap length (sym (places-stay rs p n (not-on e p)));
+          rows = λ p k cp i j.
+              let same = places-stay rs p n (not-on e p) in
+              x .rows p (before p k cp) cp i (rw same at j) ∙ ap (λ (y : List ℕ). getD y i 0) (sym same);
+          fresh = λ o k. x .fresh o (omega (arith, numbers-grow));
+        }
+      where
+        before : (p : ℕ) → p < suc n → isCreate (recordAt rs p) ≡ true → p < n
+        before p k cp = elim (last k) [ inl m ↦ m | inr e ↦ clash (rw e at cp) d ]
+
     -- ---- a Create
 
     module _ (create : isCreate (recordAt rs n) ≡ true) where
-      not-on : (p : ℕ) → isOn rs p n ≡ false
-      not-on p = off (isOn rs p n) (λ on. clash (on-target p n on .0) (create-not-set (recordAt rs n) create))
+      no-set : isSet (recordAt rs n) ≡ false
+      no-set = create-not-set (recordAt rs n) create
 
       -- no Set can have named it
       none-on : placesOn rs (suc n) n ≡ []
@@ -137,7 +165,7 @@ module _ (c : Counters) (rs : List ℕ) (h : Holds c rs) (n : ℕ) (l : n < c .r
           places-none rs n (suc n)
           (λ q k. off (isOn rs n q) (λ on. elim (last k) [
             | inl m ↦ omega (arith, set-after (c .sites) rs (c .records) (h .pass) n q l (omega arith) on)
-            | inr e ↦ clash (rw e at on) (not-on n)
+            | inr e ↦ clash (rw e at on) (not-on no-set n)
           ]))
 
       pub create-added : IndexOf rs (suc n) (set ps at n) (set ns n (numberAt rs n)) cs ms
@@ -155,12 +183,12 @@ module _ (c : Counters) (rs : List ℕ) (h : Holds c rs) (n : ℕ) (l : n < c .r
                   (omega (arith, x .numbers-long, h .few-records)))
             ];
             counted = λ p k cp. elim (last k) [
-              | inl m ↦ x .counted p m cp ∙ ap length (sym (places-stay rs p n (not-on p)))
+              | inl m ↦ x .counted p m cp ∙ ap length (sym (places-stay rs p n (not-on no-set p)))
               | inr e ↦ rw (e, none-on) (x .fresh (numberAt rs n) (omega arith))
             ];
             rows = λ p k cp i j. elim (last k) [
               | inl m ↦
-                  (let same = places-stay rs p n (not-on p) in
+                  (let same = places-stay rs p n (not-on no-set p) in
                   x .rows p m cp i (rw same at j) ∙ ap (λ (y : List ℕ). getD y i 0) (sym same))
               | inr e ↦ absurd (none-short (rw e at j))
             ];
@@ -174,17 +202,15 @@ module _ (c : Counters) (rs : List ℕ) (h : Holds c rs) (n : ℕ) (l : n < c .r
 
     -- its target is a Create before it, and the index says where
     pub target-at :
-        isCreate (recordAt rs n) ≡ false →
+        isSet (recordAt rs n) ≡ true →
         (q : ℕ)
         × (q < n)
         × (isCreate (recordAt rs q) ≡ true)
         × (isOn rs q n ≡ true)
         × (placeOf (set ps at n) (recordAt rs n .tsite .0) (recordAt rs n .tseq .0) ≡ q)
-    target-at d =
+    target-at is =
         let e = recordAt rs n in
-        let is : isSet e ≡ true
-        = elim (formed-at (c .sites) rs (c .records) (h .pass) n l .kind) [ inl y ↦ clash y d | inr y ↦ y ] in
-        let (q, m, t) = target-before (c .sites) rs (c .records) (h .pass) n l is in
+        let (q, m, t) = target-before (c .sites) rs (c .records) (h .pass) n l (set-aimed e is) in
         let a = recordAt rs q in
         let parts = target-parts e a t in (
           q,

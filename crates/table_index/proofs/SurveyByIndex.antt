@@ -1,6 +1,6 @@
 -- The survey by the index is the survey of the edits held, for an edit to which none of 1 to 3 applies: a Create has no
--- target, and a Set whose target is held has it where the index says. Assumes that the records pass and are within the
--- limits.
+-- target, and any other edit whose target is held has it where the index says. Assumes that the records pass and are
+-- within the limits.
 use mathlib.Core.Path.{_≡_, refl, sym, ap, ap₂, _∙_}
 use mathlib.Core.Logic.{_⊎_, inl, inr}
 use mathlib.Core.Bool.{Bool, true, false, not, _&&_, _||_, cond}
@@ -18,7 +18,7 @@ use Rattle.edit_record.specs.declared.Seq.{Seq}
 use Rattle.edit_record.specs.declared.Edit.{Edit}
 use Rattle.edit_record.specs.Layout.{mostSites}
 use Rattle.edit_record.specs.Answer1.{isCreate, isSet, unfit}
-use Rattle.edit_record.proofs.WellFormed.{well-formed, create-aims-nowhere}
+use Rattle.edit_record.proofs.WellFormed.{well-formed, create-aims-nowhere, set-aimed}
 use Rattle.edit_causal.specs.Causal.{sameEdit}
 use Rattle.edit_causal.proofs.Identities.{same-site, same-seq}
 use Rattle.edit_history.specs.EditsHeld.{recordAt, editsOf, creates, isSetOn, setsOn, isTarget, indexOf, objectOf}
@@ -172,7 +172,7 @@ module _
         let a = recordAt rs p in
         let (set, same) = both (isSet a) (sameEdit (a .tsite) (a .tseq) (e .tsite) (e .tseq)) on in
         let (_, seq) = both (eqb (a .tsite .0) (e .tsite .0)) (eqb (a .tseq .0) (e .tseq .0)) same in
-        let (u, k, t) = target-before (c .sites) rs n (h .pass) p l set in
+        let (u, k, t) = target-before (c .sites) rs n (h .pass) p l (set-aimed a set) in
         omega (
           arith,
           target-parts a (recordAt rs u) t .seq,
@@ -188,7 +188,7 @@ module _
     create-surveyed torn y =
         rw (y, none-among e n not-target, object-none e n not-target, none-on, h .objects)
 
-  -- ---- a Set whose target is held
+  -- ---- an edit whose target is held
 
   -- where its target stands, and what the index has of it
   pub record Aimed (e : Edit) (q : ℕ) : Type 0 where

@@ -7,6 +7,7 @@ use edit_record::AT_SITE;
 use edit_record::CREATE;
 use edit_record::Edit;
 use edit_record::PLACE;
+use edit_record::SET;
 use edit_record::SITES;
 use edit_record::Seq;
 use edit_record::Site;
@@ -60,7 +61,7 @@ fn add_set(p: usize, o: usize, counts: &mut [u16], members: &mut [u16])
 }
 
 // Puts the record in place p into the index of those before it, of which m are Creates, and which has room for it; says
-// how many are then.
+// how many are then. A layer edit has its place alone: it counts for no object.
 pub fn add(
     recs: &[u8],
     p: usize,
@@ -81,9 +82,13 @@ pub fn add(
 {
     let at = spot(recs, places, p);
     places[at] = p as u16;
-    if edit_history::kind_at(recs, p) == CREATE {
+    let kind = edit_history::kind_at(recs, p);
+    if kind == CREATE {
         numbers[p] = m;
         return m + 1;
+    }
+    if kind != SET {
+        return m;
     }
     let q = edit_walk::target_place(recs, places, p);
     let o = numbers[q as usize];

@@ -10,6 +10,7 @@ use Rattle.math_lists.specs.NumbersBelow.{all}
 use Rattle.math_lists.proofs.Booleans.{both}
 use Rattle.math_lists.proofs.NumbersBelow.{all-same}
 use Rattle.edit_record.specs.Layout.{mostSites, placeLength}
+use Rattle.edit_record.proofs.WellFormed.{set-aimed}
 use Rattle.edit_history.specs.Answers2to5.{recordsPass}
 use Rattle.edit_history.specs.EditsHeld.{mostRecords, recordAt, creates, countFrom}
 use Rattle.edit_sum.specs.WordSum.{recordWords, sumOf}
@@ -94,7 +95,7 @@ not-passing t h = simp (h, and-false)
 pub targeted :
     (sites : ℕ) (rs : List ℕ) (n : ℕ) → recordsPass sites rs n ≡ true → Targeted rs n
 targeted sites rs n pass p l h =
-    let (q, m, t) = target-before sites rs n pass p l h in
+    let (q, m, t) = target-before sites rs n pass p l (set-aimed (recordAt rs p) h) in
     let x = target-parts (recordAt rs p) (recordAt rs q) t in
     (q, m, x .create, x .site, x .seq)
 

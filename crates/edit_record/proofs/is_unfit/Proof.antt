@@ -13,13 +13,31 @@ is-nonzero-past-requires c κs = search needs
 is-last-eight-zero-requires : tie.Need-is-last-eight-zero-requires
 is-last-eight-zero-requires c κs = search needs
 
+is-layer-requires : tie.Need-is-layer-requires
+is-layer-requires c κs = search needs
+
+is-aimed-requires : tie.Need-is-aimed-requires
+is-aimed-requires c κs = search needs
+
 returns : tie.Need-returns
 unfolding unfit
 returns c =
     let z = c .before .before .before .before .before .before .before .before .before .before in
-    rw (z .is-last-eight-zero .ensures, z .before .is-nonzero-past .ensures, z .before .before .entry .ensures)
+    rw (
+      z .is-aimed .ensures,
+      z .before .is-layer .ensures,
+      z .before .before .is-last-eight-zero .ensures,
+      z .before .before .before .is-nonzero-past .ensures,
+      z .before .before .before .before .entry .ensures,
+    )
 
 pub is-unfit-spec : {M : Type 1} → statement M
 is-unfit-spec =
     tie.close
-    (tie.spec entry-requires is-nonzero-past-requires is-last-eight-zero-requires returns)
+    (tie.spec
+    entry-requires
+    is-nonzero-past-requires
+    is-last-eight-zero-requires
+    is-layer-requires
+    is-aimed-requires
+    returns)

@@ -3,9 +3,7 @@ use mathlib.Core.Path.{_≡_, refl}
 use mathlib.Core.Bool.{Bool, true, false, not, _||_}
 use denote.Ref.{now}
 use borrow.Author.Needs.{needs}
-use borrow.Author.Tests.{eq-eqb, ne-eqb}
-use Rattle.edit_record.specs.Layout.{setKind}
-use Rattle.edit_record.specs.Answer1.{isSet, unfit}
+use Rattle.edit_record.specs.Answer1.{isAimed, unfit}
 use Rattle.edit_history.specs.SurveyForms.{repeatedAgainst, earlyAgainst}
 use Rattle.edit_walk.specs.WalkForms.{tornByLatest, targetHeld, passesAgainst}
 use Rattle.edit_walk.proofs.is_passing.Statement.{statement}
@@ -53,6 +51,9 @@ returns-2 c =
     = (rw (c .before .is-torn-by-latest .ensures) at (c .if2 .taken)) in
     rw (k, t)
 
+is-aimed-requires : tie.Need-is-aimed-requires
+is-aimed-requires c κs = search needs
+
 is-target-held-requires : tie.Need-is-target-held-requires
 is-target-held-requires c κs = search needs
 
@@ -68,7 +69,7 @@ returns-3 c =
     = (rw (early, repeated, misfit) at (i .if1 .left)) in
     let t : tornByLatest (now (a .recs)) (now (a .places)) (a .e) ≡ false
     = (rw (c .before .before .before .before .is-torn-by-latest .ensures) at (c .before .before .before .if2 .left)) in
-    let s : isSet (a .e) ≡ true = eq-eqb (a .e .kind) setKind (c .before .if3 .taken) in
+    let s : isAimed (a .e) ≡ true = rw (c .before .before .is-aimed .ensures) at (c .before .if3 .taken) in
     rw (k, t, s, c .is-target-held .ensures)
     (twice (targetHeld (a .held) (now (a .recs)) (now (a .places)) (a .e)))
 
@@ -84,7 +85,7 @@ returns-4 c =
     = (rw (early, repeated, misfit) at (i .if1 .left)) in
     let t : tornByLatest (now (a .recs)) (now (a .places)) (a .e) ≡ false
     = (rw (c .before .before .before .is-torn-by-latest .ensures) at (c .before .before .if2 .left)) in
-    let s : isSet (a .e) ≡ false = ne-eqb (a .e .kind) setKind (c .if3 .left) in
+    let s : isAimed (a .e) ≡ false = rw (c .before .is-aimed .ensures) at (c .if3 .left) in
     rw (k, t, s)
 
 pub is-passing-spec : {M : Type 1} → statement M
@@ -97,6 +98,7 @@ is-passing-spec =
     returns
     is-torn-by-latest-requires
     returns-2
+    is-aimed-requires
     is-target-held-requires
     returns-3
     returns-4)

@@ -10,7 +10,7 @@ use Rattle.table_drawing.specs.Tables.{tablesOf}
 use Rattle.table_soundness.proofs.SoundFacts.{sound-at}
 use Rattle.list_lines.specs.List.{linesFor}
 use Rattle.list_lines.specs.LinesForms.{LeftOf}
-use Rattle.list_objects.proofs.GatheredIs.{in-order}
+use Rattle.list_objects.proofs.KeysByMoves.{in-order}
 use Rattle.list_lines.proofs.LineFound.{all-left, passed-over, found-at, not-found}
 use borrow.Author.Needs.{needs}
 use Rattle.list_lines.proofs.find.Statement.{statement}
@@ -31,18 +31,21 @@ slice-aggregate-sort-objects c = search needs
 cast-sort-objects : tie.Need-cast-sort-objects Inv-loop μ-loop
 cast-sort-objects c = search needs
 
+cast-sort-objects-2 : tie.Need-cast-sort-objects-2 Inv-loop μ-loop
+cast-sort-objects-2 c = search needs
+
 sort-objects-requires : tie.Need-sort-objects-requires Inv-loop μ-loop
 sort-objects-requires c κs =
-    let s = c .before .before .before .before .before in
+    let s = c .before .before .before .before .before .before in
     let a = s .args in
     let t = tablesOf (a .c) (now (a .records)) (now (a .objects)) (now (a .groups)) in
-    let few = sound-at t (s .pre) .few-objects in
-    (few, omega (arith, few))
+    let f = sound-at t (s .pre) in
+    (f .few-records, f .few-objects, omega (arith, f .few-objects))
 
 loop-holds : tie.Need-loop-holds Inv-loop μ-loop
 loop-holds c =
     let o = c .before .sort-objects in
-    let s = c .before .before .before .before .before .before .before in
+    let s = c .before .before .before .before .before .before .before .before in
     let a = s .args in
     let t = tablesOf (a .c) (now (a .records)) (now (a .objects)) (now (a .groups)) in
     let few = sound-at t (s .pre) .few-objects in
@@ -75,13 +78,13 @@ cast-count c = search needs
 returns : tie.Need-returns Inv-loop μ-loop
 returns c =
     let l = c .before .before .before .before .before .before .loop in
-    let o = c .before .before .before .before .before .before .before .before .sort-objects in
-    let s =
-    c .before .before .before .before .before .before .before .before .before .before .before .before .before .before in
+    let sorted = c .before .before .before .before .before .before .before .before in
+    let s = sorted .before .before .before .before .before .before .before in
+    let o = sorted .sort-objects in
     let a = s .args in
     let t = tablesOf (a .c) (now (a .records)) (now (a .objects)) (now (a .groups)) in
     let f = sound-at t (s .pre) in
-    found-at t f (o .last .0) (a .k) (omega (arith, f .few-objects, o .kept .0)) (o .ensures ∙ in-order t) (l .i)
+    found-at t f (o .last .0) (a .k) (omega (arith, f .few-objects, o .kept .0)) (o .ensures ∙ in-order t f) (l .i)
     (l .left) _ _
     (omega arith) (l .inv .1) (c .before .before .at16 .ensures) (c .before .at162 .ensures) (omega arith)
 
@@ -94,14 +97,14 @@ loop-less c = omega arith
 loop-again : tie.Need-loop-again Inv-loop μ-loop
 loop-again c =
     let l = c .before .before .before .before .before .before .loop in
-    let o = c .before .before .before .before .before .before .before .before .sort-objects in
-    let s =
-    c .before .before .before .before .before .before .before .before .before .before .before .before .before .before in
+    let sorted = c .before .before .before .before .before .before .before .before in
+    let s = sorted .before .before .before .before .before .before .before in
+    let o = sorted .sort-objects in
     let a = s .args in
     let t = tablesOf (a .c) (now (a .records)) (now (a .objects)) (now (a .groups)) in
     let f = sound-at t (s .pre) in (
       omega arith,
-      passed-over t f (o .last .0) (a .k) (omega (arith, f .few-objects, o .kept .0)) (o .ensures ∙ in-order t) (l .i)
+      passed-over t f (o .last .0) (a .k) (omega (arith, f .few-objects, o .kept .0)) (o .ensures ∙ in-order t f) (l .i)
           (l .left) _ _
           (omega arith) (l .inv .1) (c .before .before .at16 .ensures) (c .before .at162 .ensures) (omega arith),
     )
@@ -110,11 +113,11 @@ returns-2 : tie.Need-returns-2 Inv-loop μ-loop
 returns-2 c =
     let l = c .before .before .loop in
     let o = c .before .before .before .before .sort-objects in
-    let s = c .before .before .before .before .before .before .before .before .before .before in
+    let s = c .before .before .before .before .before .before .before .before .before .before .before in
     let a = s .args in
     let t = tablesOf (a .c) (now (a .records)) (now (a .objects)) (now (a .groups)) in
     let f = sound-at t (s .pre) in
-    not-found t f (o .last .0) (a .k) (omega (arith, f .few-objects, o .kept .0)) (o .ensures ∙ in-order t) (l .i)
+    not-found t f (o .last .0) (a .k) (omega (arith, f .few-objects, o .kept .0)) (o .ensures ∙ in-order t f) (l .i)
     (l .left)
     (l .inv .0) (omega arith) (l .inv .1)
 
@@ -126,6 +129,7 @@ find-spec =
     μ-loop
     slice-aggregate-sort-objects
     cast-sort-objects
+    cast-sort-objects-2
     sort-objects-requires
     loop-holds
     cast-if1

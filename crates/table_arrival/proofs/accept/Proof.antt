@@ -4,8 +4,9 @@ use denote.Ref.{now}
 use borrow.Author.Tests.{eq-eqb, ne-eqb}
 use Rattle.table_drawing.specs.Tables.{tablesOf}
 use Rattle.table_drawing.specs.AnswerNumbers.{numberOf}
-use Rattle.edit_record.specs.Layout.{createKind}
-use Rattle.table_arrival.proofs.CodeInHand.{sixth-is, create-given, create-taken, set-ready}
+use Rattle.edit_record.specs.Layout.{createKind, setKind}
+use Rattle.table_arrival.proofs.CodeInHand.{sixth-is, create-given, create-taken, set-ready, layer-given}
+use Rattle.table_arrival.proofs.CodeInHand.{layer-taken}
 use Rattle.table_arrival.proofs.CodeOutcomes.{refused-is}
 use Rattle.table_arrival.specs.ArrivalForms.{sixth}
 use borrow.Author.Needs.{needs}
@@ -70,19 +71,19 @@ returns-2 c =
 
 take-set-requires : tie.Need-take-set-requires
 take-set-requires c κs =
-    let s5 = c .before .before .before .before .before in
-    let s6 = s5 .before in
-    let s7 = s6 .before in
-    let s = s7 .before .before .before .before .before in
+    let s7 = c .before .before .before .before .before .before .before in
+    let s8 = s7 .before in
+    let s9 = s8 .before in
+    let s = s9 .before .before .before .before .before in
     let a = s .args in
     let t = tablesOf (a .c) (now (a .records)) (now (a .objects)) (now (a .groups)) in
     let b = now (a .rec) in
-    let r = s7 .refusal in
+    let r = s9 .refusal in
     let q : numberOf (r .result) ≡ sixth t b
     = r .ensures ∙ sixth-is t (s .pre .0) b (a .e) (s .pre .1) (a .v) (s .pre .2) in
-    let z : sixth t b ≡ 0 = sym q ∙ sym (s6 .number .ensures) ∙ s5 .if1 .left in
+    let z : sixth t b ≡ 0 = sym q ∙ sym (s8 .number .ensures) ∙ s7 .if1 .left in
     set-ready t (s .pre .0) b (a .e) (s .pre .1) z (a .v) (s .pre .2)
-    (ne-eqb (a .e .kind) createKind (c .before .before .before .if2 .left))
+    (eq-eqb (a .e .kind) setKind (c .before .before .before .if3 .taken))
 
 same-length-3 : tie.Need-same-length-3
 same-length-3 c = search needs
@@ -97,6 +98,44 @@ returns-3 : tie.Need-returns-3
 returns-3 c =
     let s6 = c .before .before .before .before .before .before in
     s6 .take-set .ensures
+
+take-layer-requires : tie.Need-take-layer-requires
+take-layer-requires c κs =
+    let s5 = c .before .before .before .before .before in
+    let s6 = s5 .before in
+    let s7 = s6 .before in
+    let s = s7 .before .before .before .before .before in
+    let a = s .args in
+    let t = tablesOf (a .c) (now (a .records)) (now (a .objects)) (now (a .groups)) in
+    let b = now (a .rec) in
+    let r = s7 .refusal in
+    let q : numberOf (r .result) ≡ sixth t b
+    = r .ensures ∙ sixth-is t (s .pre .0) b (a .e) (s .pre .1) (a .v) (s .pre .2) in
+    let z : sixth t b ≡ 0 = sym q ∙ sym (s6 .number .ensures) ∙ s5 .if1 .left in
+    layer-given t (s .pre .0) b (a .e) (s .pre .1) z
+
+same-length-6 : tie.Need-same-length-6
+same-length-6 c = search needs
+
+returns-4 : tie.Need-returns-4
+returns-4 c =
+    let s4 = c .before .before .before .before in
+    let s6 = s4 .before .before in
+    let s8 = s6 .before .before in
+    let s9 = s8 .before in
+    let s10 = s9 .before in
+    let s = s10 .before .before .before .before .before in
+    let a = s .args in
+    let t = tablesOf (a .c) (now (a .records)) (now (a .objects)) (now (a .groups)) in
+    let b = now (a .rec) in
+    let r = s10 .refusal in
+    let q : numberOf (r .result) ≡ sixth t b
+    = r .ensures ∙ sixth-is t (s .pre .0) b (a .e) (s .pre .1) (a .v) (s .pre .2) in
+    let z : sixth t b ≡ 0 = sym q ∙ sym (s9 .number .ensures) ∙ s8 .if1 .left in
+    let m = c .before .before .take-layer in
+    rw (m .ensures .0, m .ensures .1)
+    (layer-taken t (s .pre .0) b (a .e) (s .pre .1) z (ne-eqb (a .e .kind) createKind (s6 .if2 .left))
+    (ne-eqb (a .e .kind) setKind (s4 .if3 .left)))
 
 pub accept-spec : {M : Type 1} → statement M
 accept-spec =
@@ -113,4 +152,7 @@ accept-spec =
     same-length-3
     same-length-4
     same-length-5
-    returns-3)
+    returns-3
+    take-layer-requires
+    same-length-6
+    returns-4)

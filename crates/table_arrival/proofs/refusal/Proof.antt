@@ -12,6 +12,9 @@ is-repeated-requires c κs = search needs
 is-early-requires : tie.Need-is-early-requires
 is-early-requires c κs = search needs
 
+is-aimed-requires : tie.Need-is-aimed-requires
+is-aimed-requires c κs = search needs
+
 is-full-requires : tie.Need-is-full-requires
 is-full-requires c κs = search needs
 
@@ -24,6 +27,7 @@ returns c =
     let e = f .before .before .before in
     rw (
       f .is-full .ensures,
+      f .before .before .is-aimed .ensures,
       e .is-early .ensures,
       e .before .is-repeated .ensures,
       e .before .before .is-unfit .ensures,
@@ -37,6 +41,7 @@ refusal-spec =
     is-unfit-requires
     is-repeated-requires
     is-early-requires
+    is-aimed-requires
     is-full-requires
     first-reason-requires
     returns)

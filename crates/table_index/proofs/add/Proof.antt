@@ -1,5 +1,5 @@
--- `table_index::add` meets its contract: a Create gets the next number, and a Set's place stands behind those of its
--- object. Assumes nothing.
+-- `table_index::add` meets its contract: a Create gets the next number, a Set's place stands behind those of its
+-- object, and any other record has its place alone. Assumes nothing.
 use mathlib.Core.Path.{_≡_, sym, ap, _∙_}
 use mathlib.Core.Bool.{Bool, true, false, cond}
 use Prim.Native.Nat.{suc, _+_, _<_}
@@ -8,14 +8,14 @@ use native.Mathlib.Omega.{arith}
 use lib.ListN.{getD}
 use denote.Ref.{now}
 use borrow.Author.Tests.{eq-eqb, ne-eqb}
-use Rattle.edit_record.specs.Layout.{createKind}
-use Rattle.edit_record.specs.Answer1.{isCreate}
+use Rattle.edit_record.specs.Layout.{createKind, setKind}
+use Rattle.edit_record.specs.Answer1.{isCreate, isSet}
 use Rattle.edit_history.specs.EditsHeld.{recordAt}
 use Rattle.edit_walk.specs.WalkForms.{placesLength, Spaced, countIn}
 use Rattle.group_step.specs.GroupRows.{mostObjects}
 use Rattle.table_index.specs.IndexForms.{numberAt}
 use Rattle.table_index.proofs.OneRecordMore.{spot-low, starts-kept, number-low, number-more, create-added}
-use Rattle.table_index.proofs.OneRecordMore.{target-at, room, low, set-added}
+use Rattle.table_index.proofs.OneRecordMore.{place-added, target-at, room, low, set-added}
 use borrow.Author.Needs.{needs}
 use Rattle.table_index.proofs.add.Statement.{statement}
 use Rattle.table_index.proofs.add.Tie as tie
@@ -98,6 +98,31 @@ returns c =
           (s .pre .1) (room-of s)),
     )
 
+same-length-3 : tie.Need-same-length-3
+same-length-3 c = search needs
+
+returns-2 : tie.Need-returns-2
+returns-2 c =
+    let s = c .before .before .before .before .before .before .before .before .before .before in
+    let a = s .args in
+    let rs = now (a .recs) in
+    let (d, h, l) = s .pre .0 in
+    let kind = c .before .before .kind-at .ensures in
+    let no : isCreate (recordAt rs (a .p)) ≡ false
+    = ne-eqb (recordAt rs (a .p) .kind) createKind (λ y. c .before .if1 .left (kind ∙ y)) in
+    let other : isSet (recordAt rs (a .p)) ≡ false
+    = ne-eqb (recordAt rs (a .p) .kind) setKind (λ y. c .if2 .taken (kind ∙ y)) in
+    let more : numberAt rs (suc (a .p)) ≡ numberAt rs (a .p) + 0
+    = number-more d rs h (a .p) l ∙ ap (λ (b : Bool). numberAt rs (a .p) + cond b 1 0) no in (
+      rw (add-one (a .p), c .before .before .before .spot .ensures)
+          (place-added d rs h (a .p) l (now (a .places)) (now (a .numbers)) (now (a .counts)) (now (a .members))
+          (s .pre .1) (room-of s) no other),
+      rw (add-one (a .p)) (omega (arith, more, s .pre .2)),
+      rw (c .before .before .before .spot .ensures)
+          (starts-kept d rs h (a .p) l (now (a .places)) (now (a .numbers)) (now (a .counts)) (now (a .members))
+          (s .pre .1) (room-of s)),
+    )
+
 target-place-requires : tie.Need-target-place-requires
 target-place-requires c κs = search needs
 
@@ -109,38 +134,38 @@ mul-o c = search needs
 
 slice-read-o : tie.Need-slice-read-o
 slice-read-o c =
-    let s5 = c .before .before .before .before .before in
-    let s = s5 .before .before .before .before .before .before .before in
+    let s6 = c .before .before .before .before .before .before in
+    let s = s6 .before .before .before .before .before .before .before in
     let a = s .args in
     let rs = now (a .recs) in
     let (d, h, l) = s .pre .0 in
     let x = s .pre .1 in
     let y = room-of s in
     let f = c .before .target-place in
-    let no : isCreate (recordAt rs (a .p)) ≡ false
-    = ne-eqb (recordAt rs (a .p) .kind) createKind
-    (λ y. c .before .before .before .if1 .left (c .before .before .before .before .kind-at .ensures ∙ y)) in
+    let set : isSet (recordAt rs (a .p)) ≡ true
+    = eq-eqb (recordAt rs (a .p) .kind) setKind
+    (sym (c .before .before .before .before .before .kind-at .ensures) ∙ c .before .before .before .if2 .left) in
     let (q, m, create, on, at)
-    = target-at d rs h (a .p) l (now (a .places)) (now (a .numbers)) (now (a .counts)) (now (a .members)) x y no in
-    let is : f .result ≡ q = (rw (s5 .spot .ensures) at (f .ensures)) ∙ at in
+    = target-at d rs h (a .p) l (now (a .places)) (now (a .numbers)) (now (a .counts)) (now (a .members)) x y set in
+    let is : f .result ≡ q = (rw (s6 .spot .ensures) at (f .ensures)) ∙ at in
     omega (arith, x .numbers-long, is, m, h .few-records, l)
 
 cast-add-set : tie.Need-cast-add-set
 cast-add-set c =
-    let s5 = c .before .before .before .before .before in
-    let s = s5 .before .before .before .before .before .before .before in
+    let s6 = c .before .before .before .before .before .before in
+    let s = s6 .before .before .before .before .before .before .before in
     let a = s .args in
     let rs = now (a .recs) in
     let (d, h, l) = s .pre .0 in
     let x = s .pre .1 in
     let y = room-of s in
     let f = c .before .target-place in
-    let no : isCreate (recordAt rs (a .p)) ≡ false
-    = ne-eqb (recordAt rs (a .p) .kind) createKind
-    (λ y. c .before .before .before .if1 .left (c .before .before .before .before .kind-at .ensures ∙ y)) in
+    let set : isSet (recordAt rs (a .p)) ≡ true
+    = eq-eqb (recordAt rs (a .p) .kind) setKind
+    (sym (c .before .before .before .before .before .kind-at .ensures) ∙ c .before .before .before .if2 .left) in
     let (q, m, create, on, at)
-    = target-at d rs h (a .p) l (now (a .places)) (now (a .numbers)) (now (a .counts)) (now (a .members)) x y no in
-    let is : f .result ≡ q = (rw (s5 .spot .ensures) at (f .ensures)) ∙ at in
+    = target-at d rs h (a .p) l (now (a .places)) (now (a .numbers)) (now (a .counts)) (now (a .members)) x y set in
+    let is : f .result ≡ q = (rw (s6 .spot .ensures) at (f .ensures)) ∙ at in
     let o = x .numbered q m create in
     let few = low d rs h (a .p) l (now (a .places)) (now (a .numbers)) (now (a .counts)) (now (a .members)) x y q m
     create on in
@@ -150,20 +175,20 @@ cast-add-set c =
 add-set-requires : tie.Need-add-set-requires
 add-set-requires c κs =
     let s5 = c .before .before .before .before .before in
-    let s6 = s5 .before in
-    let s7 = s6 .before in
-    let s = s7 .before .before .before .before .before .before .before in
+    let s7 = s5 .before .before in
+    let s8 = s7 .before in
+    let s = s8 .before .before .before .before .before .before .before in
     let a = s .args in
     let rs = now (a .recs) in
     let (d, h, l) = s .pre .0 in
     let x = s .pre .1 in
     let y = room-of s in
     let f = c .before .before .before .target-place in
-    let no : isCreate (recordAt rs (a .p)) ≡ false
-    = ne-eqb (recordAt rs (a .p) .kind) createKind (λ y. s5 .if1 .left (s6 .kind-at .ensures ∙ y)) in
+    let set : isSet (recordAt rs (a .p)) ≡ true
+    = eq-eqb (recordAt rs (a .p) .kind) setKind (sym (s7 .kind-at .ensures) ∙ s5 .if2 .left) in
     let (q, m, create, on, at)
-    = target-at d rs h (a .p) l (now (a .places)) (now (a .numbers)) (now (a .counts)) (now (a .members)) x y no in
-    let is : f .result ≡ q = (rw (s7 .spot .ensures) at (f .ensures)) ∙ at in
+    = target-at d rs h (a .p) l (now (a .places)) (now (a .numbers)) (now (a .counts)) (now (a .members)) x y set in
+    let is : f .result ≡ q = (rw (s8 .spot .ensures) at (f .ensures)) ∙ at in
     let o : getD (now (a .numbers)) (f .result) 0 ≡ numberAt rs q = rw is (x .numbered q m create) in
     let few = low d rs h (a .p) l (now (a .places)) (now (a .numbers)) (now (a .counts)) (now (a .members)) x y q m
     create on in
@@ -171,22 +196,23 @@ add-set-requires c κs =
     create on in
     (omega (arith, h .few-records, l), rw o few, x .counts-long, x .members-long, rw o left)
 
-same-length-3 : tie.Need-same-length-3
-same-length-3 c = search needs
-
 same-length-4 : tie.Need-same-length-4
 same-length-4 c = search needs
 
 same-length-5 : tie.Need-same-length-5
 same-length-5 c = search needs
 
-returns-2 : tie.Need-returns-2
-returns-2 c =
+same-length-6 : tie.Need-same-length-6
+same-length-6 c = search needs
+
+returns-3 : tie.Need-returns-3
+returns-3 c =
     let s8 = c .before .before .before .before .before .before .before .before in
     let s10 = s8 .before .before in
     let s11 = s10 .before in
     let s12 = s11 .before in
-    let s = s12 .before .before .before .before .before .before .before in
+    let s13 = s12 .before in
+    let s = s13 .before .before .before .before .before .before .before in
     let a = s .args in
     let rs = now (a .recs) in
     let (d, h, l) = s .pre .0 in
@@ -194,19 +220,21 @@ returns-2 c =
     let y = room-of s in
     let f = s8 .target-place in
     let no : isCreate (recordAt rs (a .p)) ≡ false
-    = ne-eqb (recordAt rs (a .p) .kind) createKind (λ y. s10 .if1 .left (s11 .kind-at .ensures ∙ y)) in
+    = ne-eqb (recordAt rs (a .p) .kind) createKind (λ y. s11 .if1 .left (s12 .kind-at .ensures ∙ y)) in
+    let set : isSet (recordAt rs (a .p)) ≡ true
+    = eq-eqb (recordAt rs (a .p) .kind) setKind (sym (s12 .kind-at .ensures) ∙ s10 .if2 .left) in
     let (q, m, create, on, at)
-    = target-at d rs h (a .p) l (now (a .places)) (now (a .numbers)) (now (a .counts)) (now (a .members)) x y no in
-    let is : f .result ≡ q = (rw (s12 .spot .ensures) at (f .ensures)) ∙ at in
+    = target-at d rs h (a .p) l (now (a .places)) (now (a .numbers)) (now (a .counts)) (now (a .members)) x y set in
+    let is : f .result ≡ q = (rw (s13 .spot .ensures) at (f .ensures)) ∙ at in
     let o : getD (now (a .numbers)) (f .result) 0 ≡ numberAt rs q = rw is (x .numbered q m create) in
     let added = c .before .before .before .before .add-set .ensures in
     let more : numberAt rs (suc (a .p)) ≡ numberAt rs (a .p) + 0
     = number-more d rs h (a .p) l ∙ ap (λ (b : Bool). numberAt rs (a .p) + cond b 1 0) no in (
-      rw (add-one (a .p), added .0, added .1, o, s12 .spot .ensures)
+      rw (add-one (a .p), added .0, added .1, o, s13 .spot .ensures)
           (set-added d rs h (a .p) l (now (a .places)) (now (a .numbers)) (now (a .counts)) (now (a .members)) x y q m
           create on),
       rw (add-one (a .p)) (omega (arith, more, s .pre .2)),
-      rw (s12 .spot .ensures)
+      rw (s13 .spot .ensures)
           (starts-kept d rs h (a .p) l (now (a .places)) (now (a .numbers)) (now (a .counts)) (now (a .members)) x y),
     )
 
@@ -225,13 +253,15 @@ add-spec =
     same-length
     same-length-2
     returns
+    same-length-3
+    returns-2
     target-place-requires
     cast-o
     mul-o
     slice-read-o
     cast-add-set
     add-set-requires
-    same-length-3
     same-length-4
     same-length-5
-    returns-2)
+    same-length-6
+    returns-3)

@@ -13,7 +13,7 @@ use Rattle.table_drawing.specs.Tables.{tablesOf}
 use Rattle.table_soundness.proofs.SoundFacts.{sound-at}
 use Rattle.list_line.specs.Line.{lineLength}
 use Rattle.list_lines.specs.List.{linesFor}
-use Rattle.list_objects.specs.Objects.{objectsOf}
+use Rattle.list_objects.proofs.KeysByMoves.{in-order}
 use Rattle.list_print.specs.Printing.{joined}
 use Rattle.list_print.specs.PrintForms.{Behind}
 use Rattle.list_print.proofs.BytesBehind.{fewer-behind, no-piece, piece-behind}
@@ -36,19 +36,22 @@ cast-m c = search needs
 slice-aggregate-sort-objects : tie.Need-slice-aggregate-sort-objects Inv-loop μ-loop
 slice-aggregate-sort-objects c = search needs
 
+cast-sort-objects : tie.Need-cast-sort-objects Inv-loop μ-loop
+cast-sort-objects c = search needs
+
 sort-objects-requires : tie.Need-sort-objects-requires Inv-loop μ-loop
 sort-objects-requires c κs =
-    let s = c .before .before .before .before .before .before .before .before .before in
+    let s = c .before .before .before .before .before .before .before .before .before .before in
     let a = s .args in
     let t = tablesOf (a .c) (now (a .records)) (now (a .objects)) (now (a .groups)) in
-    let few = sound-at t (s .pre .0) .few-objects in
-    (few, omega (arith, few))
+    let f = sound-at t (s .pre .0) in
+    (f .few-records, f .few-objects, omega (arith, f .few-objects))
 
 loop-holds : tie.Need-loop-holds Inv-loop μ-loop
 loop-holds c =
     let s10 = c .before .before .before .before .before .before .before .before .before .before in
-    let s11 = s10 .before in
-    let a = s11 .args in
+    let s12 = s10 .before .before in
+    let a = s12 .args in
     let t = tablesOf (a .c) (now (a .records)) (now (a .objects)) (now (a .groups)) in
     let order = c .before .sort-objects .last .0 in
     let none = no-piece (λ o. joined (linesFor t o)) (mostGroups * lineLength) (now (a .out)) order (a .n) in
@@ -60,35 +63,34 @@ mul-o c = search needs
 array-read-o : tie.Need-array-read-o Inv-loop μ-loop
 array-read-o c =
     let s10 = c .before .before .before .before .before .before .before .before .before .before in
-    let s = s10 .before .before .before in
+    let s = s10 .before .before .before .before in
     let a = s .args in
     let t = tablesOf (a .c) (now (a .records)) (now (a .objects)) (now (a .groups)) in
     let few = sound-at t (s .pre .0) .few-objects in
     omega (arith, few)
 
 cast-o : tie.Need-cast-o Inv-loop μ-loop
-unfolding objectsOf
 cast-o c =
     let o = c .before .before .before in
-    let s = o .before .before .before .before .before .before .before .before .before .before in
+    let s = o .before .before .before .before .before .before .before .before .before .before .before in
     let a = s .args in
     let t = tablesOf (a .c) (now (a .records)) (now (a .objects)) (now (a .groups)) in
-    let low = sorted-low t _ (o .sort-objects .ensures) (c .before .loop .i) (omega arith) in
+    let f = sound-at t (s .pre .0) in
+    let low = sorted-low t f _ (o .sort-objects .ensures ∙ in-order t f) (c .before .loop .i) (omega arith) in
     search (needs, low)
 
 put-object-requires : tie.Need-put-object-requires Inv-loop μ-loop
-unfolding objectsOf
 put-object-requires c κs =
     let s6 = c .before .before .before .before .before .before in
-    let s = s6 .before .before .before .before .before .before .before .before .before .before in
+    let s = s6 .before .before .before .before .before .before .before .before .before .before .before in
     let a = s .args in
     let t = tablesOf (a .c) (now (a .records)) (now (a .objects)) (now (a .groups)) in
     let l = c .before .before .before .before .loop in
-    let few = sound-at t (s .pre .0) .few-objects in (
+    let f = sound-at t (s .pre .0) in (
       s .pre .0,
       s .pre .1,
-      sorted-low t _ (s6 .sort-objects .ensures) (l .i) (omega arith),
-      omega (arith, few, s .pre .2, l .inv .1, l .inv .4 .end, l .inv .4 .few),
+      sorted-low t f _ (s6 .sort-objects .ensures ∙ in-order t f) (l .i) (omega arith),
+      omega (arith, f .few-objects, s .pre .2, l .inv .1, l .inv .4 .end, l .inv .4 .few),
       l .inv .3 ∙ s .pre .3,
       omega (arith, s .pre .4, l .inv .2),
     )
@@ -105,7 +107,7 @@ loop-again c =
     let s10 = s6 .before .before .before .before in
     let s11 = s10 .before in
     let s13 = s11 .before .before in
-    let s = s13 .before .before .before .before .before .before .before .before .before .before in
+    let s = s13 .before .before .before .before .before .before .before .before .before .before .before in
     let a = s .args in
     let t = tablesOf (a .c) (now (a .records)) (now (a .objects)) (now (a .groups)) in
     let p = s6 .put-object in
@@ -131,16 +133,16 @@ same-length-3 : tie.Need-same-length-3 Inv-loop μ-loop
 same-length-3 c = c .before .loop .inv .3
 
 returns : tie.Need-returns Inv-loop μ-loop
-unfolding objectsOf
 returns c =
     let s10 = c .before .before .before .before .before .before .before .before .before .before in
-    let s = s10 .before .before .before in
+    let s = s10 .before .before .before .before in
     let a = s .args in
     let t = tablesOf (a .c) (now (a .records)) (now (a .objects)) (now (a .groups)) in
     let l = c .before .loop in
-    let few = sound-at t (s .pre .0) .few-objects in
-    rw (← sorted-lines t _ (c .before .before .before .sort-objects .ensures) (l .i) (omega arith))
-    (fewer-behind (now (a .out)) (a .n) (omega (arith, few)) (l .inv .4))
+    let f = sound-at t (s .pre .0) in
+    let ordered = c .before .before .before .sort-objects .ensures ∙ in-order t f in
+    rw (← sorted-lines t _ ordered (l .i) (omega arith))
+    (fewer-behind (now (a .out)) (a .n) (omega (arith, f .few-objects)) (l .inv .4))
 
 pub put-objects-spec : {M : Type 1} → statement M
 put-objects-spec =
@@ -150,6 +152,7 @@ put-objects-spec =
     μ-loop
     cast-m
     slice-aggregate-sort-objects
+    cast-sort-objects
     sort-objects-requires
     loop-holds
     mul-o

@@ -1,0 +1,13 @@
+pub mod Choices
+pub mod PutTogether
+pub mod Shelves
+pub mod Standing
+pub mod Deciding
+pub mod AnyOrder
+pub mod Moves
+pub mod Others
+pub mod Keys
+pub mod Walk
+pub mod Layered
+pub mod Held
+pub mod WorkedOrders

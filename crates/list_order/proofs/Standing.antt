@@ -1,0 +1,206 @@
+-- Objects in the order of the list, in three parts as Req 08 says it, are those that come of comparing two at a time by
+-- what decides their places; so the order of the list is known by what stands in it. Assumes, where it says so, that of
+-- any two deciding edits one ranks before the other.
+use mathlib.Core.Path.{_≡_, sym, ap, ap₂, _∙_}
+use mathlib.Core.Logic.{inl, inr}
+use mathlib.Core.Bool.{Bool, true, not}
+use mathlib.Core.List.{List, [], _++_, map, map-append, List·Memᴰ·not-nil, List·Memᴰ·append-cases}
+use native.Mathlib.Omega.{arith}
+use borrow.Author.Tests.{not-true}
+use Rattle.math_lists.specs.SortedLists.{filter, Asc, gatherBy}
+use Rattle.math_lists.proofs.SortedLists.{asc-unique}
+use Rattle.math_lists.proofs.PutInOrder.{OneWay, gathered-sorted, gathered-same, gathered-made}
+use Rattle.edit_record.specs.declared.Edit.{Edit}
+use Rattle.edit_record.specs.Answer1.{isTop, isBottom, isLayer}
+use Rattle.edit_causal.specs.TotalOrder.{ranksBefore}
+use Rattle.demand_any_order.specs.Rearranged.{Mem, Rearranged, then}
+use Rattle.demand_any_order.proofs.Rearranged.{turned, same-members, chosen-rearranged}
+use Rattle.demand_any_order.proofs.ListMembers.{chosen-at}
+use Rattle.demand_any_order.proofs.PairsInList.{pairs-chosen, pairs-weaken, pairs-rearranged}
+use Rattle.list_version.proofs.RanksStrict.{ranks-through}
+use Rattle.list_order.specs.Layers.{standing}
+use Rattle.list_order.specs.LayerForms.{shelf, goesBefore}
+use Rattle.list_order.proofs.Choices.{chosen-same, chosen-made, pairs-append}
+use Rattle.list_order.proofs.PutTogether.{joined-rearranged, gathered-rearranged, three-parts}
+use Rattle.list_order.proofs.Shelves.{lower-before, not-before-itself, goes-through, one-goes, bottom-shelf}
+use Rattle.list_order.proofs.Shelves.{rest-shelf, top-shelf, bottoms-before, rest-before, tops-before}
+use Rattle.list_order.proofs.Shelves.{one-way-turned, top-not-bottom}
+
+-- ---- the three parts
+
+-- the to-bottom ones go by their ranks turned round
+abbrev ranksAfter : Edit → Edit → Bool
+ranksAfter m n = ranksBefore n m
+
+abbrev isRest : Edit → Bool
+isRest m = not (isLayer m)
+
+-- the objects whose deciding edits pass p, put in the order `before` of these
+abbrev part : {A : Type 0} → (Edit → Bool) → (Edit → Edit → Bool) → (A → Edit) → List A → List A
+part p before last xs = gatherBy (λ a b. before (last a) (last b)) [] (filter (λ x. p (last x)) xs)
+
+-- ---- objects by other names
+
+module _ {A B : Type 0} (f : A → B) (last : B → Edit) (xs : List A) where
+  part-made :
+      (p : Edit → Bool) (before : Edit → Edit → Bool) →
+      map f (part p before (λ x. last (f x)) xs) ≡ part p before last (map f xs)
+  part-made p before =
+      gathered-made f (λ a b. before (last a) (last b)) [] (filter (λ x. p (last (f x))) xs)
+      ∙ ap (gatherBy (λ a b. before (last a) (last b)) []) (chosen-made f (λ x. p (last x)) xs)
+
+  pub standing-made : map f (standing (λ x. last (f x)) xs) ≡ standing last (map f xs)
+  unfolding standing
+  standing-made =
+      let g : A → Edit = λ x. last (f x) in
+      map-append f (part isBottom ranksAfter g xs) (part isRest ranksBefore g xs ++ part isTop ranksBefore g xs)
+      ∙ ap₂ (λ (us vs : List B). us ++ vs) (part-made isBottom ranksAfter)
+      (map-append f (part isRest ranksBefore g xs) (part isTop ranksBefore g xs)
+      ∙ ap₂ (λ (us vs : List B). us ++ vs) (part-made isRest ranksBefore) (part-made isTop ranksBefore))
+
+-- ---- the same deciding edits
+
+module _ {A : Type 0} (last last′ : A → Edit) (xs : List A) (same : (x : A) → Mem x xs → last x ≡ last′ x) where
+  part-same :
+      (p : Edit → Bool) (before : Edit → Edit → Bool) → part p before last xs ≡ part p before last′ xs
+  part-same p before =
+      gathered-same (λ a b. before (last a) (last b)) (λ a b. before (last′ a) (last′ b)) (λ x. Mem x xs)
+      (λ x y m k. ap₂ before (same x m) (same y k)) [] (filter (λ x. p (last x)) xs)
+      (λ x m. absurd (List·Memᴰ·not-nil m)) (λ x m. chosen-at (λ x. p (last x)) x xs m .0)
+      ∙ ap (gatherBy (λ a b. before (last′ a) (last′ b)) [])
+      (chosen-same (λ x. p (last x)) (λ x. p (last′ x)) xs (λ x m. ap p (same x m)))
+
+  pub standing-same : standing last xs ≡ standing last′ xs
+  unfolding standing
+  standing-same =
+      ap₂ (λ (us vs : List A). us ++ vs) (part-same isBottom ranksAfter)
+      (ap₂ (λ (us vs : List A). us ++ vs) (part-same isRest ranksBefore) (part-same isTop ranksBefore))
+
+-- ---- the same objects
+
+module _ {A : Type 0} (last : A → Edit) where
+  part-rearranged :
+      (p : Edit → Bool) (before : Edit → Edit → Bool) (xs : List A) →
+      Rearranged (part p before last xs) (filter (λ x. p (last x)) xs)
+  part-rearranged p before xs = gathered-rearranged (λ a b. before (last a) (last b)) (filter (λ x. p (last x)) xs)
+
+  pub standing-rearranged : (xs : List A) → Rearranged (standing last xs) xs
+  unfolding standing
+  standing-rearranged xs =
+      then
+      (joined-rearranged (part-rearranged isBottom ranksAfter xs)
+      (joined-rearranged (part-rearranged isRest ranksBefore xs) (part-rearranged isTop ranksBefore xs)))
+      (three-parts (λ x. isBottom (last x)) (λ x. isTop (last x)) xs (λ x. top-not-bottom (last x)))
+
+  -- ---- each before all that follow it
+
+  -- one of the two deciding edits ranks before the other
+  abbrev pub OneRanks : A → A → Type 0
+  OneRanks a b = OneWay ranksBefore (last a) (last b)
+
+  -- a stands before b
+  abbrev pub Goes : A → A → Type 0
+  Goes a b = goesBefore (last a) (last b) ≡ true
+
+  -- such a list is known by what stands in it
+  pub one-standing : (xs ys : List A) → Rearranged xs ys → Asc Goes xs → Asc Goes ys → xs ≡ ys
+  one-standing xs ys r a b =
+      asc-unique Goes (λ x h. not-before-itself (last x) h) (λ x y z. goes-through (last x) (last y) (last z)) xs ys a b
+      (same-members r) (same-members (turned r))
+
+  part-at : (p : Edit → Bool) (before : Edit → Edit → Bool) (xs : List A) (x : A) → Mem x (part p before last xs) →
+      p (last x) ≡ true
+  part-at p before xs x m = chosen-at (λ x. p (last x)) x xs (same-members (part-rearranged p before xs) x m) .1
+
+  part-stands :
+      (p : Edit → Bool) (before : Edit → Edit → Bool) →
+      ((l m n : Edit) → before l m ≡ true → before m n ≡ true → before l n ≡ true) →
+      ((m n : Edit) → OneWay ranksBefore m n → OneWay before m n) →
+      ((m n : Edit) → p m ≡ true → p n ≡ true → before m n ≡ true → goesBefore m n ≡ true) →
+      (xs : List A) → Asc OneRanks xs → Asc Goes (part p before last xs)
+  part-stands p before through one-way agrees xs ranked =
+      pairs-weaken (λ x y. before (last x) (last y) ≡ true) Goes (part p before last xs)
+      (λ x y m k h. agrees (last x) (last y) (part-at p before xs x m) (part-at p before xs y k) h)
+      (gathered-sorted (λ a b. before (last a) (last b)) (λ x y z. through (last x) (last y) (last z)) []
+      (filter (λ x. p (last x)) xs) tt
+      (pairs-chosen (OneWay (λ a b. before (last a) (last b))) (λ x. p (last x)) xs
+      (pairs-weaken OneRanks (OneWay (λ a b. before (last a) (last b))) xs
+      (λ x y m k w. one-way (last x) (last y) w) ranked))
+      (λ x y m w. absurd (List·Memᴰ·not-nil w)))
+
+  module _ (xs : List A) (ranked : Asc OneRanks xs) where
+    abbrev first : List A
+    first = part isBottom ranksAfter last xs
+
+    abbrev rest : List A
+    rest = part isRest ranksBefore last xs
+
+    abbrev hind : List A
+    hind = part isTop ranksBefore last xs
+
+    first-shelf : (x : A) → Mem x first → shelf (last x) ≡ 0
+    first-shelf x m = bottom-shelf (last x) (part-at isBottom ranksAfter xs x m)
+
+    middle-shelf : (x : A) → Mem x rest → shelf (last x) ≡ 1
+    middle-shelf x m = rest-shelf (last x) (not-true (isLayer (last x)) (part-at isRest ranksBefore xs x m))
+
+    last-shelf : (x : A) → Mem x hind → shelf (last x) ≡ 2
+    last-shelf x m = top-shelf (last x) (part-at isTop ranksBefore xs x m)
+
+    pub standing-goes : Asc Goes (standing last xs)
+    unfolding standing
+    standing-goes =
+        pairs-append Goes first (rest ++ hind)
+        (part-stands isBottom ranksAfter (λ l m n h k. ranks-through n m l k h) one-way-turned bottoms-before xs ranked)
+        (pairs-append Goes rest hind
+        (part-stands isRest ranksBefore ranks-through (λ m n w. w)
+        (λ m n p q. rest-before m n (not-true (isLayer m) p) (not-true (isLayer n) q)) xs ranked)
+        (part-stands isTop ranksBefore ranks-through (λ m n w. w) tops-before xs ranked)
+        (λ x y m k. lower-before (last x) (last y) (omega (arith, middle-shelf x m, last-shelf y k))))
+        (λ x y m k. elim (List·Memᴰ·append-cases rest k) [
+          | inl n ↦ lower-before (last x) (last y) (omega (arith, first-shelf x m, middle-shelf y n))
+          | inr n ↦ lower-before (last x) (last y) (omega (arith, first-shelf x m, last-shelf y n))
+        ])
+
+    -- ---- by comparing
+
+    pub standing-by-comparing : gatherBy (λ a b. goesBefore (last a) (last b)) [] xs ≡ standing last xs
+    standing-by-comparing =
+        one-standing (gatherBy (λ a b. goesBefore (last a) (last b)) [] xs) (standing last xs)
+        (then (gathered-rearranged (λ a b. goesBefore (last a) (last b)) xs) (turned (standing-rearranged xs)))
+        (gathered-sorted (λ a b. goesBefore (last a) (last b)) (λ x y z. goes-through (last x) (last y) (last z)) []
+        xs tt
+        (pairs-weaken OneRanks (OneWay (λ a b. goesBefore (last a) (last b))) xs
+        (λ a b m k w. one-goes (last a) (last b) w) ranked)
+        (λ x y m w. absurd (List·Memᴰ·not-nil w)))
+        standing-goes
+
+  -- ---- all objects in another order, and some of them
+
+  pub standing-any-order :
+      {xs ys : List A} → Rearranged xs ys → Asc OneRanks xs → standing last xs ≡ standing last ys
+  standing-any-order {xs} {ys} r ranked =
+      one-standing (standing last xs) (standing last ys)
+      (then (standing-rearranged xs) (then r (turned (standing-rearranged ys)))) (standing-goes xs ranked)
+      (standing-goes ys
+      (pairs-rearranged OneRanks (λ a b. one-way-turned (last a) (last b)) r ranked))
+
+  pub standing-chosen :
+      (f : A → Bool) (xs : List A) → Asc OneRanks xs → filter f (standing last xs) ≡ standing last (filter f xs)
+  standing-chosen f xs ranked =
+      one-standing (filter f (standing last xs)) (standing last (filter f xs))
+      (then (chosen-rearranged f (standing-rearranged xs)) (turned (standing-rearranged (filter f xs))))
+      (pairs-chosen Goes f (standing last xs) (standing-goes xs ranked))
+      (standing-goes (filter f xs) (pairs-chosen OneRanks f xs ranked))
+
+-- what is chosen keeps its order where neither it nor what decides its places changes
+pub chosen-keep-order :
+    {A : Type 0} (f : A → Bool) (last last′ : A → Edit) (xs ys : List A) → Asc (OneRanks last) xs →
+    Asc (OneRanks last′) ys → filter f ys ≡ filter f xs →
+    ((x : A) → Mem x xs → f x ≡ true → last′ x ≡ last x) →
+    filter f (standing last′ ys) ≡ filter f (standing last xs)
+chosen-keep-order f last last′ xs ys ranked ranked′ e same =
+    standing-chosen last′ f ys ranked′
+    ∙ ap (standing last′) e
+    ∙ standing-same last′ last (filter f xs) (λ x m. let (k, h) = chosen-at f x xs m in same x k h)
+    ∙ sym (standing-chosen last f xs ranked)

@@ -1,0 +1,2 @@
+// The order of the objects in the printed list with layer edits, document 02's Req 08: which edit decides where an object
+// stands, the three parts of the list, and that this is what comes of making the moves one by one. It has no code.
