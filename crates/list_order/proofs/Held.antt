@@ -16,11 +16,9 @@ use Rattle.math_lists.proofs.Elements.{elem→mem, mem→elem}
 use Rattle.edit_record.specs.declared.Edit.{Edit}
 use Rattle.edit_record.specs.RecordBytes.{noEdit}
 use Rattle.edit_record.specs.Answer1.{isCreate, isLayer}
-use Rattle.edit_causal.specs.Causal.{comesBefore}
 use Rattle.edit_history.specs.EditsHeld.{recordAt, creates}
 use Rattle.edit_history.proofs.RecordsPassed.{passed-at, formed-at, next-at}
 use Rattle.edit_history.proofs.EditsHeld.{count-few}
-use Rattle.edit_history.proofs.SeenRanksBefore.{before-ranks}
 use Rattle.table_drawing.specs.Tables.{Tables, placeAt, heldBy}
 use Rattle.table_soundness.proofs.SoundFacts.{Sound}
 use Rattle.table_arrival.proofs.ObjectsByNumber.{object-create}
@@ -33,7 +31,7 @@ use Rattle.list_order.specs.Layers.{deciding, standing}
 use Rattle.list_order.specs.LayerForms.{keyOf}
 use Rattle.list_order.specs.Moves.{orderBy, layeredOrder, moved}
 use Rattle.list_order.proofs.Standing.{OneRanks, standing-made}
-use Rattle.list_order.proofs.Deciding.{Ranked, deciding-held, named-ranked, named-held}
+use Rattle.list_order.proofs.Deciding.{deciding-held, named-ranked, named-held}
 use Rattle.list_order.proofs.Keys.{Sized, standing-by-numbers}
 use Rattle.list_order.proofs.Layered.{theorem-of-the-moves}
 
@@ -94,13 +92,6 @@ module _ (t : Tables) (s : Sound t) where
 
   pub held-sized : (e : Edit) → Mem e (heldBy t) → Sized e
   held-sized e m = let (p, l, q) = edit-in rs n e m in rw q (place-sized p l)
-
-  -- an edit ranks before those that have seen it
-  pub seen-ranks : (a b : Edit) → Mem a (heldBy t) → Mem b (heldBy t) → comesBefore a b ≡ true → Ranked a b
-  seen-ranks a b ma mb h =
-      let (p, l, x) = edit-in rs n a ma in
-      let (q, k, y) = edit-in rs n b mb in
-      rw (x, y) (before-ranks sites (s .few-sites) rs n (s .pass) p q l k (rw (x, y) at h))
 
   -- ---- the objects in the order of the list
 

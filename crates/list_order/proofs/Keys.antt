@@ -83,17 +83,6 @@ key-order m n p q =
     (rank-below n q)
     ∙ rw (ranks-order m n p q, ranks-order n m q p)
 
--- a key fits four bytes
-pub key-below : (m : Edit) → Sized m → keyOf m < 3 * ranks
-unfolding keyOf
-key-below m s = go (isBottom m) (isTop m) (rank-below m s)
-  where
-    go : (b t : Bool) → rankOf m < ranks →
-        cond b (ranks - suc (rankOf m)) (cond t (2 * ranks + rankOf m) (ranks + rankOf m)) < 3 * ranks
-    go true t l = omega arith
-    go false true l = omega arith
-    go false false l = omega arith
-
 -- ---- put in order by them
 
 module _ {A : Type 0} (last : A → Edit) (xs : List A) (ranked : Asc (OneRanks last) xs)

@@ -7,7 +7,6 @@ pub mod AnyOrder
 pub mod Moves
 pub mod Others
 pub mod Keys
-pub mod Walk
 pub mod Layered
 pub mod Held
 pub mod WorkedOrders

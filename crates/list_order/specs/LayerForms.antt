@@ -1,8 +1,6 @@
--- The order of the list as code finds it: by comparing two objects at a time, by one number for each object, and with
--- the deciding edits found in one walk over the edits as they arrived. No one need believe it: laws in proofs/ tie it
--- to `Layers`. Assumes nothing.
+-- The order of the list as code finds it: by comparing two objects at a time, and by one number for each object. No one
+-- need believe it: laws in proofs/ tie it to `Layers`. Assumes nothing.
 use mathlib.Core.Bool.{Bool, _||_, _&&_, cond}
-use mathlib.Core.List.{List, [], _∷_}
 use Prim.Native.Nat.{ℕ, suc, _+_, _-_, _*_}
 use lib.Dec.{eqb, ltb}
 use Rattle.edit_record.specs.declared.Edit.{Edit}
@@ -10,7 +8,6 @@ use Rattle.edit_record.specs.Answer1.{isTop, isBottom}
 use Rattle.edit_record.specs.Layout.{mostSites, twoBytes}
 use Rattle.edit_causal.specs.TotalOrder.{vectorSum, ranksBefore}
 use Rattle.list_version.specs.Identifier.{siteNumbers}
-use Rattle.list_order.specs.Layers.{isOn}
 
 -- ---- by comparing
 
@@ -38,10 +35,3 @@ ranks = mostSites * twoBytes * siteNumbers
 -- ones upwards
 unfoldable pub keyOf : Edit → ℕ
 keyOf m = cond (isBottom m) (ranks - suc (rankOf m)) (cond (isTop m) (2 * ranks + rankOf m) (ranks + rankOf m))
-
--- ---- in one walk
-
--- what decides the place of the object of c, m before: each edit on it that counts and ranks later takes over
-unfoldable pub latest : (Edit → Bool) → Edit → Edit → List Edit → Edit
-latest counts c m [] = m
-latest counts c m (e ∷ es) = latest counts c (cond (counts e && isOn c e && ranksBefore m e) e m) es
