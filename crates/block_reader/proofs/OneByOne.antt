@@ -75,7 +75,8 @@ module _ (form : ℕ) (s : List ℕ) where
       let moved : i + suc m ≡ suc i + m = omega arith in
       let rest = from-the-place m k (suc i) (long ∙ ap (λ (n : ℕ). n * lengthBy form) moved) (omega (arith, l)) in
       rw (gives-the-record p (one-left i m long), next-place i)
-      (sym (append-snoc (stretchEdits form s i) (decodeOf (storedIn form s i)) (givenFrom k form s (suc i * lengthBy form)))
+      (sym (append-snoc (stretchEdits form s i) (decodeOf (storedIn form s i))
+      (givenFrom k form s (suc i * lengthBy form)))
       ∙ rest
       ∙ ap (stretchEdits form s) (sym moved))
 

@@ -75,7 +75,8 @@ pub struct FileRead {
     pub counters: Counters,
 }
 
-// Takes the n records of a located stretch in its form into tables of the stated lengths; a refused record leaves an empty drawing.
+// Takes the n records of a located stretch in its form into tables of the stated lengths; a refused record leaves an
+// empty drawing.
 fn read_records(
     sites: u8,
     records: &mut [u8],

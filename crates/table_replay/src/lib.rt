@@ -155,8 +155,8 @@ fn take_records(
     }
 }
 
-// Opens a drawing of so many sites in the tables and takes the first n records of a stretch in a form into it, one after
-// another.
+// Opens a drawing of so many sites in the tables and takes the first n records of a stretch in a form into it, one
+// after another.
 pub fn replay(
     sites: u8,
     records: &mut [u8],
