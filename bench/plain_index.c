@@ -6,7 +6,7 @@
 
 void index_open(struct index *x, unsigned sites) {
     x->sites = sites;
-    x->records = x->objects = x->layers = 0;
+    x->records = x->objects = x->tops = 0;
     x->sum = 0;
     memset(x->held, 0, sizeof x->held);
 }
@@ -85,8 +85,8 @@ void index_add(struct index *x, const struct edit *e) {
     } else if (e->kind == SET) {
         unsigned o = index_target(x, e);
         x->set[o][x->sets[o]++] = (uint16_t)i;
-    } else {
-        x->layer[x->layers++] = (uint16_t)i;
+    } else if (e->kind == TOP) {
+        x->top[x->tops++] = (uint16_t)i;
     }
 }
 

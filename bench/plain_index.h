@@ -40,8 +40,8 @@ struct index {
     uint16_t create[OBJECTS];           /* the place of the object's Create */
     uint16_t sets[OBJECTS];             /* how many Sets the object has */
     uint16_t set[OBJECTS][SETS];        /* and their places, in the order of arrival */
-    unsigned layers;                    /* how many layer edits there are */
-    uint16_t layer[RECORDS];            /* and their places */
+    unsigned tops;                      /* how many to-top edits there are */
+    uint16_t top[RECORDS];              /* and their places */
 };
 
 static inline int is_layer(unsigned kind) { return kind == TOP || kind == BOTTOM; }

@@ -33,7 +33,8 @@ enum {
     SPIRESLATE_TOO_MANY_SETS = 18 /* the object has more than 20 Sets */
 };
 
-/* The kinds of edit records. The last two are layer edits: they put a box above or below the others in the list. */
+/* The kinds of edit records. The last two are layer edits: to-top puts a box above the others in the list; to-bottom is
+   withdrawn, and is taken and stored without an effect on the list. */
 enum { SPIRESLATE_CREATE = 1, SPIRESLATE_SET = 2, SPIRESLATE_TOP = 4, SPIRESLATE_BOTTOM = 5 };
 
 /* Lengths: of the three tables and of an output of groups in elements, all others in bytes. */

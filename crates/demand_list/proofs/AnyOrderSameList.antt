@@ -25,7 +25,7 @@ use Rattle.list_version.proofs.RanksStrict.{held-ranked}
 use Rattle.list_line.proofs.AnyOrderLines.{Numbered, any-order-lines}
 use Rattle.list_order.specs.Moves.{layeredOrder}
 use Rattle.list_order.proofs.Deciding.{AllRanked}
-use Rattle.list_order.proofs.Layered.{layered-any-order}
+use Rattle.list_order.proofs.AnyOrder.{layered-any-order}
 use Rattle.list_lines.specs.List.{linesOf}
 use Rattle.list_print.specs.Printing.{joined, listOf}
 use Rattle.demand_list.specs.ListOverEdits.{linesIn, versionLines, linesOver}
@@ -40,7 +40,7 @@ module _ (es fs : List Edit) (r : Rearranged es fs) (u : Apart es) (small : Numb
   unfolding versionLines linesIn
   same-version-lines =
       flat-same (linesIn es) (linesIn fs) (layeredOrder es) (λ c m. any-order-lines es fs r u small c)
-      ∙ ap (flatMap (linesIn fs)) (layered-any-order es fs r u ranked)
+      ∙ ap (flatMap (linesIn fs)) (layered-any-order es fs r ranked u)
 
   same-lines-over : (n : ℕ) → linesOver n es ≡ linesOver n fs
   unfolding linesOver creates

@@ -1,5 +1,5 @@
 -- Layer edits in the list over the edits held: the lines stand as the moves made one by one put their objects; an edit
--- more leaves the text of the lines of all other objects, and their order between them; and without layer edits the
+-- more leaves the text of the lines of all other objects, and their order between them; and without to-top edits the
 -- list is document 01's. Where it says so it assumes that no identity stands twice and that of any two edits one ranks
 -- before the other, as in sound tables.
 use mathlib.Core.Path.{_≡_, sym, ap, ap₂, _∙_}
@@ -8,7 +8,7 @@ use mathlib.Core.List.{List, [], _∷_, _++_, flatMap}
 use borrow.Author.Tests.{not-true}
 use Rattle.math_lists.specs.SortedLists.{any, filter}
 use Rattle.edit_record.specs.declared.Edit.{Edit}
-use Rattle.edit_record.specs.Answer1.{isCreate, isSet, isLayer}
+use Rattle.edit_record.specs.Answer1.{isCreate, isSet, isTop, isLayer}
 use Rattle.edit_record.proofs.WellFormed.{create-not-set, layer-not-set}
 use Rattle.edit_history.specs.EditsHeld.{creates, isSetOn}
 use Rattle.group_true.proofs.TrueGroups.{sets-same, groups-same}
@@ -18,8 +18,9 @@ use Rattle.list_line.specs.Line.{objectLines}
 use Rattle.list_order.specs.Layers.{isOn, inOrder}
 use Rattle.list_order.specs.Moves.{layeredOrder, without, moved}
 use Rattle.list_order.proofs.Deciding.{AllRanked}
-use Rattle.list_order.proofs.Others.{isOther}
-use Rattle.list_order.proofs.Layered.{theorem-of-the-moves, create-keeps-others, keeps-others, no-layers-no-change}
+use Rattle.list_order.proofs.Moves.{theorem-of-the-moves}
+use Rattle.list_order.proofs.Others.{isOther, create-keeps-others, keeps-others}
+use Rattle.list_order.proofs.WithoutTops.{no-tops-no-change}
 use Rattle.demand_list.specs.ListOverEdits.{linesIn, versionLines}
 use Rattle.demand_list.proofs.FlatMaps.{flat-same}
 
@@ -65,9 +66,9 @@ module _ (es : List Edit) (e : Edit) where
         same-text x (rw elsewhere (and-false (isSet e))))
         ∙ ap (flatMap (linesIn es)) (keeps-others es e u ranked n)
 
--- ---- without layer edits
+-- ---- without to-top edits
 
-pub no-layers-same-lines :
-    (es : List Edit) → any isLayer es ≡ false → versionLines es ≡ flatMap (linesIn es) (inOrder (creates es))
+pub no-tops-same-lines :
+    (es : List Edit) → any isTop es ≡ false → versionLines es ≡ flatMap (linesIn es) (inOrder (creates es))
 unfolding versionLines
-no-layers-same-lines es none = ap (flatMap (linesIn es)) (no-layers-no-change es none)
+no-tops-same-lines es none = ap (flatMap (linesIn es)) (no-tops-no-change es none)

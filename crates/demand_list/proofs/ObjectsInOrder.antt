@@ -10,7 +10,7 @@ use lib.Dec.{eqb}
 use Rattle.math_lists.specs.SortedLists.{any, filter, Asc}
 use Rattle.math_lists.proofs.Booleans.{clash, decide, off}
 use Rattle.edit_record.specs.declared.Edit.{Edit}
-use Rattle.edit_record.specs.Answer1.{isCreate, isLayer}
+use Rattle.edit_record.specs.Answer1.{isCreate, isTop}
 use Rattle.edit_history.specs.EditsHeld.{creates, isTarget, objectOf}
 use Rattle.table_drawing.specs.Tables.{Tables, heldBy}
 use Rattle.table_soundness.proofs.SoundFacts.{Sound}
@@ -27,7 +27,7 @@ use Rattle.list_order.specs.Moves.{layeredOrder}
 use Rattle.list_order.proofs.Choices.{pairs-unmade}
 use Rattle.list_order.proofs.Standing.{standing-rearranged, chosen-keep-order}
 use Rattle.list_order.proofs.Deciding.{one-aim}
-use Rattle.list_order.proofs.Others.{decides-uncounted, decides-elsewhere}
+use Rattle.list_order.proofs.Others.{decides-nothing, decides-elsewhere}
 use Rattle.list_order.proofs.Held.{numbers, number-below, number-on, creates-are, objects-ranked, objects-layered}
 use Rattle.list_objects.specs.Objects.{createOf, decidingFor, objectsOf}
 use Rattle.demand_list.specs.OtherBoxes.{isOther, othersThan}
@@ -80,24 +80,24 @@ module _ (t : Tables) (s : Sound t) where
 module _ (t u : Tables) (s : Sound t) (s′ : Sound u) (e : Edit) (held : heldBy u ≡ heldBy t ++ (e ∷ []))
     (same : (o : ℕ) → o < t .counters .objects → createOf u o ≡ createOf t o) where
   decides-same :
-      (o : ℕ) → o < t .counters .objects → (isLayer e ≡ true → isOn (createOf t o) e ≡ false) →
+      (o : ℕ) → o < t .counters .objects → (isTop e ≡ true → isOn (createOf t o) e ≡ false) →
       decidingFor u o ≡ decidingFor t o
   decides-same o l elsewhere =
-      ap₂ (deciding isLayer) held (same o l)
-      ∙ elim (decide (isLayer e)) [
-        | inl h ↦ decides-elsewhere isLayer (heldBy t) e (held-ranked t s) (createOf t o) (elsewhere h)
-        | inr h ↦ decides-uncounted isLayer (heldBy t) e h (createOf t o)
+      ap₂ deciding held (same o l)
+      ∙ elim (decide (isTop e)) [
+        | inl h ↦ decides-elsewhere (heldBy t) e (held-ranked t s) (createOf t o) (elsewhere h)
+        | inr h ↦ decides-nothing (heldBy t) e h (createOf t o)
       ]
 
-  -- where u has no object more but own, and e is on own if it is a layer edit
+  -- where u has no object more but own, and e is on own if it is a to-top
   pub others-in-order :
       (own : ℕ) → filter (isOther own) (numbers u) ≡ filter (isOther own) (numbers t) →
-      ((o : ℕ) → o < t .counters .objects → (o ≡ own → ⊥) → isLayer e ≡ true → isOn (createOf t o) e ≡ false) →
+      ((o : ℕ) → o < t .counters .objects → (o ≡ own → ⊥) → isTop e ≡ true → isOn (createOf t o) e ≡ false) →
       othersThan own u ≡ othersThan own t
   unfolding othersThan objectsOf
   others-in-order own q elsewhere =
       chosen-keep-order (isOther own) (decidingFor t) (decidingFor u) (numbers t) (numbers u)
-      (objects-ranked t s isLayer (λ e h. h)) (objects-ranked u s′ isLayer (λ e h. h)) q
+      (objects-ranked t s) (objects-ranked u s′) q
       (λ o m h.
       let l = number-below t o m in
       decides-same o l (elsewhere o l (eqb-false o own (not-true (eqb o own) h))))

@@ -13,11 +13,11 @@ use lib.Dec.{eqb}
 use borrow.Author.Tests.{eqb-false, not-true}
 use Rattle.math_lists.specs.NumbersBelow.{keep}
 use Rattle.math_lists.specs.SortedLists.{any, filter}
-use Rattle.math_lists.proofs.Booleans.{eqb-self}
+use Rattle.math_lists.proofs.Booleans.{eqb-self, or-left}
 use Rattle.edit_record.specs.declared.Edit.{Edit}
 use Rattle.edit_record.specs.Layout.{mostSites}
 use Rattle.edit_record.specs.RecordBytes.{decodeOf}
-use Rattle.edit_record.specs.Answer1.{isCreate, isSet, isLayer}
+use Rattle.edit_record.specs.Answer1.{isCreate, isSet, isTop, isBottom, isLayer}
 use Rattle.edit_history.specs.EditsHeld.{recordAt, isSetOn, setsOn, isTarget, objectOf}
 use Rattle.group_step.specs.GroupRows.{row}
 use Rattle.table_drawing.specs.Tables.{Tables, placeAt, heldBy}
@@ -223,7 +223,7 @@ module _ (t : Tables) (k : Kept t) (b : List ℕ) (h : acceptanceOf t b .answer 
       others-in-order t t′ (k .isSound) (acceptance-keeps t b k .isSound) e (leaves .held) (leaves .creates) (ownOf t b)
       (leaves .others)
       (λ o l d c.
-      let aimed = layer-aimed e c in
+      let aimed = layer-aimed e (or-left (isTop e) (isBottom e) c) in
       not-on-others t (k .isSound) e (admitted-target t b (accepted t b z .admitted) aimed) o l
       (λ p. d (p ∙ unfold ownOf in rw (aimed-not-create e aimed))))
 

@@ -36,7 +36,7 @@ use Rattle.list_version.specs.Values.{later, lastAfter, lastWith}
 use Rattle.list_version.specs.VersionOrder.{lex, isAhead, versionsOf}
 use Rattle.list_line.specs.Line.{identifierText, settingText, settingsText, versionLine, objectLines}
 use Rattle.list_order.specs.Layers.{inOrder, lastOn, deciding, standing}
-use Rattle.list_order.specs.Moves.{orderBy, layeredOrder}
+use Rattle.list_order.specs.Moves.{layeredOrder}
 use Rattle.demand_list.specs.ListOverEdits.{linesIn, versionLines, linesOver}
 use Rattle.demand_list.specs.WorkedCases.{Expected, refused, prints, Case, bytesOf, sites, recordBytes, Meets}
 use Rattle.demand_list.specs.WorkedCases.{Holds, AllHold, cases}
@@ -146,7 +146,7 @@ _also_ a b = (a, b)
 computed-last : AllComputed (drop 14 cases)
 unfolding cases bytesOf flatMap countBytes counts editsIn longFrom answerOver listAnswer firstOf unfit nonzeroPast
     isRepeated isEarly countFrom isTorn largerSomewhere isAstray fullOver crowdedOver some all sum keep any filter
-    creates setsOn trueGroups groupsOf groups isMaximal fits rel bit linesOver versionLines linesIn layeredOrder orderBy
+    creates setsOn trueGroups groupsOf groups isMaximal fits rel bit linesOver versionLines linesIn layeredOrder
     standing deciding lastOn inOrder gatherBy insertBy gather insert vectorSum objectLines versionsOf isAhead lex
     identifierOf membersOf isDisputed versionLine identifierText settingsText settingText lastWith lastAfter later
     headLine decimal lastDigits sumOver wordsOver wordsIn
@@ -161,7 +161,7 @@ computed-last =
 computed-later : AllComputed (drop 12 cases)
 unfolding cases bytesOf flatMap countBytes counts editsIn longFrom answerOver listAnswer firstOf unfit nonzeroPast
     isRepeated isEarly countFrom isTorn largerSomewhere isAstray fullOver crowdedOver some all sum keep any filter
-    creates setsOn trueGroups groupsOf groups isMaximal fits rel bit linesOver versionLines linesIn layeredOrder orderBy
+    creates setsOn trueGroups groupsOf groups isMaximal fits rel bit linesOver versionLines linesIn layeredOrder
     standing deciding lastOn inOrder gatherBy insertBy gather insert vectorSum objectLines versionsOf isAhead lex
     identifierOf membersOf isDisputed versionLine identifierText settingsText settingText lastWith lastAfter later
     headLine decimal lastDigits sumOver wordsOver wordsIn
@@ -174,7 +174,7 @@ computed-later =
 computed-seventh : AllComputed (drop 6 cases)
 unfolding cases bytesOf flatMap countBytes counts editsIn longFrom answerOver listAnswer firstOf unfit nonzeroPast
     isRepeated isEarly countFrom isTorn largerSomewhere isAstray fullOver crowdedOver some all sum keep any filter
-    creates setsOn trueGroups groupsOf groups isMaximal fits rel bit linesOver versionLines linesIn layeredOrder orderBy
+    creates setsOn trueGroups groupsOf groups isMaximal fits rel bit linesOver versionLines linesIn layeredOrder
     standing deciding lastOn inOrder gatherBy insertBy gather insert vectorSum objectLines versionsOf isAhead lex
     identifierOf membersOf isDisputed versionLine identifierText settingsText settingText lastWith lastAfter later
     headLine decimal lastDigits sumOver wordsOver wordsIn
@@ -191,7 +191,7 @@ computed-seventh =
 computed : AllComputed cases
 unfolding cases bytesOf flatMap countBytes counts editsIn longFrom answerOver listAnswer firstOf unfit nonzeroPast
     isRepeated isEarly countFrom isTorn largerSomewhere isAstray fullOver crowdedOver some all sum keep any filter
-    creates setsOn trueGroups groupsOf groups isMaximal fits rel bit linesOver versionLines linesIn layeredOrder orderBy
+    creates setsOn trueGroups groupsOf groups isMaximal fits rel bit linesOver versionLines linesIn layeredOrder
     standing deciding lastOn inOrder gatherBy insertBy gather insert vectorSum objectLines versionsOf isAhead lex
     identifierOf membersOf isDisputed versionLine identifierText settingsText settingText lastWith lastAfter later
     headLine decimal lastDigits sumOver wordsOver wordsIn

@@ -27,7 +27,7 @@ use Rattle.list_line.proofs.LineByStamps.{line-by}
 use Rattle.list_objects.specs.declared.Gathered.{Gathered}
 use Rattle.list_objects.specs.Objects.{createOf, setsFor, objectsOf}
 use Rattle.list_objects.specs.ObjectForms.{goesFirst, GatheredOf}
-use Rattle.list_objects.proofs.KeysByMoves.{in-order}
+use Rattle.list_objects.proofs.KeysByTops.{in-order}
 use Rattle.list_lines.specs.List.{linesFor}
 use Rattle.list_lines.specs.LinesForms.{Ready, lineIn}
 

@@ -1,6 +1,5 @@
-pub mod RankOrder
-pub mod LargestMove
+pub mod LargestKey
 pub mod KeysPut
-pub mod KeysByMoves
+pub mod KeysByTops
 pub mod GatheredIs
 pub mod SetsByIndex

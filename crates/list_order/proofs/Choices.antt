@@ -5,7 +5,7 @@ use mathlib.Core.Logic.{inl, inr}
 use mathlib.Core.Bool.{Bool, true, false, cond}
 use mathlib.Core.List.{List, [], _∷_, _++_, map, append-nil, List·Memᴰ·tail, List·Memᴰ·append-cases, Memᴰ·map}
 use Rattle.math_lists.specs.SortedLists.{any, filter, Asc}
-use Rattle.math_lists.proofs.Booleans.{neither}
+use Rattle.math_lists.proofs.Booleans.{clash, neither}
 use Rattle.math_lists.proofs.GrownAtEnd.{filter-snoc}
 use Rattle.demand_any_order.specs.Rearranged.{Mem}
 use Rattle.demand_any_order.proofs.ListMembers.{here}
@@ -37,6 +37,19 @@ module _ {A : Type 0} where
   unfolding filter
   chosen-same f g [] h = refl
   chosen-same f g (x ∷ xs) h = rw (h x here, chosen-same f g xs (λ y m. h y (List·Memᴰ·tail m)))
+
+  -- what passes f of what passes g is what passes f, where f is the narrower test
+  pub chosen-twice :
+      (f g : A → Bool) (xs : List A) → ((x : A) → f x ≡ true → g x ≡ true) → filter f (filter g xs) ≡ filter f xs
+  unfolding filter
+  chosen-twice f g [] h = refl
+  chosen-twice f g (x ∷ xs) h = go (g x) refl (f x) refl (chosen-twice f g xs h)
+    where
+      go : (b : Bool) → g x ≡ b → (a : Bool) → f x ≡ a → filter f (filter g xs) ≡ filter f xs →
+          filter f (cond b (x ∷ filter g xs) (filter g xs)) ≡ cond (f x) (x ∷ filter f xs) (filter f xs)
+      go true p a q ih = rw ih
+      go false p true q ih = clash (h x q) p
+      go false p false q ih = rw q ih
 
   -- ---- R between each element and each later one
 

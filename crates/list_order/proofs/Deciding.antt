@@ -1,6 +1,6 @@
--- The edit that decides where an object stands: it is the object's Create or a layer edit on it that counts, and those
--- of two objects never are one edit, so that one ranks before the other. Assumes that only layer edits count, that no
--- identity stands twice and that of any two edits one ranks before the other.
+-- The edit that decides where an object stands: it is the object's Create or a to-top on it, and those of two objects
+-- never are one edit, so that one ranks before the other. Assumes that no identity stands twice and that of any two
+-- edits one ranks before the other.
 use mathlib.Core.Path.{_≡_, refl, sym, subst, _∙_}
 use mathlib.Core.Logic.{_⊎_, inl, inr}
 use mathlib.Core.Bool.{Bool, true, false, cond}
@@ -9,7 +9,7 @@ use Rattle.math_lists.specs.SortedLists.{filter, Asc}
 use Rattle.math_lists.proofs.Booleans.{clash}
 use Rattle.math_lists.proofs.PutInOrder.{OneWay, gathered-sorted}
 use Rattle.edit_record.specs.declared.Edit.{Edit}
-use Rattle.edit_record.specs.Answer1.{isCreate, isLayer}
+use Rattle.edit_record.specs.Answer1.{isCreate, isTop}
 use Rattle.edit_causal.specs.Causal.{sameEdit}
 use Rattle.edit_causal.specs.TotalOrder.{ranksBefore}
 use Rattle.edit_causal.proofs.Identities.{same-parts}
@@ -24,7 +24,7 @@ use Rattle.list_version.proofs.RanksStrict.{ranks-through}
 use Rattle.list_order.specs.Layers.{isOn, inOrder, lastOn, deciding}
 use Rattle.list_order.proofs.Choices.{pairs-unmade}
 use Rattle.list_order.proofs.PutTogether.{gathered-rearranged}
-use Rattle.list_order.proofs.Shelves.{one-way-turned, create-not-layer}
+use Rattle.list_order.proofs.Comparing.{one-way-turned, create-not-top}
 use Rattle.list_order.proofs.Standing.{OneRanks}
 
 -- ---- edits in the total order
@@ -40,7 +40,7 @@ unfolding inOrder
 in-order-sorted es a =
     gathered-sorted ranksBefore ranks-through [] es tt a (λ x y m w. absurd (List·Memᴰ·not-nil w))
 
--- the edits that count, in the total order
+-- the edits that pass a test, in the total order
 module _ (counts : Edit → Bool) (es : List Edit) where
   pub counted-sorted : AllRanked es → Asc Ranked (inOrder (filter counts es))
   counted-sorted ranked = in-order-sorted (filter counts es) (pairs-chosen (OneWay ranksBefore) counts es ranked)
@@ -80,60 +80,56 @@ one-aim a b e h k =
 
 -- ---- what decides
 
-module _ (counts : Edit → Bool) (es : List Edit) where
-  -- the Create, or an edit on the object that counts
+module _ (es : List Edit) where
+  -- the Create, or a to-top on the object
   abbrev pub Decides : Edit → Edit → Type 0
-  Decides c d = (d ≡ c) ⊎ (Mem d es × (counts d ≡ true) × (isOn c d ≡ true))
+  Decides c d = (d ≡ c) ⊎ (Mem d es × (isTop d ≡ true) × (isOn c d ≡ true))
 
-  pub deciding-cases : (c : Edit) → Decides c (deciding counts es c)
+  pub deciding-cases : (c : Edit) → Decides c (deciding es c)
   unfolding deciding
-  deciding-cases c = elim (last-cases c c (inOrder (filter counts es))) [
+  deciding-cases c = elim (last-cases c c (inOrder (filter isTop es))) [
     | inl e ↦ inl e
-    | inr (m, on) ↦ (let (k, h) = counted-at counts es (lastOn c c (inOrder (filter counts es))) m in inr (k, h, on))
+    | inr (m, on) ↦ (let (k, h) = counted-at isTop es (lastOn c c (inOrder (filter isTop es))) m in inr (k, h, on))
   ]
 
-  pub deciding-held : (c : Edit) → Mem c es → Mem (deciding counts es c) es
+  pub deciding-held : (c : Edit) → Mem c es → Mem (deciding es c) es
   deciding-held c m = elim (deciding-cases c) [ inl e ↦ rw e m | inr (k, h, on) ↦ k ]
 
-  module _ (layers : (e : Edit) → counts e ≡ true → isLayer e ≡ true) where
-    -- no layer edit decides: the Create does
-    pub rest-by-create : (c : Edit) → isLayer (deciding counts es c) ≡ false → deciding counts es c ≡ c
-    rest-by-create c h = elim (deciding-cases c) [
-      | inl e ↦ e
-      | inr (m, k, on) ↦ clash (layers (deciding counts es c) k) h
-    ]
+  -- no to-top decides: the Create does
+  pub rest-by-create : (c : Edit) → isTop (deciding es c) ≡ false → deciding es c ≡ c
+  rest-by-create c h = elim (deciding-cases c) [ inl e ↦ e | inr (m, k, on) ↦ clash k h ]
 
-    apart : (a b d : Edit) → isCreate a ≡ true → isCreate b ≡ true → Differ a b → Decides a d → Decides b d → ⊥
-    apart a b d ca cb differ (inl p) (inl q) =
-        let same : a ≡ b = sym p ∙ q in
-        clash (same-reflexive (b .site) (b .seq)) (rw same at differ)
-    apart a b d ca cb differ (inl p) (inr (m, k, on)) = clash (layers a (rw p at k)) (create-not-layer a ca)
-    apart a b d ca cb differ (inr (m, k, on)) (inl q) = clash (layers b (rw q at k)) (create-not-layer b cb)
-    apart a b d ca cb differ (inr (m, k, on)) (inr (n, l, at)) = clash (one-aim a b d on at) differ
+  apart : (a b d : Edit) → isCreate a ≡ true → isCreate b ≡ true → Differ a b → Decides a d → Decides b d → ⊥
+  apart a b d ca cb differ (inl p) (inl q) =
+      let same : a ≡ b = sym p ∙ q in
+      clash (same-reflexive (b .site) (b .seq)) (rw same at differ)
+  apart a b d ca cb differ (inl p) (inr (m, k, on)) = clash (rw p at k) (create-not-top a ca)
+  apart a b d ca cb differ (inr (m, k, on)) (inl q) = clash (rw q at k) (create-not-top b cb)
+  apart a b d ca cb differ (inr (m, k, on)) (inr (n, l, at)) = clash (one-aim a b d on at) differ
 
-    module _ (u : Apart es) (ranked : AllRanked es) where
-      pub deciding-ranked : Asc (OneRanks (deciding counts es)) (creates es)
-      unfolding creates
-      deciding-ranked =
-          pairs-weaken Differ (OneRanks (deciding counts es)) (filter isCreate es)
-          (λ a b m k d.
-          let (ma, ca) = chosen-at isCreate a es m in
-          let (mb, cb) = chosen-at isCreate b es k in
-          elim (pairs-two (OneWay ranksBefore) one-way-turned es ranked (deciding counts es a) (deciding counts es b)
-          (deciding-held a ma) (deciding-held b mb)) [
-            | inl e ↦ absurd (apart a b (deciding counts es b) ca cb d (rw e at (deciding-cases a)) (deciding-cases b))
-            | inr w ↦ w
-          ])
-          (pairs-chosen Differ isCreate es u)
+  module _ (u : Apart es) (ranked : AllRanked es) where
+    pub deciding-ranked : Asc (OneRanks (deciding es)) (creates es)
+    unfolding creates
+    deciding-ranked =
+        pairs-weaken Differ (OneRanks (deciding es)) (filter isCreate es)
+        (λ a b m k d.
+        let (ma, ca) = chosen-at isCreate a es m in
+        let (mb, cb) = chosen-at isCreate b es k in
+        elim (pairs-two (OneWay ranksBefore) one-way-turned es ranked (deciding es a) (deciding es b)
+        (deciding-held a ma) (deciding-held b mb)) [
+          | inl e ↦ absurd (apart a b (deciding es b) ca cb d (rw e at (deciding-cases a)) (deciding-cases b))
+          | inr w ↦ w
+        ])
+        (pairs-chosen Differ isCreate es u)
 
-      -- ---- of objects by any names
+    -- ---- of objects by any names
 
-      pub named-ranked :
-          {A : Type 0} (createOf : A → Edit) (xs : List A) → map createOf xs ≡ creates es →
-          Asc (OneRanks (λ x. deciding counts es (createOf x))) xs
-      named-ranked createOf xs e =
-          pairs-unmade createOf (OneRanks (deciding counts es)) xs
-          (subst (λ (cs : List Edit). Asc (OneRanks (deciding counts es)) cs) (sym e) deciding-ranked)
+    pub named-ranked :
+        {A : Type 0} (createOf : A → Edit) (xs : List A) → map createOf xs ≡ creates es →
+        Asc (OneRanks (λ x. deciding es (createOf x))) xs
+    named-ranked createOf xs e =
+        pairs-unmade createOf (OneRanks (deciding es)) xs
+        (subst (λ (cs : List Edit). Asc (OneRanks (deciding es)) cs) (sym e) deciding-ranked)
 
   pub named-held :
       {A : Type 0} (createOf : A → Edit) (xs : List A) → map createOf xs ≡ creates es →

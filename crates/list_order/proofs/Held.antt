@@ -2,7 +2,7 @@
 -- before the other (`held-ranked`), and the fields are of their lengths; so the objects, put in order by their keys,
 -- stand as the list has them. Assumes nothing.
 use mathlib.Core.Path.{_≡_, refl, sym, ap, _∙_}
-use mathlib.Core.Bool.{Bool, true}
+use mathlib.Core.Bool.{true}
 use mathlib.Core.List.{List, [], map}
 use Prim.Native.Nat.{ℕ, _<_}
 use native.Mathlib.Omega.{arith}
@@ -15,7 +15,7 @@ use Rattle.math_lists.proofs.NumbersBelow.{keep-at, keep-on}
 use Rattle.math_lists.proofs.Elements.{elem→mem, mem→elem}
 use Rattle.edit_record.specs.declared.Edit.{Edit}
 use Rattle.edit_record.specs.RecordBytes.{noEdit}
-use Rattle.edit_record.specs.Answer1.{isCreate, isLayer}
+use Rattle.edit_record.specs.Answer1.{isCreate}
 use Rattle.edit_history.specs.EditsHeld.{recordAt, creates}
 use Rattle.edit_history.proofs.RecordsPassed.{passed-at, formed-at, next-at}
 use Rattle.edit_history.proofs.EditsHeld.{count-few}
@@ -29,11 +29,11 @@ use Rattle.list_version.proofs.MembersByTest.{map-keep-same, all-places}
 use Rattle.list_version.proofs.RanksStrict.{held-ranked}
 use Rattle.list_order.specs.Layers.{deciding, standing}
 use Rattle.list_order.specs.LayerForms.{keyOf}
-use Rattle.list_order.specs.Moves.{orderBy, layeredOrder, moved}
+use Rattle.list_order.specs.Moves.{layeredOrder, moved}
 use Rattle.list_order.proofs.Standing.{OneRanks, standing-made}
 use Rattle.list_order.proofs.Deciding.{deciding-held, named-ranked, named-held}
 use Rattle.list_order.proofs.Keys.{Sized, standing-by-numbers}
-use Rattle.list_order.proofs.Layered.{theorem-of-the-moves}
+use Rattle.list_order.proofs.Moves.{theorem-of-the-moves}
 
 -- ---- the objects of the tables: their numbers, and the Create of each
 
@@ -95,38 +95,33 @@ module _ (t : Tables) (s : Sound t) where
 
   -- ---- the objects in the order of the list
 
-  module _ (counts : Edit → Bool) (layers : (e : Edit) → counts e ≡ true → isLayer e ≡ true) where
-    -- what decides the place of each
-    abbrev last : ℕ → Edit
-    last o = deciding counts (heldBy t) (createAt t o)
+  -- what decides the place of each
+  abbrev last : ℕ → Edit
+  last o = deciding (heldBy t) (createAt t o)
 
-    pub objects-ranked : Asc (OneRanks last) (numbers t)
-    objects-ranked =
-        named-ranked counts (heldBy t) layers (held-apart t s) (held-ranked t s) (createAt t) (numbers t) creates-are
+  pub objects-ranked : Asc (OneRanks last) (numbers t)
+  objects-ranked = named-ranked (heldBy t) (held-apart t s) (held-ranked t s) (createAt t) (numbers t) creates-are
 
-    pub deciding-sized : (o : ℕ) → Mem o (numbers t) → Sized (last o)
-    unfolding creates
-    deciding-sized o m =
-        held-sized (last o)
-        (deciding-held counts (heldBy t) (createAt t o)
-        (chosen-at isCreate (createAt t o) (heldBy t)
-        (named-held counts (heldBy t) (createAt t) (numbers t) creates-are o m) .0))
+  deciding-sized : (o : ℕ) → Mem o (numbers t) → Sized (last o)
+  unfolding creates
+  deciding-sized o m =
+      held-sized (last o)
+      (deciding-held (heldBy t) (createAt t o)
+      (chosen-at isCreate (createAt t o) (heldBy t)
+      (named-held (heldBy t) (createAt t) (numbers t) creates-are o m) .0))
 
-    pub objects-by-keys :
-        (key : ℕ → ℕ) → ((o : ℕ) → o < t .counters .objects → key o ≡ keyOf (last o)) →
-        gatherBy (λ a b. ltb (key a) (key b)) [] (numbers t) ≡ standing last (numbers t)
-    objects-by-keys key are =
-        standing-by-numbers last (numbers t) objects-ranked deciding-sized key
-        (λ o m. are o (number-below t o m))
+  pub objects-by-keys :
+      (key : ℕ → ℕ) → ((o : ℕ) → o < t .counters .objects → key o ≡ keyOf (last o)) →
+      gatherBy (λ a b. ltb (key a) (key b)) [] (numbers t) ≡ standing last (numbers t)
+  objects-by-keys key are =
+      standing-by-numbers last (numbers t) objects-ranked deciding-sized key
+      (λ o m. are o (number-below t o m))
 
   -- their Creates stand as those of the edits held do
-  pub objects-layered :
-      map (createAt t) (standing (λ o. deciding isLayer (heldBy t) (createAt t o)) (numbers t))
-      ≡ layeredOrder (heldBy t)
-  unfolding layeredOrder orderBy
+  pub objects-layered : map (createAt t) (standing last (numbers t)) ≡ layeredOrder (heldBy t)
+  unfolding layeredOrder
   objects-layered =
-      standing-made (createAt t) (deciding isLayer (heldBy t)) (numbers t)
-      ∙ ap (standing (deciding isLayer (heldBy t))) creates-are
+      standing-made (createAt t) (deciding (heldBy t)) (numbers t) ∙ ap (standing (deciding (heldBy t))) creates-are
 
   -- the theorem of the moves, of a drawing
   pub held-by-moves : moved (heldBy t) ≡ layeredOrder (heldBy t)

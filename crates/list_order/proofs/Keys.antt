@@ -3,9 +3,9 @@
 use mathlib.Core.Path.{_≡_, refl, sym, ap₂, _∙_}
 use mathlib.Core.Bool.{Bool, true, false, _&&_, _||_, cond}
 use mathlib.Core.List.{List, [], List·Memᴰ·not-nil}
-use Prim.Native.Nat.{ℕ, suc, _+_, _-_, _*_, _<_}
+use Prim.Native.Nat.{ℕ, _+_, _-_, _<_}
 use native.Mathlib.Omega.{arith}
-use lib.Dec.{eqb, ltb}
+use lib.Dec.{ltb}
 use lib.ListN.{getD}
 use borrow.Author.Tests.{ltb-true, lt-ltb, le-ltb}
 use Rattle.math_lists.specs.SortedLists.{Asc, gatherBy}
@@ -13,7 +13,7 @@ use Rattle.math_lists.proofs.Booleans.{same-test}
 use Rattle.math_lists.proofs.NumbersBelow.{sum-below}
 use Rattle.math_lists.proofs.PutInOrder.{gathered-same}
 use Rattle.edit_record.specs.declared.Edit.{Edit}
-use Rattle.edit_record.specs.Answer1.{isTop, isBottom}
+use Rattle.edit_record.specs.Answer1.{isTop}
 use Rattle.edit_record.specs.Layout.{mostSites, twoBytes}
 use Rattle.edit_causal.specs.TotalOrder.{vectorSum, ranksBefore}
 use Rattle.demand_any_order.specs.Rearranged.{Mem}
@@ -46,42 +46,26 @@ ranks-order m n p q =
 
 -- ---- keys
 
-keyed : ℕ → Bool → Bool → ℕ → ℕ
-keyed top b t r = cond b (top - suc r) (cond t (2 * top + r) (top + r))
-
-shelved : Bool → Bool → ℕ
-shelved b t = cond b 0 (cond t 2 1)
+keyed : ℕ → Bool → ℕ → ℕ
+keyed top t r = cond t (top + r) r
 
 keyed-order :
-    (top : ℕ) (b t c u : Bool) (r s : ℕ) → r < top → s < top →
-    ltb (keyed top b t r) (keyed top c u s)
-    ≡ (ltb (shelved b t) (shelved c u) || eqb (shelved b t) (shelved c u) && cond b (ltb s r) (ltb r s))
-unfolding keyed shelved
-keyed-order top true t true u r s l k =
-    same-test (ltb (top - suc r) (top - suc s)) (ltb s r)
-    (λ h. lt-ltb s r (omega (arith, ltb-true (top - suc r) (top - suc s) h)))
-    (λ h. lt-ltb (top - suc r) (top - suc s) (omega (arith, ltb-true s r h)))
-keyed-order top true t false true r s l k = lt-ltb (top - suc r) (2 * top + s) (omega arith)
-keyed-order top true t false false r s l k = lt-ltb (top - suc r) (top + s) (omega arith)
-keyed-order top false true true u r s l k = le-ltb (2 * top + r) (top - suc s) (omega arith)
-keyed-order top false true false true r s l k =
-    same-test (ltb (2 * top + r) (2 * top + s)) (ltb r s)
-    (λ h. lt-ltb r s (omega (arith, ltb-true (2 * top + r) (2 * top + s) h)))
-    (λ h. lt-ltb (2 * top + r) (2 * top + s) (omega (arith, ltb-true r s h)))
-keyed-order top false true false false r s l k = le-ltb (2 * top + r) (top + s) (omega arith)
-keyed-order top false false true u r s l k = le-ltb (top + r) (top - suc s) (omega arith)
-keyed-order top false false false true r s l k = lt-ltb (top + r) (2 * top + s) (omega arith)
-keyed-order top false false false false r s l k =
+    (top : ℕ) (t u : Bool) (r s : ℕ) → r < top → s < top →
+    ltb (keyed top t r) (keyed top u s) ≡ cond t (u && ltb r s) (u || ltb r s)
+unfolding keyed
+keyed-order top true true r s l k =
     same-test (ltb (top + r) (top + s)) (ltb r s)
     (λ h. lt-ltb r s (omega (arith, ltb-true (top + r) (top + s) h)))
     (λ h. lt-ltb (top + r) (top + s) (omega (arith, ltb-true r s h)))
+keyed-order top true false r s l k = le-ltb (top + r) s (omega arith)
+keyed-order top false true r s l k = lt-ltb r (top + s) (omega arith)
+keyed-order top false false r s l k = refl
 
 pub key-order : (m n : Edit) → Sized m → Sized n → ltb (keyOf m) (keyOf n) ≡ goesBefore m n
-unfolding keyOf goesBefore keyed shelved
+unfolding keyOf goesBefore keyed
 key-order m n p q =
-    keyed-order ranks (isBottom m) (isTop m) (isBottom n) (isTop n) (rankOf m) (rankOf n) (rank-below m p)
-    (rank-below n q)
-    ∙ rw (ranks-order m n p q, ranks-order n m q p)
+    keyed-order ranks (isTop m) (isTop n) (rankOf m) (rankOf n) (rank-below m p) (rank-below n q)
+    ∙ rw (ranks-order m n p q)
 
 -- ---- put in order by them
 

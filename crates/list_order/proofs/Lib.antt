@@ -1,12 +1,13 @@
 pub mod Choices
 pub mod PutTogether
-pub mod Shelves
+pub mod Comparing
 pub mod Standing
 pub mod Deciding
 pub mod AnyOrder
 pub mod Moves
 pub mod Others
+pub mod WithoutTops
+pub mod OrderBefore
 pub mod Keys
-pub mod Layered
 pub mod Held
 pub mod WorkedOrders

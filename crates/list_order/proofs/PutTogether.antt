@@ -1,9 +1,8 @@
 -- A list that is put in an order, or taken apart by tests and put together again, is rearranged. Assumes nothing.
-use mathlib.Core.Path.{_≡_, refl}
-use mathlib.Core.Bool.{Bool, true, false, not, _||_, cond}
+use mathlib.Core.Path.{_≡_}
+use mathlib.Core.Bool.{Bool, true, false, not, cond}
 use mathlib.Core.List.{List, [], _∷_, _++_, append-nil}
 use Rattle.math_lists.specs.SortedLists.{filter, insertBy, gatherBy}
-use Rattle.math_lists.proofs.Booleans.{clash}
 use Rattle.demand_any_order.specs.Rearranged.{Rearranged, none, skip, swap, then}
 use Rattle.demand_any_order.proofs.Rearranged.{unchanged}
 
@@ -61,27 +60,3 @@ module _ {A : Type 0} where
           (cond b (x ∷ filter f xs) (filter f xs) ++ cond (not b) (x ∷ filter g xs) (filter g xs)) (x ∷ xs)
       go true ih = skip ih
       go false ih = then (middle-first (filter f xs) (filter g xs) x) (skip ih)
-
-  -- what passes f, what passes neither, what passes g
-  pub three-parts :
-      (f g : A → Bool) (xs : List A) → ((x : A) → g x ≡ true → f x ≡ false) →
-      Rearranged (filter f xs ++ (filter (λ x. not (g x || f x)) xs ++ filter g xs)) xs
-  unfolding filter
-  three-parts f g [] h = none
-  three-parts f g (x ∷ xs) h = go (f x) refl (g x) refl (three-parts f g xs h)
-    where
-      us : List A
-      us = filter f xs
-
-      vs : List A
-      vs = filter (λ x. not (g x || f x)) xs
-
-      ws : List A
-      ws = filter g xs
-
-      go : (a : Bool) → f x ≡ a → (b : Bool) → g x ≡ b → Rearranged (us ++ (vs ++ ws)) xs →
-          Rearranged (cond a (x ∷ us) us ++ (cond (not (b || a)) (x ∷ vs) vs ++ cond b (x ∷ ws) ws)) (x ∷ xs)
-      go true p true q ih = clash p (h x q)
-      go true p false q ih = skip ih
-      go false p true q ih = then (behind us (middle-first vs ws x)) (then (middle-first us (vs ++ ws) x) (skip ih))
-      go false p false q ih = then (middle-first us (vs ++ ws) x) (skip ih)

@@ -1,96 +1,77 @@
--- Objects in the order of the list, in three parts as Req 08 says it, are those that come of comparing two at a time by
+-- Objects in the order of the list, in two parts as Req 12 says it, are those that come of comparing two at a time by
 -- what decides their places; so the order of the list is known by what stands in it. Assumes, where it says so, that of
 -- any two deciding edits one ranks before the other.
 use mathlib.Core.Path.{_≡_, sym, ap, ap₂, _∙_}
-use mathlib.Core.Logic.{inl, inr}
-use mathlib.Core.Bool.{Bool, true, not}
-use mathlib.Core.List.{List, [], _++_, map, map-append, List·Memᴰ·not-nil, List·Memᴰ·append-cases}
-use native.Mathlib.Omega.{arith}
+use mathlib.Core.Bool.{Bool, true, not, Bool·not-not}
+use mathlib.Core.List.{List, [], _++_, map, map-append, List·Memᴰ·not-nil}
 use borrow.Author.Tests.{not-true}
 use Rattle.math_lists.specs.SortedLists.{filter, Asc, gatherBy}
 use Rattle.math_lists.proofs.SortedLists.{asc-unique}
 use Rattle.math_lists.proofs.PutInOrder.{OneWay, gathered-sorted, gathered-same, gathered-made}
 use Rattle.edit_record.specs.declared.Edit.{Edit}
-use Rattle.edit_record.specs.Answer1.{isTop, isBottom, isLayer}
+use Rattle.edit_record.specs.Answer1.{isTop}
 use Rattle.edit_causal.specs.TotalOrder.{ranksBefore}
 use Rattle.demand_any_order.specs.Rearranged.{Mem, Rearranged, then}
 use Rattle.demand_any_order.proofs.Rearranged.{turned, same-members, chosen-rearranged}
 use Rattle.demand_any_order.proofs.ListMembers.{chosen-at}
 use Rattle.demand_any_order.proofs.PairsInList.{pairs-chosen, pairs-weaken, pairs-rearranged}
 use Rattle.list_version.proofs.RanksStrict.{ranks-through}
-use Rattle.list_order.specs.Layers.{standing}
-use Rattle.list_order.specs.LayerForms.{shelf, goesBefore}
+use Rattle.list_order.specs.Layers.{byLast, standing}
+use Rattle.list_order.specs.LayerForms.{goesBefore}
 use Rattle.list_order.proofs.Choices.{chosen-same, chosen-made, pairs-append}
-use Rattle.list_order.proofs.PutTogether.{joined-rearranged, gathered-rearranged, three-parts}
-use Rattle.list_order.proofs.Shelves.{lower-before, not-before-itself, goes-through, one-goes, bottom-shelf}
-use Rattle.list_order.proofs.Shelves.{rest-shelf, top-shelf, bottoms-before, rest-before, tops-before}
-use Rattle.list_order.proofs.Shelves.{one-way-turned, top-not-bottom}
+use Rattle.list_order.proofs.PutTogether.{joined-rearranged, gathered-rearranged, two-parts}
+use Rattle.list_order.proofs.Comparing.{not-before-itself, goes-through, one-goes, one-way-turned}
+use Rattle.list_order.proofs.Comparing.{level-before, rest-first}
 
--- ---- the three parts
-
--- the to-bottom ones go by their ranks turned round
-abbrev ranksAfter : Edit → Edit → Bool
-ranksAfter m n = ranksBefore n m
+-- ---- the two parts
 
 abbrev isRest : Edit → Bool
-isRest m = not (isLayer m)
+isRest m = not (isTop m)
 
--- the objects whose deciding edits pass p, put in the order `before` of these
-abbrev part : {A : Type 0} → (Edit → Bool) → (Edit → Edit → Bool) → (A → Edit) → List A → List A
-part p before last xs = gatherBy (λ a b. before (last a) (last b)) [] (filter (λ x. p (last x)) xs)
+-- the objects whose deciding edits pass p
+abbrev part : {A : Type 0} → (Edit → Bool) → (A → Edit) → List A → List A
+part p last xs = byLast last (filter (λ x. p (last x)) xs)
 
 -- ---- objects by other names
 
 module _ {A B : Type 0} (f : A → B) (last : B → Edit) (xs : List A) where
-  part-made :
-      (p : Edit → Bool) (before : Edit → Edit → Bool) →
-      map f (part p before (λ x. last (f x)) xs) ≡ part p before last (map f xs)
-  part-made p before =
-      gathered-made f (λ a b. before (last a) (last b)) [] (filter (λ x. p (last (f x))) xs)
-      ∙ ap (gatherBy (λ a b. before (last a) (last b)) []) (chosen-made f (λ x. p (last x)) xs)
+  part-made : (p : Edit → Bool) → map f (part p (λ x. last (f x)) xs) ≡ part p last (map f xs)
+  part-made p =
+      gathered-made f (λ a b. ranksBefore (last a) (last b)) [] (filter (λ x. p (last (f x))) xs)
+      ∙ ap (byLast last) (chosen-made f (λ x. p (last x)) xs)
 
   pub standing-made : map f (standing (λ x. last (f x)) xs) ≡ standing last (map f xs)
   unfolding standing
   standing-made =
       let g : A → Edit = λ x. last (f x) in
-      map-append f (part isBottom ranksAfter g xs) (part isRest ranksBefore g xs ++ part isTop ranksBefore g xs)
-      ∙ ap₂ (λ (us vs : List B). us ++ vs) (part-made isBottom ranksAfter)
-      (map-append f (part isRest ranksBefore g xs) (part isTop ranksBefore g xs)
-      ∙ ap₂ (λ (us vs : List B). us ++ vs) (part-made isRest ranksBefore) (part-made isTop ranksBefore))
+      map-append f (part isRest g xs) (part isTop g xs)
+      ∙ ap₂ (λ (us vs : List B). us ++ vs) (part-made isRest) (part-made isTop)
 
 -- ---- the same deciding edits
 
 module _ {A : Type 0} (last last′ : A → Edit) (xs : List A) (same : (x : A) → Mem x xs → last x ≡ last′ x) where
-  part-same :
-      (p : Edit → Bool) (before : Edit → Edit → Bool) → part p before last xs ≡ part p before last′ xs
-  part-same p before =
-      gathered-same (λ a b. before (last a) (last b)) (λ a b. before (last′ a) (last′ b)) (λ x. Mem x xs)
-      (λ x y m k. ap₂ before (same x m) (same y k)) [] (filter (λ x. p (last x)) xs)
+  part-same : (p : Edit → Bool) → part p last xs ≡ part p last′ xs
+  part-same p =
+      gathered-same (λ a b. ranksBefore (last a) (last b)) (λ a b. ranksBefore (last′ a) (last′ b)) (λ x. Mem x xs)
+      (λ x y m k. ap₂ ranksBefore (same x m) (same y k)) [] (filter (λ x. p (last x)) xs)
       (λ x m. absurd (List·Memᴰ·not-nil m)) (λ x m. chosen-at (λ x. p (last x)) x xs m .0)
-      ∙ ap (gatherBy (λ a b. before (last′ a) (last′ b)) [])
-      (chosen-same (λ x. p (last x)) (λ x. p (last′ x)) xs (λ x m. ap p (same x m)))
+      ∙ ap (byLast last′) (chosen-same (λ x. p (last x)) (λ x. p (last′ x)) xs (λ x m. ap p (same x m)))
 
   pub standing-same : standing last xs ≡ standing last′ xs
   unfolding standing
-  standing-same =
-      ap₂ (λ (us vs : List A). us ++ vs) (part-same isBottom ranksAfter)
-      (ap₂ (λ (us vs : List A). us ++ vs) (part-same isRest ranksBefore) (part-same isTop ranksBefore))
+  standing-same = ap₂ (λ (us vs : List A). us ++ vs) (part-same isRest) (part-same isTop)
 
 -- ---- the same objects
 
 module _ {A : Type 0} (last : A → Edit) where
-  part-rearranged :
-      (p : Edit → Bool) (before : Edit → Edit → Bool) (xs : List A) →
-      Rearranged (part p before last xs) (filter (λ x. p (last x)) xs)
-  part-rearranged p before xs = gathered-rearranged (λ a b. before (last a) (last b)) (filter (λ x. p (last x)) xs)
+  part-rearranged : (p : Edit → Bool) (xs : List A) → Rearranged (part p last xs) (filter (λ x. p (last x)) xs)
+  part-rearranged p xs = gathered-rearranged (λ a b. ranksBefore (last a) (last b)) (filter (λ x. p (last x)) xs)
 
   pub standing-rearranged : (xs : List A) → Rearranged (standing last xs) xs
   unfolding standing
   standing-rearranged xs =
-      then
-      (joined-rearranged (part-rearranged isBottom ranksAfter xs)
-      (joined-rearranged (part-rearranged isRest ranksBefore xs) (part-rearranged isTop ranksBefore xs)))
-      (three-parts (λ x. isBottom (last x)) (λ x. isTop (last x)) xs (λ x. top-not-bottom (last x)))
+      then (joined-rearranged (part-rearranged isRest xs) (part-rearranged isTop xs))
+      (two-parts (λ x. isRest (last x)) (λ x. isTop (last x)) xs (λ x. sym (Bool·not-not (isTop (last x)))))
 
   -- ---- each before all that follow it
 
@@ -108,59 +89,28 @@ module _ {A : Type 0} (last : A → Edit) where
       asc-unique Goes (λ x h. not-before-itself (last x) h) (λ x y z. goes-through (last x) (last y) (last z)) xs ys a b
       (same-members r) (same-members (turned r))
 
-  part-at : (p : Edit → Bool) (before : Edit → Edit → Bool) (xs : List A) (x : A) → Mem x (part p before last xs) →
-      p (last x) ≡ true
-  part-at p before xs x m = chosen-at (λ x. p (last x)) x xs (same-members (part-rearranged p before xs) x m) .1
+  part-at : (p : Edit → Bool) (xs : List A) (x : A) → Mem x (part p last xs) → p (last x) ≡ true
+  part-at p xs x m = chosen-at (λ x. p (last x)) x xs (same-members (part-rearranged p xs) x m) .1
 
   part-stands :
-      (p : Edit → Bool) (before : Edit → Edit → Bool) →
-      ((l m n : Edit) → before l m ≡ true → before m n ≡ true → before l n ≡ true) →
-      ((m n : Edit) → OneWay ranksBefore m n → OneWay before m n) →
-      ((m n : Edit) → p m ≡ true → p n ≡ true → before m n ≡ true → goesBefore m n ≡ true) →
-      (xs : List A) → Asc OneRanks xs → Asc Goes (part p before last xs)
-  part-stands p before through one-way agrees xs ranked =
-      pairs-weaken (λ x y. before (last x) (last y) ≡ true) Goes (part p before last xs)
-      (λ x y m k h. agrees (last x) (last y) (part-at p before xs x m) (part-at p before xs y k) h)
-      (gathered-sorted (λ a b. before (last a) (last b)) (λ x y z. through (last x) (last y) (last z)) []
-      (filter (λ x. p (last x)) xs) tt
-      (pairs-chosen (OneWay (λ a b. before (last a) (last b))) (λ x. p (last x)) xs
-      (pairs-weaken OneRanks (OneWay (λ a b. before (last a) (last b))) xs
-      (λ x y m k w. one-way (last x) (last y) w) ranked))
+      (p : Edit → Bool) → ((m n : Edit) → p m ≡ true → p n ≡ true → isTop m ≡ isTop n) → (xs : List A) →
+      Asc OneRanks xs → Asc Goes (part p last xs)
+  part-stands p level xs ranked =
+      pairs-weaken (λ x y. ranksBefore (last x) (last y) ≡ true) Goes (part p last xs)
+      (λ x y m k h. level-before (last x) (last y) (level (last x) (last y) (part-at p xs x m) (part-at p xs y k)) h)
+      (gathered-sorted (λ a b. ranksBefore (last a) (last b)) (λ x y z. ranks-through (last x) (last y) (last z)) []
+      (filter (λ x. p (last x)) xs) tt (pairs-chosen OneRanks (λ x. p (last x)) xs ranked)
       (λ x y m w. absurd (List·Memᴰ·not-nil w)))
 
   module _ (xs : List A) (ranked : Asc OneRanks xs) where
-    abbrev first : List A
-    first = part isBottom ranksAfter last xs
-
-    abbrev rest : List A
-    rest = part isRest ranksBefore last xs
-
-    abbrev hind : List A
-    hind = part isTop ranksBefore last xs
-
-    first-shelf : (x : A) → Mem x first → shelf (last x) ≡ 0
-    first-shelf x m = bottom-shelf (last x) (part-at isBottom ranksAfter xs x m)
-
-    middle-shelf : (x : A) → Mem x rest → shelf (last x) ≡ 1
-    middle-shelf x m = rest-shelf (last x) (not-true (isLayer (last x)) (part-at isRest ranksBefore xs x m))
-
-    last-shelf : (x : A) → Mem x hind → shelf (last x) ≡ 2
-    last-shelf x m = top-shelf (last x) (part-at isTop ranksBefore xs x m)
-
     pub standing-goes : Asc Goes (standing last xs)
     unfolding standing
     standing-goes =
-        pairs-append Goes first (rest ++ hind)
-        (part-stands isBottom ranksAfter (λ l m n h k. ranks-through n m l k h) one-way-turned bottoms-before xs ranked)
-        (pairs-append Goes rest hind
-        (part-stands isRest ranksBefore ranks-through (λ m n w. w)
-        (λ m n p q. rest-before m n (not-true (isLayer m) p) (not-true (isLayer n) q)) xs ranked)
-        (part-stands isTop ranksBefore ranks-through (λ m n w. w) tops-before xs ranked)
-        (λ x y m k. lower-before (last x) (last y) (omega (arith, middle-shelf x m, last-shelf y k))))
-        (λ x y m k. elim (List·Memᴰ·append-cases rest k) [
-          | inl n ↦ lower-before (last x) (last y) (omega (arith, first-shelf x m, middle-shelf y n))
-          | inr n ↦ lower-before (last x) (last y) (omega (arith, first-shelf x m, last-shelf y n))
-        ])
+        pairs-append Goes (part isRest last xs) (part isTop last xs)
+        (part-stands isRest (λ m n p q. not-true (isTop m) p ∙ sym (not-true (isTop n) q)) xs ranked)
+        (part-stands isTop (λ m n p q. p ∙ sym q) xs ranked)
+        (λ x y m k.
+        rest-first (last x) (last y) (not-true (isTop (last x)) (part-at isRest xs x m)) (part-at isTop xs y k))
 
     -- ---- by comparing
 

@@ -10,7 +10,8 @@ use Rattle.edit_record.specs.Layout.{createKind, topKind, bottomKind}
 use Rattle.edit_causal.specs.TotalOrder.{vectorSum}
 use Rattle.edit_history.specs.EditsHeld.{creates}
 use Rattle.list_order.specs.Layers.{inOrder, lastOn, deciding, standing}
-use Rattle.list_order.specs.Moves.{orderBy, layeredOrder, move, moves, movedBy, moved}
+use Rattle.list_order.specs.Moves.{layeredOrder, move, moves, moved}
+use Rattle.list_order.proofs.OrderBefore.{decidingBefore, standingBefore, orderBefore}
 
 -- an edit of a kind by site s, its sequence number q and vector v, on the box of site t
 abbrev edit : ℕ → ℕ → ℕ → List ℕ → ℕ → ℕ → Edit
@@ -34,24 +35,24 @@ boxes =
     ∷ edit createKind 1 1 (0 ∷ 1 ∷ 0 ∷ []) 0 0
     ∷ []
 
--- 0.2 takes the box of site 2 to the bottom; 1.2, unseen by it and of the same sum, that of site 1
+-- 0.2 takes the box of site 0 to the top; 1.2, unseen by it and of the same sum, that of site 1
 abbrev two : List Edit
 two =
-    edit bottomKind 1 2 (1 ∷ 2 ∷ 1 ∷ []) 1 1
-    ∷ edit bottomKind 0 2 (2 ∷ 1 ∷ 1 ∷ []) 2 1
+    edit topKind 1 2 (1 ∷ 2 ∷ 1 ∷ []) 1 1
+    ∷ edit topKind 0 2 (2 ∷ 1 ∷ 1 ∷ []) 0 1
     ∷ boxes
 
--- 2.2 has seen that and takes the box of site 2 to the top
+-- 2.2 has seen that and takes the box of site 0 to the top again
 abbrev three : List Edit
-three = edit topKind 2 2 (2 ∷ 2 ∷ 2 ∷ []) 2 1 ∷ two
+three = edit topKind 2 2 (2 ∷ 2 ∷ 2 ∷ []) 0 1 ∷ two
 
--- then 0.3 that of site 0
+-- then 0.3 takes it to the bottom, and stands among the edits held without an effect
 abbrev four : List Edit
-four = edit topKind 0 3 (3 ∷ 2 ∷ 2 ∷ []) 0 1 ∷ three
+four = edit bottomKind 0 3 (3 ∷ 2 ∷ 2 ∷ []) 0 1 ∷ three
 
--- and 1.3 takes the box of site 2 to the bottom again
+-- and 1.3 takes the box of site 2 to the top
 abbrev five : List Edit
-five = edit bottomKind 1 3 (3 ∷ 3 ∷ 2 ∷ []) 2 1 ∷ four
+five = edit topKind 1 3 (3 ∷ 3 ∷ 2 ∷ []) 2 1 ∷ four
 
 -- the sites of the boxes in an order
 abbrev sitesOf : List Edit → List ℕ
@@ -61,15 +62,20 @@ sitesOf cs = map (λ c. c .site .0) cs
 abbrev Orders : (List Edit → List Edit) → Type 0
 Orders f =
     (sitesOf (f boxes) ≡ 0 ∷ 1 ∷ 2 ∷ [])
-    × (sitesOf (f two) ≡ 1 ∷ 2 ∷ 0 ∷ [])
-    × (sitesOf (f three) ≡ 1 ∷ 0 ∷ 2 ∷ [])
-    × (sitesOf (f four) ≡ 1 ∷ 2 ∷ 0 ∷ [])
-    × (sitesOf (f five) ≡ 2 ∷ 1 ∷ 0 ∷ [])
+    × (sitesOf (f two) ≡ 2 ∷ 0 ∷ 1 ∷ [])
+    × (sitesOf (f three) ≡ 2 ∷ 1 ∷ 0 ∷ [])
+    × (sitesOf (f four) ≡ 2 ∷ 1 ∷ 0 ∷ [])
+    × (sitesOf (f five) ≡ 1 ∷ 0 ∷ 2 ∷ [])
 
 pub worked-orders : Orders layeredOrder
-unfolding layeredOrder orderBy standing deciding lastOn inOrder creates filter insertBy gatherBy vectorSum sum
+unfolding layeredOrder standing deciding lastOn inOrder creates filter insertBy gatherBy vectorSum sum
 worked-orders = (refl, refl, refl, refl, refl)
 
 pub worked-moves : Orders moved
-unfolding moved movedBy moves move inOrder creates filter insertBy gatherBy vectorSum sum
+unfolding moved moves move inOrder creates filter insertBy gatherBy vectorSum sum
 worked-moves = (refl, refl, refl, refl, refl)
+
+-- before Req 12 the to-bottom of 0.3 had its effect
+pub worked-before : sitesOf (orderBefore four) ≡ 0 ∷ 2 ∷ 1 ∷ []
+unfolding orderBefore standingBefore decidingBefore lastOn inOrder creates filter insertBy gatherBy vectorSum sum
+worked-before = refl

@@ -1,21 +1,17 @@
 -- The Creates of a list of edits in the order of the list, and the same by moves made one by one from document 01's
--- order: what the theorem of the moves speaks of. `counts` is as in `Layers`. Assumes nothing.
-use mathlib.Core.Bool.{Bool, not, cond}
+-- order: what the theorem of the moves speaks of. Assumes nothing.
+use mathlib.Core.Bool.{not}
 use mathlib.Core.List.{List, [], _∷_, _++_}
 use Rattle.math_lists.specs.SortedLists.{filter}
 use Rattle.edit_record.specs.declared.Edit.{Edit}
-use Rattle.edit_record.specs.Answer1.{isTop, isBottom, isLayer}
+use Rattle.edit_record.specs.Answer1.{isTop}
 use Rattle.edit_history.specs.EditsHeld.{creates}
 use Rattle.list_order.specs.Layers.{isOn, inOrder, deciding, standing}
 
 -- ---- the Creates in the order of the list
 
-unfoldable pub orderBy : (Edit → Bool) → List Edit → List Edit
-orderBy counts es = standing (deciding counts es) (creates es)
-
--- both kinds count
 unfoldable pub layeredOrder : List Edit → List Edit
-layeredOrder es = orderBy isLayer es
+layeredOrder es = standing (deciding es) (creates es)
 
 -- ---- by moves
 
@@ -26,18 +22,15 @@ without e cs = filter (λ c. not (isOn c e)) cs
 abbrev pub alone : Edit → List Edit → List Edit
 alone e cs = filter (λ c. isOn c e) cs
 
--- to-top moves the object's Create to the end, to-bottom to the front
+-- a to-top moves the object's Create to the end
 unfoldable pub move : Edit → List Edit → List Edit
-move e cs = cond (isTop e) (without e cs ++ alone e cs) (cond (isBottom e) (alone e cs ++ without e cs) cs)
+move e cs = without e cs ++ alone e cs
 
 -- the moves ls, one by one
 unfoldable pub moves : List Edit → List Edit → List Edit
 moves cs [] = cs
 moves cs (e ∷ ls) = moves (move e cs) ls
 
--- from document 01's order, the moves that count in the total order
-unfoldable pub movedBy : (Edit → Bool) → List Edit → List Edit
-movedBy counts es = moves (inOrder (creates es)) (inOrder (filter counts es))
-
+-- from document 01's order, the to-top edits in the total order; a to-bottom makes no move
 unfoldable pub moved : List Edit → List Edit
-moved es = movedBy isLayer es
+moved es = moves (inOrder (creates es)) (inOrder (filter isTop es))

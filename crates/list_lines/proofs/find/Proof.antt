@@ -10,7 +10,7 @@ use Rattle.table_drawing.specs.Tables.{tablesOf}
 use Rattle.table_soundness.proofs.SoundFacts.{sound-at}
 use Rattle.list_lines.specs.List.{linesFor}
 use Rattle.list_lines.specs.LinesForms.{LeftOf}
-use Rattle.list_objects.proofs.KeysByMoves.{in-order}
+use Rattle.list_objects.proofs.KeysByTops.{in-order}
 use Rattle.list_lines.proofs.LineFound.{all-left, passed-over, found-at, not-found}
 use borrow.Author.Needs.{needs}
 use Rattle.list_lines.proofs.find.Statement.{statement}

@@ -13,7 +13,7 @@ use Rattle.table_drawing.specs.Tables.{tablesOf}
 use Rattle.table_soundness.proofs.SoundFacts.{sound-at}
 use Rattle.list_line.specs.Line.{lineLength}
 use Rattle.list_lines.specs.List.{linesFor}
-use Rattle.list_objects.proofs.KeysByMoves.{in-order}
+use Rattle.list_objects.proofs.KeysByTops.{in-order}
 use Rattle.list_print.specs.Printing.{joined}
 use Rattle.list_print.specs.PrintForms.{Behind}
 use Rattle.list_print.proofs.BytesBehind.{fewer-behind, no-piece, piece-behind}
