@@ -17,10 +17,13 @@ use mathlib.Core.List.{
   Memᴰ·append-right,
   Memᴰ·of-map,
 }
+use Prim.Native.Nat.{ℕ, zero, suc, _<_}
+use native.Mathlib.Omega.{arith}
+use lib.ListN.{length, getD}
 use Rattle.math_lists.specs.SortedLists.{filter, Asc}
-use Rattle.demand_any_order.specs.Rearranged.{Mem, Rearranged, none, skip, swap, then}
-use Rattle.demand_any_order.proofs.ListMembers.{here, chosen-at}
-use Rattle.demand_any_order.proofs.Rearranged.{turned, same-members}
+use Rattle.math_lists.specs.Rearranged.{Mem, Rearranged, none, skip, swap, then}
+use Rattle.math_lists.proofs.ListMembers.{here, chosen-at, mem-place}
+use Rattle.math_lists.proofs.Rearranged.{turned, same-members}
 
 module _ {A : Type 0} (R : A → A → Type 0) where
   -- ---- parts of a list
@@ -38,6 +41,14 @@ module _ {A : Type 0} (R : A → A → Type 0) where
   pairs-cross (u ∷ us) vs (a, a') x y m k =
       elim (List·Memᴰ·cases-cons m)
       [ inl q ↦ rw q (a y (Memᴰ·append-right us k)) | inr n ↦ pairs-cross us vs a' x y n k ]
+
+  -- between the i-th and a later one
+  pub pairs-at :
+      (d : A) (xs : List A) → Asc R xs → (i j : ℕ) → i < j → j < length xs → R (getD xs i d) (getD xs j d)
+  pairs-at d [] a i j l m = absurd (omega arith)
+  pairs-at d (x ∷ xs) (a, a') i zero l m = absurd (omega arith)
+  pairs-at d (x ∷ xs) (a, a') zero (suc j) l m = a (getD xs j d) (mem-place d xs j (omega arith))
+  pairs-at d (x ∷ xs) (a, a') (suc i) (suc j) l m = pairs-at d xs a' i j (omega arith) (omega arith)
 
   pub pairs-front : (us vs : List A) → Asc R (us ++ vs) → Asc R us
   pairs-front [] vs a = tt

@@ -5,10 +5,10 @@ use mathlib.Core.Bool.{Bool, true, false, cond}
 use mathlib.Core.List.{List, [], _∷_, map, List·Memᴰ·head, List·Memᴰ·tail, List·Memᴰ·cases-cons}
 use Prim.Native.Nat.{suc}
 use lib.ListN.{length}
 use Rattle.math_lists.specs.SortedLists.{any, filter}
 use Rattle.math_lists.proofs.Booleans.{same-test}
-use Rattle.demand_any_order.specs.Rearranged.{Mem, Rearranged, none, skip, swap, then}
-use Rattle.demand_any_order.proofs.ListMembers.{any-on, any-at}
+use Rattle.math_lists.specs.Rearranged.{Mem, Rearranged, none, skip, swap, then}
+use Rattle.math_lists.proofs.ListMembers.{any-on, any-at}
 
 module _ {A : Type 0} where
   -- ---- any list, and back again

@@ -2,9 +2,9 @@
 use mathlib.Core.Path.{_≡_}
 use mathlib.Core.Bool.{Bool, true, false, not, cond}
 use mathlib.Core.List.{List, [], _∷_, _++_, append-nil}
 use Rattle.math_lists.specs.SortedLists.{filter, insertBy, gatherBy}
-use Rattle.demand_any_order.specs.Rearranged.{Rearranged, none, skip, swap, then}
-use Rattle.demand_any_order.proofs.Rearranged.{unchanged}
+use Rattle.math_lists.specs.Rearranged.{Rearranged, none, skip, swap, then}
+use Rattle.math_lists.proofs.Rearranged.{unchanged}
 
 module _ {A : Type 0} where
   -- ---- one list after the other

@@ -4,11 +4,11 @@ use mathlib.Core.Path.{_≡_, refl, _∙_}
 use mathlib.Core.Logic.{inl, inr}
 use mathlib.Core.Bool.{Bool, true, false, cond}
 use mathlib.Core.List.{List, [], _∷_, _++_, map, append-nil, List·Memᴰ·tail, List·Memᴰ·append-cases, Memᴰ·map}
 use Rattle.math_lists.specs.SortedLists.{any, filter, Asc}
 use Rattle.math_lists.proofs.Booleans.{clash, neither}
 use Rattle.math_lists.proofs.GrownAtEnd.{filter-snoc}
-use Rattle.demand_any_order.specs.Rearranged.{Mem}
-use Rattle.demand_any_order.proofs.ListMembers.{here}
+use Rattle.math_lists.specs.Rearranged.{Mem}
+use Rattle.math_lists.proofs.ListMembers.{here}
 
 module _ {A : Type 0} where
   -- ---- nothing, and all

@@ -18,9 +18,9 @@ use Prim.Native.Nat.{ℕ, zero, suc, _<_}
 use native.Mathlib.Omega.{arith}
 use lib.ListN.{length, getD, length-append}
 use lib.Seq.{append-snoc}
 use Rattle.math_lists.specs.SortedLists.{any, filter}
 use Rattle.math_lists.proofs.Booleans.{clash, either, or-left, or-right}
-use Rattle.demand_any_order.specs.Rearranged.{Mem}
+use Rattle.math_lists.specs.Rearranged.{Mem}
 
 abbrev pub here : {A : Type 0} {x : A} {xs : List A} → Mem x (x ∷ xs)
 here = List·Memᴰ·head refl

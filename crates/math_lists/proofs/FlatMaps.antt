@@ -6,8 +6,8 @@ use mathlib.Core.List.{List, [], _∷_, _++_, map, flatMap, List·Memᴰ·head, 
 use Prim.Native.Nat.{ℕ, zero, suc, _+_}
 use native.Mathlib.Omega.{arith}
 use lib.ListN.{length, length-append}
 use Rattle.math_lists.specs.NumbersBelow.{sum, keep}
-use Rattle.demand_any_order.specs.Rearranged.{Mem, Rearranged, none, skip, swap, then}
+use Rattle.math_lists.specs.Rearranged.{Mem, Rearranged, none, skip, swap, then}
 
 -- ---- the same elements
 
