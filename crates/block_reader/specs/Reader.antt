@@ -1,5 +1,5 @@
 -- What a reader gives that holds a stretch of records in a form and its place in it: the record there, as a long one,
--- and the place after it; or, with fewer bytes left than a record of the form has, the end mark, and the same place.
+-- and the place after it; or, with fewer bytes left than that record has, the end mark, and the same place.
 -- Assumes nothing.
 use Prim.Native.Nat.{ℕ, _+_}
 use mathlib.Core.List.{List, []}
@@ -8,7 +8,7 @@ use lib.ListN.{length, drop}
 use lib.Dec.{leb}
 use denote.Ref.{now}
 use Rattle.edit_record.specs.RecordBytes.{decodeOf}
-use Rattle.edit_form.specs.OldForm.{lengthBy, longFrom}
+use Rattle.edit_form.specs.OldForm.{lengthFrom, longFrom}
 use Rattle.block_reader.specs.declared.Given.{Given}
 use Rattle.block_reader.specs.declared.Taken.{Taken}
 use Rattle.block_reader.specs.declared.Reader.{Reader}
@@ -24,7 +24,7 @@ endMark = record { found = false; edit = decodeOf [] }
 -- what is given, and the place after it
 unfoldable pub takenAt : List ℕ → ℕ → ℕ → Taken
 takenAt s form p =
-    let next = p + lengthBy form in
+    let next = p + lengthFrom form (drop p s) in
     cond (leb next (length s)) (record { given = recordAtPlace s form p; place = next })
     (record { given = endMark; place = p })
 

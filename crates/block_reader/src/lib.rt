@@ -7,6 +7,8 @@ use edit_record::Edit;
 ghost use mathlib.Core.Path.{_≡_};
 ghost use Prim.Native.Nat.{_+_};
 ghost use lib.Dec.{leb};
+ghost use lib.ListN.{drop};
+ghost use Rattle.edit_form.specs.OldForm.{lengthFrom};
 ghost use Rattle.block_reader.specs.Reader.{takenAt, givenBy, movedOn, secondOf};
 
 // A record, or the end mark, where nothing is found and the edit has zeros alone.
@@ -38,12 +40,22 @@ fn is_left(n: usize, place: usize, bytes: usize) -> bool
     place <= n - bytes
 }
 
-// The record at a place, or the end mark where fewer bytes than a record's are left, and the place after it. The part
-// of the stretch from the place on is handed to the decoder of its form.
+// The bytes of the record at a place; past the end of the stretch, of one of which nothing is left.
+fn bytes_at(stretch: &[u8], form: u8, place: usize) -> usize
+    ensures { λ r. ⌜ r ≡ lengthFrom form (drop place (now (stretch .entry))) ⌝ }
+{
+    if stretch.len() < place {
+        return edit_form::length_from(&stretch[..0], form);
+    }
+    edit_form::length_from(&stretch[place..], form)
+}
+
+// The record at a place, or the end mark where fewer bytes than that record's are left, and the place after it. The
+// part of the stretch from the place on is handed to the decoder of its form.
 pub fn take(stretch: &[u8], form: u8, place: usize) -> Taken
     ensures { λ r. ⌜ r ≡ takenAt (now (stretch .entry)) form place ⌝ }
 {
-    let bytes = edit_form::length_by(form);
+    let bytes = bytes_at(stretch, form, place);
     if !is_left(stretch.len(), place, bytes) {
         let edit = edit_record::decode(&stretch[..0]);
         let given = Given { found: false, edit };

@@ -5,8 +5,9 @@ use Prim.Native.Nat.{ℕ}
 use lib.ListN.{replicate}
 use Rattle.math_lists.specs.NumbersBelow.{some}
 use Rattle.math_lists.specs.SortedLists.{any, filter}
-use Rattle.edit_record.specs.RecordBytes.{counts, countBytes}
+use Rattle.edit_record.specs.RecordBytes.{counts, countBytes, spanOf}
 use Rattle.edit_record.specs.Answer1.{nonzeroPast, unfit, malformed}
+use Rattle.edit_form.specs.OldForm.{chained}
 use Rattle.edit_history.specs.EditsHeld.{editsOf, countFrom}
 use Rattle.edit_history.specs.Answers2to5.{isRepeated, isEarly, isTorn, isAstray}
 use Rattle.table_drawing.specs.Tables.{emptyDrawing}
@@ -24,7 +25,8 @@ pub example-blocks :
     (blockOf (emptyDrawing 3) ≡ 0 ∷ 0 ∷ 3 ∷ 1 ∷ 0 ∷ 0 ∷ 0 ∷ 0 ∷ [])
     × (acceptanceOf (emptyDrawing 3) create .answer ≡ 0)
     × (blockOf (acceptanceOf (emptyDrawing 3) create .after) ≡ create ++ (1 ∷ 0 ∷ 3 ∷ 1 ∷ 44 ∷ 0 ∷ 0 ∷ 0 ∷ []))
-unfolding blockOf trailerOf countBytes emptyDrawing withCreate acceptanceOf answerTo firstOf isFull isCrowded
+unfolding chained blockOf trailerOf countBytes emptyDrawing withCreate acceptanceOf answerTo firstOf isFull isCrowded
+    spanOf
 example-blocks =
     unfold malformed unfit nonzeroPast isRepeated isEarly isTorn isAstray some any filter counts editsOf countFrom in
     (refl, refl, refl)

@@ -3,21 +3,21 @@
 use mathlib.Core.Path.{_≡_, sym, ap, subst, _∙_}
 use mathlib.Core.Bool.{true, false}
 use mathlib.Core.List.{List}
-use Prim.Native.Nat.{ℕ, _*_, _≤_}
+use Prim.Native.Nat.{ℕ, _≤_}
 use native.Mathlib.Omega.{arith}
 use lib.ListN.{length}
-use lib.Dec.{eqb, leb}
+use lib.Dec.{leb}
 use borrow.Author.Tests.{eq-eqb, ne-eqb, leb-true}
 use Rattle.math_lists.proofs.Booleans.{both}
 use Rattle.edit_record.specs.Layout.{mostSites}
-use Rattle.edit_form.specs.OldForm.{lengthBy, storedIn}
+use Rattle.edit_form.specs.OldForm.{startOf, storedIn}
 use Rattle.edit_history.specs.EditsHeld.{mostRecords}
 use Rattle.table_drawing.specs.Tables.{Tables, emptyDrawing, recordsLength, objectsLength, groupsLength, lengthsRight}
 use Rattle.table_drawing.specs.Tables.{sitesRight}
 use Rattle.table_arrival.proofs.Faithful.{Faithful}
 use Rattle.table_replay.specs.Replay.{Replayed, replayed, replayOf}
 use Rattle.table_replay.proofs.ReplayFaithful.{replay-faithful}
-use Rattle.block_trailer.specs.Locating.{Found, found, bytesIn, located}
+use Rattle.block_trailer.specs.Locating.{Found, found, located}
 use Rattle.block_store.specs.Reading.{recordsRead, readingOf}
 use Rattle.block_store.proofs.WrittenLocated.{accepted-at}
 
@@ -62,15 +62,16 @@ module _ (t : Tables) (file : List ℕ) where
 
     module _ (z : a ≡ 0) (stretch : List ℕ) (q : stretch ≡ located file .stretch) where
       -- the stretch may be replayed
-      pub ready-to-read : (sitesRight s ≡ true) × (n ≤ mostRecords) × (n * lengthBy f ≤ length stretch)
+      pub ready-to-read : (sitesRight s ≡ true) × (n ≤ mostRecords) × (startOf f stretch n ≤ length stretch)
       ready-to-read =
           let x = accepted-at file (sym (ap (λ (g : Found). g .answer) h) ∙ z) in
           let es : s ≡ located file .trailer .sites = ap (λ (g : Found). g .sites) h in
           let en : n ≡ located file .trailer .records = ap (λ (g : Found). g .records) h in
-          let eb : n * lengthBy f ≡ bytesIn (located file .trailer) = ap bytesIn h in (
+          let walked : startOf f stretch n ≡ length stretch
+          = rw q (ap (λ (g : Found). startOf (g .form) (located file .stretch) (g .records)) h ∙ x .walked) in (
             rw es (x .right-sites),
             rw en (x .few-records),
-            rw (eb, q, x .stretch-long) (omega arith),
+            omega (arith, walked),
           )
 
       pub file-read : (r : Replayed) → r ≡ recordsRead s f stretch n → r ≡ readingOf t file

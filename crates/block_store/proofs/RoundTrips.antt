@@ -4,26 +4,26 @@
 use mathlib.Core.Path.{_≡_, refl, sym, ap, ap₂, _∙_}
 use mathlib.Core.Bool.{Bool, true, false, cond}
 use mathlib.Core.List.{List, _++_}
-use Prim.Native.Nat.{ℕ, _+_, _*_, _≤_}
+use Prim.Native.Nat.{ℕ, _+_, _≤_}
 use native.Mathlib.Omega.{arith}
 use lib.ListN.{length, take}
 use lib.Seq.{take-all}
 use lib.Dec.{eqb}
 use borrow.Author.Tests.{eqb-true, eqb-false}
-use Rattle.edit_record.specs.Layout.{recordLength}
 use Rattle.edit_record.proofs.NumbersInBytes.{Bytes}
-use Rattle.edit_form.specs.OldForm.{longForm, lengthBy, longFrom, storedIn}
+use Rattle.edit_form.specs.OldForm.{longForm, startOf, storedIn, chained}
+use Rattle.edit_form.proofs.Stretches.{chained-same, chained-again}
 use Rattle.edit_history.specs.EditsHeld.{bytesAt}
 use Rattle.table_drawing.specs.Tables.{Tables, emptyDrawing, lengthsRight, sitesRight}
 use Rattle.table_soundness.specs.Sound.{sound}
 use Rattle.table_replay.specs.Replay.{Replayed, replayed, replayOf}
 use Rattle.table_replay.proofs.ReplayGoes.{Going, going-faithful, going-sound}
-use Rattle.table_replay.proofs.OwnRecords.{records-same, going-of, holds, own-records}
+use Rattle.table_replay.proofs.OwnRecords.{going-of, holds, own-records}
 use Rattle.block_trailer.specs.Trailer.{fileLimit}
 use Rattle.block_trailer.specs.Locating.{Found, Located, located}
 use Rattle.block_store.specs.Writing.{recordBytes, blockOf}
 use Rattle.block_store.specs.Reading.{orEmpty, recordsRead, readingOf}
-use Rattle.block_store.proofs.WrittenLocated.{block-located, accepted-at, block-again, replay-front}
+use Rattle.block_store.proofs.WrittenLocated.{block-located, accepted-at, block-again, replay-held}
 use Rattle.block_store.proofs.ReadingOutcomes.{all-taken, file-read}
 
 -- ---- written and read back
@@ -44,7 +44,7 @@ written-and-read-back sites rs right n t g ahead room u lengths =
     ∙ ap₂ (λ (x y : ℕ). replayOf x (bytesAt (t .records)) y) (sym (h .sites-are)) (sym (h .count)) in
     let front : replayed 0 0 t ≡ replayOf (c .sites) (storedIn longForm (recordBytes t)) (c .records)
     = own
-    ∙ sym (replay-front (c .sites) (t .records) (c .records) (omega (arith, s .records-long, s .few-records))) in
+    ∙ sym (replay-held (c .sites) (t .records) (c .records) (omega (arith, s .records-long, s .few-records))) in
     sym (file-read u file lengths 0 (c .sites) longForm (c .records) (sym (ap (λ (l : Located). l .trailer) at)) refl
     (recordBytes t) (sym (ap (λ (l : Located). l .stretch) at)) (replayed 0 0 t)
     (all-taken (c .sites) longForm (recordBytes t) (c .records) 0 0 t front refl))
@@ -114,14 +114,16 @@ read-and-written u file bytes h form =
     let t = readingOf u file .after in
     let x = accepted-at file accepted in
     let has = holds (f .sites) (recordsIn file) (x .right-sites) (f .records) t g in
-    let stored : (p : ℕ) → recordsIn file p ≡ bytesAt (l .stretch) p
-    = λ p. ap (λ (k : ℕ). storedIn k (l .stretch) p) form ∙ unfold longFrom in refl in
-    let long : length (l .stretch) ≡ f .records * recordLength
-    = x .stretch-long ∙ ap (λ (k : ℕ). f .records * lengthBy k) form in
+    let stored : (p : ℕ) → recordsIn file p ≡ storedIn longForm (l .stretch) p
+    = λ p. ap (λ (k : ℕ). storedIn k (l .stretch) p) form in
+    let walked : startOf longForm (l .stretch) (f .records) ≡ length (l .stretch)
+    = ap (λ (k : ℕ). startOf k (l .stretch) (f .records)) (sym form) ∙ x .walked in
     let same : recordBytes t ≡ l .stretch
-    = ap (λ (k : ℕ). take (k * recordLength) (t .records)) (has .count)
-    ∙ records-same (t .records) (l .stretch) (f .records) (λ p k. has .bytes p k ∙ stored p)
-    ∙ take-all (f .records * recordLength) (l .stretch) (omega (arith, long)) in (
+    = ap (chained (bytesAt (t .records))) (has .count)
+    ∙ chained-same (bytesAt (t .records)) (storedIn longForm (l .stretch)) (f .records)
+    (λ p k. has .bytes p k ∙ stored p)
+    ∙ chained-again (l .stretch) (f .records)
+    ∙ take-all (startOf longForm (l .stretch) (f .records)) (l .stretch) (omega (arith, walked)) in (
       accepted-sound u file h,
       block-again file bytes accepted form t (has .sites-are) (has .count) same,
     )

@@ -1,17 +1,21 @@
 -- What is written: the block in a part that is lent, and the outcomes of writing. Assumes nothing.
-use mathlib.Core.Path.{_≡_, sym, ap, _∙_}
+use mathlib.Core.Path.{_≡_, sym, ap, ap₂, _∙_}
 use mathlib.Core.Bool.{true, false}
 use mathlib.Core.List.{List, _++_, append-assoc}
-use Prim.Native.Nat.{ℕ, _+_, _-_, _*_, _≤_}
+use Prim.Native.Nat.{ℕ, zero, suc, _+_, _-_, _*_, _≤_, _<_}
 use native.Mathlib.Omega.{arith}
-use lib.ListN.{length, take, drop, length-append}
-use lib.Seq.{length-take-le, take-all, take-at, drop-at, drop-drop}
+use lib.ListN.{length, take, drop, length-append, length-drop}
+use lib.Seq.{take-all, take-at, drop-at, drop-drop}
 use lib.Dec.{leb}
 use borrow.Rule.Slice.PartMut.{midOf, putMid}
-use Rattle.edit_record.specs.Layout.{recordLength}
+use Rattle.edit_record.specs.Layout.{placeLength}
+use Rattle.edit_record.specs.RecordBytes.{spanOf}
+use Rattle.edit_record.proofs.RecordSpans.{span-most, span-own}
+use Rattle.edit_form.specs.OldForm.{chained}
+use Rattle.edit_history.specs.EditsHeld.{bytesAt}
+use Rattle.edit_history.proofs.FieldsInPlace.{bytes-whole}
 use Rattle.table_drawing.specs.Tables.{Tables}
 use Rattle.table_soundness.specs.Sound.{sound}
-use Rattle.table_soundness.proofs.SoundFacts.{sound-at}
 use Rattle.block_trailer.proofs.TrailerBytes.{trailer-long}
 use Rattle.block_trailer.specs.Trailer.{trailerLength, trailerOf}
 use Rattle.block_store.specs.Writing.{recordBytes, blockOf, writingOf}
@@ -20,33 +24,77 @@ use Rattle.table_output.proofs.OutputOutcomes.{lent-back, not-put, put-whole}
 
 -- ---- the block
 
-pub records-long : (t : Tables) → sound t ≡ true → length (recordBytes t) ≡ t .counters .records * recordLength
-records-long t ok =
-    let s = sound-at t ok in
-    length-take-le (t .counters .records * recordLength) (t .records) (omega (arith, s .records-long, s .few-records))
+module _ (rs : List ℕ) (n : ℕ) (there : n * placeLength ≤ length rs) where
+  -- the bytes of each record that is held, from its place
+  pub held-whole : (p : ℕ) → p < n → length (bytesAt rs p) ≡ spanOf (bytesAt rs p)
+  held-whole p l = bytes-whole rs p (omega arith)
 
-block-long :
-    (t : Tables) → sound t ≡ true → length (blockOf t) ≡ t .counters .records * recordLength + trailerLength
+  module _ (p : ℕ) (l : p < n) (w : ℕ) where
+    abbrev lent : List ℕ
+    lent = take (length rs - p * placeLength) (drop (p * placeLength) rs)
+
+    abbrev place : List ℕ
+    place = drop (p * placeLength) rs
+
+    lent-is : lent ≡ place
+    lent-is = take-all (length rs - p * placeLength) place (simp length-drop (omega arith))
+
+    pub place-there : w ≡ spanOf lent → w ≤ length lent
+    place-there h =
+        rw (h, lent-is) (omega (arith, length-drop (p * placeLength) rs, span-most place))
+
+    pub held-long : w ≡ spanOf lent → length (bytesAt rs p) ≡ w
+    held-long h = held-whole p l ∙ span-own place ∙ sym (h ∙ ap spanOf lent-is)
+
+    pub held-is : w ≡ spanOf lent → take w lent ≡ bytesAt rs p
+    held-is h = ap (λ (k : ℕ). take k lent) h ∙ rw lent-is
+
+    pub held-next :
+        w ≡ spanOf lent → (k : ℕ) → k ≡ length (chained (bytesAt rs) p) → k + w ≡ length (chained (bytesAt rs) (suc p))
+    unfolding chained
+    held-next h k e =
+        ap₂ (λ (x y : ℕ). x + y) e (sym (held-long h)) ∙ sym (length-append (chained (bytesAt rs) p) (bytesAt rs p))
+
+  -- so many bytes are few
+  pub held-most : (k : ℕ) → k ≤ n → length (chained (bytesAt rs) k) ≤ k * placeLength
+  unfolding chained
+  held-most zero l = omega arith
+  held-most (suc k) l =
+      omega (
+        arith,
+        held-most k (omega arith),
+        length-append (chained (bytesAt rs) k) (bytesAt rs k),
+        held-whole k l,
+        span-most (bytesAt rs k),
+      )
+
+block-long : (t : Tables) → length (blockOf t) ≡ length (recordBytes t) + trailerLength
 unfolding blockOf
-block-long t ok =
+block-long t =
     let n = t .counters .records in
-    length-append (recordBytes t) (trailerOf n (t .counters .sites))
-    ∙ rw (records-long t ok, trailer-long n (t .counters .sites))
+    let sites = t .counters .sites in
+    length-append (recordBytes t) (trailerOf n sites (length (recordBytes t)))
+    ∙ rw (trailer-long n sites (length (recordBytes t)))
 
--- e bytes of rs are copied first, then b behind them
+-- bytes that stand in front leave an output as long as it was
+pub as-long :
+    (out front : List ℕ) (e : ℕ) {o : List ℕ} → length front ≡ e → e ≤ length out → o ≡ front ++ drop e out →
+    length o ≡ length out
+as-long out front e long room h =
+    ap length h ∙ omega (arith, length-append front (drop e out), length-drop e out)
+
+-- b is put behind e bytes that stand in front
 pub block-put :
-    (out rs b : List ℕ) (e k : ℕ) {o r : List ℕ} → e ≤ length rs → length b ≡ k → o ≡ take e rs ++ drop e out →
-    r ≡ take k b ++ drop k (midOf e (length o - e) o) →
-    putMid e (length o - e) o r ≡ (take e rs ++ b) ++ drop (e + k) out
-block-put out rs b e k {o} h whole p q =
-    let long = length-take-le e rs h in
-    let front : take e o ≡ take e rs = rw p (take-at (take e rs) (drop e out) e long) in
+    (out front b : List ℕ) (e k : ℕ) {o r : List ℕ} → length front ≡ e → o ≡ front ++ drop e out →
+    r ≡ b ++ drop k (midOf e (length o - e) o) →
+    putMid e (length o - e) o r ≡ (front ++ b) ++ drop (e + k) out
+block-put out front b e k {o} long p q =
+    let before : take e o ≡ front = rw p (take-at front (drop e out) e long) in
     let behind : drop (e + k) o ≡ drop (e + k) out =
     rw p
-    (sym (drop-drop k e (take e rs ++ drop e out))
-    ∙ ap (λ (x : List ℕ). drop k x) (drop-at (take e rs) (drop e out) e long) ∙ drop-drop k e out) in
-    lent-back o e k b (rw (take-all k b (omega arith)) at q)
-    ∙ rw (front, behind) (sym (append-assoc (take e rs) b (drop (e + k) out)))
+    (sym (drop-drop k e (front ++ drop e out))
+    ∙ ap (λ (x : List ℕ). drop k x) (drop-at front (drop e out) e long) ∙ drop-drop k e out) in
+    lent-back o e k b q ∙ rw (before, behind) (sym (append-assoc front b (drop (e + k) out)))
 
 -- ---- the outcomes
 
@@ -56,16 +104,16 @@ module _ (t : Tables) (out : List ℕ) (start : ℕ) where
   unsound-refused h = rw h
 
   abbrev bytes : ℕ
-  bytes = t .counters .records * recordLength + trailerLength
+  bytes = length (recordBytes t) + trailerLength
 
   module _ (ok : sound t ≡ true) where
     pub no-room : leb (start + bytes) (length out) ≡ false → writing 11 0 out ≡ writingOf t out start
     unfolding writingOf
-    no-room h = rw ok (not-put out (blockOf t) start bytes (block-long t ok) h)
+    no-room h = rw ok (not-put out (blockOf t) start bytes (block-long t) h)
 
     pub written :
         {r : List ℕ} → leb (start + bytes) (length out) ≡ true →
         r ≡ blockOf t ++ drop bytes (midOf start (length out - start) out) →
         writing 0 bytes (putMid start (length out - start) out r) ≡ writingOf t out start
     unfolding writingOf
-    written h e = rw ok (put-whole out (blockOf t) start bytes (block-long t ok) h e)
+    written h e = rw ok (put-whole out (blockOf t) start bytes (block-long t) h e)

@@ -1,6 +1,6 @@
 // The stored block of document 01: writing it, and reading a file.
 use block_trailer::TRAILER;
-use edit_record::RECORD;
+use edit_record::PLACE;
 use table_drawing::Answer;
 use table_drawing::Counters;
 use table_output::Written;
@@ -10,10 +10,10 @@ ghost use mathlib.Core.Path.{_≡_};
 ghost use mathlib.Core.Bool.{true};
 ghost use mathlib.Core.List.{_++_};
 ghost use Prim.Native.Nat.{_+_, _-_, _*_, _≤_};
-ghost use lib.ListN.{length, take, drop};
-ghost use Rattle.edit_record.specs.Layout.{recordLength};
-ghost use Rattle.edit_form.specs.OldForm.{lengthBy};
-ghost use Rattle.edit_history.specs.EditsHeld.{mostRecords};
+ghost use lib.ListN.{length, drop};
+ghost use Rattle.edit_record.specs.Layout.{placeLength};
+ghost use Rattle.edit_form.specs.OldForm.{startOf, chained};
+ghost use Rattle.edit_history.specs.EditsHeld.{mostRecords, bytesAt};
 ghost use Rattle.table_drawing.specs.Tables.{tablesOf, lengthsRight, sitesRight};
 ghost use Rattle.table_drawing.specs.AnswerNumbers.{numberOf};
 ghost use Rattle.table_replay.specs.Replay.{replayed};
@@ -22,16 +22,50 @@ ghost use Rattle.table_output.specs.Output.{writing};
 ghost use Rattle.block_store.specs.Writing.{writingOf};
 ghost use Rattle.block_store.specs.Reading.{recordsRead, readingOf};
 
-// The block of n records of a drawing of so many sites at the start of out.
-fn write_block(out: &mut [u8], records: &[u8], n: u16, sites: u8)
-    requires { ⌜ (n ≤ mostRecords) × (n * recordLength ≤ length (now records))
-        × (n * recordLength + trailerLength ≤ length (now out)) ⌝ }
-    ensures { λ r. ⌜ now (out .exit) ≡ (take (n * recordLength) (now (records .entry)) ++ trailerOf n sites)
-        ++ drop (n * recordLength + trailerLength) (now (out .entry)) ⌝ }
+// The bytes of the first n records of a table.
+fn record_bytes(records: &[u8], n: usize) -> usize
+    requires { ⌜ (n ≤ mostRecords) × (n * placeLength ≤ length (now records)) ⌝ }
+    ensures { λ r. ⌜ r ≡ length (chained (bytesAt (now (records .entry))) n) ⌝ }
 {
-    let end = n as usize * RECORD;
-    copy_in(out, records, end);
-    let bytes = block_trailer::trailer_bytes(n, sites);
+    let mut bytes: usize = 0;
+    let mut i: usize = 0;
+    while i < n {
+        let at = i * PLACE;
+        bytes = bytes + edit_record::span_of(&records[at..]);
+        i += 1;
+    }
+    bytes
+}
+
+// The first n records of a table at the start of out, each from its place, one behind the other.
+fn write_records(out: &mut [u8], records: &[u8], n: usize)
+    requires { ⌜ (n ≤ mostRecords) × (n * placeLength ≤ length (now records))
+        × (length (chained (bytesAt (now records)) n) ≤ length (now out)) ⌝ }
+    ensures { λ r. ⌜ now (out .exit) ≡ chained (bytesAt (now (records .entry))) n
+        ++ drop (length (chained (bytesAt (now (records .entry))) n)) (now (out .entry)) ⌝ }
+{
+    let mut end: usize = 0;
+    let mut i: usize = 0;
+    while i < n {
+        let at = i * PLACE;
+        let rest = &records[at..];
+        let bytes = edit_record::span_of(rest);
+        copy_in(&mut out[end..], rest, bytes);
+        end = end + bytes;
+        i += 1;
+    }
+}
+
+// The block of n records of so many bytes, of a drawing of so many sites, at the start of out.
+fn write_block(out: &mut [u8], records: &[u8], n: u16, sites: u8, end: usize)
+    requires { ⌜ (n ≤ mostRecords) × (n * placeLength ≤ length (now records))
+        × (end ≡ length (chained (bytesAt (now records)) n))
+        × (end + trailerLength ≤ length (now out)) ⌝ }
+    ensures { λ r. ⌜ now (out .exit) ≡ (chained (bytesAt (now (records .entry))) n ++ trailerOf n sites end)
+        ++ drop (end + trailerLength) (now (out .entry)) ⌝ }
+{
+    write_records(out, records, n as usize);
+    let bytes = block_trailer::trailer_bytes(n, sites, end);
     copy_in(&mut out[end..], &bytes, TRAILER);
 }
 
@@ -54,14 +88,15 @@ pub fn write(
             bytes: 0,
         };
     }
-    let bytes = c.records as usize * RECORD + TRAILER;
+    let end = record_bytes(records, c.records as usize);
+    let bytes = end + TRAILER;
     if !has_room(out.len(), start, bytes) {
         return Written {
             answer: Answer::NoRoom,
             bytes: 0,
         };
     }
-    write_block(&mut out[start..], records, c.records, c.sites);
+    write_block(&mut out[start..], records, c.records, c.sites, end);
     Written {
         answer: Answer::Done,
         bytes,
@@ -89,7 +124,7 @@ fn read_records(
     requires { ⌜ (lengthsRight (now records) (now objects) (now groups) ≡ true)
         × (sitesRight sites ≡ true)
         × (n ≤ mostRecords)
-        × (n * lengthBy form ≤ length (now stretch)) ⌝ }
+        × (startOf form (now stretch) n ≤ length (now stretch)) ⌝ }
     ensures { λ r. ⌜ replayed (numberOf (r .answer)) (r .index)
         (tablesOf (r .counters) (now (records .exit)) (now (objects .exit)) (now (groups .exit)))
         ≡ recordsRead sites form (now (stretch .entry)) n ⌝ }

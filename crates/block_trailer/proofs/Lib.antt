@@ -1,2 +1,3 @@
 pub mod LocatingOutcomes
 pub mod TrailerBytes
+pub mod DistanceByNumber

@@ -1,7 +1,6 @@
 // The trailer of document 01's stored block, its last 8 bytes, and locating a block in a file by it.
 use edit_form::LONG;
 use edit_history::RECORDS;
-use edit_record::RECORD;
 use table_drawing::Answer;
 ghost use mathlib.Core.Path.{_≡_};
 ghost use mathlib.Core.Bool.{cond};
@@ -9,7 +8,8 @@ ghost use Prim.Native.Nat.{_-_, _≤_};
 ghost use lib.Dec.{eqb};
 ghost use lib.ListN.{length};
 ghost use Rattle.edit_record.specs.RecordBytes.{four};
-ghost use Rattle.edit_history.specs.EditsHeld.{mostRecords};
+ghost use Rattle.edit_form.specs.OldForm.{startOf};
+ghost use Rattle.table_drawing.specs.Tables.{recordsLength};
 ghost use Rattle.table_drawing.specs.AnswerNumbers.{numberOf};
 ghost use Rattle.block_trailer.specs.Trailer.{trailerLength, fileLimit, trailerOf, unfitTrailer};
 ghost use Rattle.block_trailer.specs.Locating.{found, further, located};
@@ -27,12 +27,13 @@ const AT_FORM: usize = 3;
 
 const AT_DISTANCE: usize = 4;
 
-// What a file's trailer says: an answer, N, the form and the number of records.
+// What a file's trailer says: an answer, N, the form and the number of records; and where the first of them starts.
 pub struct Trailer {
     pub answer: Answer,
     pub sites: u8,
     pub form: u8,
     pub records: u16,
+    pub start: usize,
 }
 
 // Where the trailer starts in a file of n bytes.
@@ -50,6 +51,24 @@ fn distance_at(file: &[u8], i: usize) -> usize
     edit_record::two_at(file, i) as usize + edit_record::two_at(file, i + 2) as usize * 65536
 }
 
+// Whether the first n records of a stretch, walked one behind the other, end where it ends. A record that starts past
+// its end ends the walk.
+fn is_filled(stretch: &[u8], form: u8, n: usize) -> bool
+    requires { ⌜ length (now stretch) ≤ fileLimit ⌝ }
+    ensures { λ r. ⌜ r ≡ eqb (startOf form (now (stretch .entry)) n) (length (now (stretch .entry))) ⌝ }
+{
+    let mut at: usize = 0;
+    let mut i: usize = 0;
+    while i < n {
+        if stretch.len() < at {
+            return false;
+        }
+        at = at + edit_form::length_from(&stretch[at..], form);
+        i += 1;
+    }
+    at == stretch.len()
+}
+
 // Whether the trailer of a file within the limit is unfit.
 fn is_unfit(file: &[u8]) -> bool
     requires { ⌜ length (now file) ≤ fileLimit ⌝ }
@@ -60,29 +79,32 @@ fn is_unfit(file: &[u8]) -> bool
     let records = edit_record::two_at(file, at) as usize;
     let form = edit_record::byte_at(file, at + AT_FORM);
     let distance = distance_at(file, at + AT_DISTANCE);
-    (n < TRAILER)
-        | (RECORDS < records)
-        | (LONG < form)
-        | (distance != records * edit_form::length_by(form))
-        | (at < distance)
+    if (n < TRAILER) | (RECORDS < records) | (LONG < form) | (at < distance) {
+        return true;
+    }
+    let start = at - distance;
+    !is_filled(&file[start..at], form, records)
 }
 
 // The answer to a file that is refused.
 fn refused(a: Answer) -> Trailer
-    ensures { λ r. ⌜ found (numberOf (r .answer)) (r .sites) (r .form) (r .records) ≡ found (numberOf a) 0 0 0 ⌝ }
+    ensures { λ r. ⌜ (found (numberOf (r .answer)) (r .sites) (r .form) (r .records) ≡ found (numberOf a) 0 0 0)
+        × (r .start ≡ 0) ⌝ }
 {
     Trailer {
         answer: a,
         sites: 0,
         form: 0,
         records: 0,
+        start: 0,
     }
 }
 
 // What the trailer of a file says; a file over the limit is not looked into.
 pub fn read_trailer(file: &[u8]) -> Trailer
-    ensures { λ r. ⌜ found (numberOf (r .answer)) (r .sites) (r .form) (r .records)
-        ≡ located (now (file .entry)) .trailer ⌝ }
+    ensures { λ r. ⌜ (found (numberOf (r .answer)) (r .sites) (r .form) (r .records)
+        ≡ located (now (file .entry)) .trailer)
+        × (r .start ≡ located (now (file .entry)) .start) ⌝ }
 {
     if FILE_LIMIT < file.len() {
         return refused(Answer::BadFile);
@@ -97,11 +119,13 @@ pub fn read_trailer(file: &[u8]) -> Trailer
         return refused(Answer::BadSites);
     }
     let records = edit_record::two_at(file, at);
+    let start = at - distance_at(file, at + AT_DISTANCE);
     Trailer {
         answer: Answer::Done,
         sites,
         form,
         records,
+        start,
     }
 }
 
@@ -123,17 +147,16 @@ pub fn locate(file: &[u8]) -> &[u8]
 {
     let t = read_trailer(file);
     let answer = t.answer;
+    let start = t.start;
     let end = stretch_end(answer, file.len());
-    let start = end - t.records as usize * edit_form::length_by(t.form);
     &file[start..end]
 }
 
-// The bytes of the trailer behind n long records of a drawing of so many sites.
-pub fn trailer_bytes(n: u16, sites: u8) -> [u8; TRAILER]
-    requires { ⌜ n ≤ mostRecords ⌝ }
-    ensures { λ r. ⌜ r ≡ trailerOf n sites ⌝ }
+// The bytes of the trailer behind n long records of a drawing of so many sites, of so many bytes.
+pub fn trailer_bytes(n: u16, sites: u8, distance: usize) -> [u8; TRAILER]
+    requires { ⌜ distance ≤ recordsLength ⌝ }
+    ensures { λ r. ⌜ r ≡ trailerOf n sites distance ⌝ }
 {
-    let distance = n as usize * RECORD;
     let near = distance % 65536;
     let far = distance / 65536;
     let a = (n % 256) as u8;

@@ -219,13 +219,11 @@ pub extern "C" fn spireslate_locate(file: &[u8]) -> Located
 {
     let t = block_trailer::read_trailer(file);
     let said = t.answer;
-    let end = block_trailer::stretch_end(said, file.len());
-    let start = end - t.records as usize * edit_form::length_by(t.form);
     Located {
         number: table_drawing::number(said),
         sites: t.sites,
         form: t.form,
         records: t.records,
-        start,
+        start: t.start,
     }
 }

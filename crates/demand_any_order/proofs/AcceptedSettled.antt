@@ -33,10 +33,10 @@ use Rattle.group_true.specs.TrueGroups.{trueGroups}
 use Rattle.edit_causal.proofs.Identities.{same-parts}
 use Rattle.table_arrival.proofs.UntouchedSound.{creates-snoc, sets-snoc}
 use Rattle.group_true.proofs.TrueGroups.{groups-same, groups-first}
-use Rattle.demand_any_order.specs.Rearranged.{Mem}
+use Rattle.math_lists.specs.Rearranged.{Mem}
 use Rattle.demand_any_order.specs.Settled.{named, AllAccepted, MayPrecede, Causal, Differ, Apart, Settled}
-use Rattle.demand_any_order.proofs.ListMembers.{split-mem, mem-along, mem-middle, fronts}
-use Rattle.demand_any_order.proofs.PairsInList.{pairs-snoc, pairs-cross, pairs-weaken}
+use Rattle.math_lists.proofs.ListMembers.{split-mem, mem-along, mem-middle, fronts}
+use Rattle.math_lists.proofs.PairsInList.{pairs-snoc, pairs-cross, pairs-weaken}
 use Rattle.demand_any_order.proofs.Identities.{same-at, seen-on, one-object}
 use Rattle.demand_any_order.proofs.AnswerNought.{Fine, fine-at}
 use Rattle.demand_any_order.proofs.CountsInTurn.{Counted, counted-none, counted-more}

@@ -21,9 +21,9 @@ use Rattle.group_step.specs.GroupRows.{mostObjects, mostSets, mostGroups}
 use Rattle.table_arrival.specs.Answers6and7.{firstOf}
 use Rattle.group_true.specs.TrueGroups.{trueGroups}
 use Rattle.table_arrival.proofs.FirstReason.{none-present}
-use Rattle.demand_any_order.specs.Rearranged.{Mem}
+use Rattle.math_lists.specs.Rearranged.{Mem}
 use Rattle.demand_any_order.specs.Settled.{named, fullOver, crowdedOver, listReasons, listAnswer}
-use Rattle.demand_any_order.proofs.ListMembers.{any-on, any-at}
+use Rattle.math_lists.proofs.ListMembers.{any-on, any-at}
 
 pub record Fine (n : ℕ) (es : List Edit) (e : Edit) : Type 0 where
   pub fit : unfit n e ≡ false

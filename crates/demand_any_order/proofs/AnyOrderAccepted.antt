@@ -9,9 +9,10 @@ use Rattle.edit_record.specs.declared.Edit.{Edit}
 use Rattle.edit_record.specs.Layout.{mostSites}
 use Rattle.edit_record.specs.RecordBytes.{decodeOf}
 use Rattle.table_replay.specs.Replay.{replayOf, editsIn}
-use Rattle.demand_any_order.specs.Rearranged.{Rearranged, recordsOf}
+use Rattle.math_lists.specs.Rearranged.{Rearranged}
+use Rattle.demand_any_order.specs.Records.{recordsOf}
 use Rattle.demand_any_order.specs.Settled.{AllAccepted, Causal, Settled}
-use Rattle.demand_any_order.proofs.Rearranged.{turned, same-members, made-rearranged}
+use Rattle.math_lists.proofs.Rearranged.{turned, same-members, made-rearranged}
 use Rattle.demand_any_order.proofs.AcceptedSettled.{accepted-settled, accepted-causal}
 use Rattle.demand_any_order.proofs.SettledAccepted.{settled-accepted}
 use Rattle.demand_any_order.proofs.SettledAnyOrder.{settled-in-any-order}

@@ -24,8 +24,8 @@ use Rattle.edit_record.specs.Layout.{mostSites}
 use Rattle.edit_history.specs.EditsHeld.{countFrom}
 use Rattle.edit_history.proofs.RecordsPassed.{InTurn}
 use Rattle.table_arrival.proofs.UntouchedSound.{count-snoc}
-use Rattle.demand_any_order.specs.Rearranged.{Mem}
-use Rattle.demand_any_order.proofs.ListMembers.{mem-middle}
+use Rattle.math_lists.specs.Rearranged.{Mem}
+use Rattle.math_lists.proofs.ListMembers.{mem-middle}
 
 pub record Counted (xs : List Edit) : Type 0 where
   pub entries : (a : Edit) → Mem a xs → (s : ℕ) → s < mostSites → getD (a .vector) s 0 ≤ countFrom s xs

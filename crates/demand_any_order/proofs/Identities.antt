@@ -1,12 +1,12 @@
--- Edits by their identities, and 'seen' and 'before' as facts; where no identity stands twice, an identity is one
--- edit, and fewer Sets have no more groups. Assumes nothing.
+-- Edits by their identities, and 'seen' and 'before' as facts; where no identity stands twice, an identity is one edit,
+-- and the Sets of an object differ. Assumes nothing.
 use mathlib.Core.Path.{_≡_, refl, ap, ap₂, _∙_}
 use mathlib.Core.Logic.{inl, inr}
 use mathlib.Core.Bool.{true}
 use mathlib.Core.List.{List, [], _∷_}
 use Prim.Native.Nat.{ℕ, zero, suc, _≤_}
 use native.Mathlib.Omega.{arith}
-use lib.ListN.{length, getD, drop}
+use lib.ListN.{getD, drop}
 use lib.Dec.{eqb}
 use borrow.Author.Tests.{eqb-true, eq-eqb, le-leb}
 use Rattle.math_lists.specs.SortedLists.{filter}
@@ -15,19 +15,17 @@ use Rattle.edit_record.specs.declared.Site.{Site}
 use Rattle.edit_record.specs.declared.Seq.{Seq}
 use Rattle.edit_record.specs.declared.Edit.{Edit}
 use Rattle.edit_causal.specs.Causal.{sameEdit, hasSeen, comesBefore}
-use Rattle.edit_causal.specs.Conflict.{doConflict}
-use Rattle.edit_causal.proofs.CausalLaws.{same-reflexive, same-symmetric, conflict-symmetric, conflict-irreflexive}
+use Rattle.edit_causal.proofs.CausalLaws.{same-reflexive, same-symmetric}
 use Rattle.math_maximal.specs.MaximalSets.{_⊆_}
-use Rattle.math_maximal.specs.GroupsByArrival.{groupsOf}
-use Rattle.math_maximal.proofs.GroupsByArrival.{Distinct, has, no-more-of}
+use Rattle.math_maximal.proofs.AnotherOrder.{Distinct, has}
 use Rattle.edit_history.specs.EditsHeld.{isSetOn, setsOn}
 use Rattle.edit_record.specs.RecordBytes.{noEdit}
-use Rattle.group_true.specs.TrueGroups.{trueGroups}
-use Rattle.demand_any_order.specs.Rearranged.{Mem}
+use Rattle.group_true.specs.TrueGroups.{groupsOf, trueGroups}
+use Rattle.math_lists.specs.Rearranged.{Mem}
 use Rattle.demand_any_order.specs.Settled.{Differ, Apart}
 use Rattle.demand_any_order.specs.EqualEdits.{fieldsOf, isEqual}
-use Rattle.demand_any_order.proofs.ListMembers.{any-on, any-at, chosen-at, chosen-on, mem-place}
-use Rattle.demand_any_order.proofs.PairsInList.{pairs-two, pairs-chosen}
+use Rattle.math_lists.proofs.ListMembers.{any-on, any-at, chosen-at, chosen-on, mem-place}
+use Rattle.math_lists.proofs.PairsInList.{pairs-two, pairs-chosen}
 use Rattle.math_lists.proofs.ByPlaces.{list-equal, same-self}
 
 -- ---- identity, seen, before
@@ -109,7 +107,7 @@ distinct (x ∷ xs) (u, v) (suc i) (suc j) a b e = ap suc (distinct xs v i j (om
 pub one-object :
     (es : List Edit) (a c : Edit) → a .site ≡ c .site → a .seq ≡ c .seq → trueGroups es a ≡ trueGroups es c
 unfolding trueGroups
-one-object es a c p q = ap₂ (λ (x : Site) (y : Seq). groupsOf noEdit doConflict (setsOn x y es)) p q
+one-object es a c p q = ap₂ (λ (x : Site) (y : Seq). groupsOf (setsOn x y es)) p q
 
 pub sets-distinct : (es : List Edit) → Apart es → (c : Edit) → Distinct noEdit (setsOn (c .site) (c .seq) es)
 unfolding setsOn
@@ -125,13 +123,3 @@ sets-among es fs among c x h =
     let f = isSetOn (c .site) (c .seq) in
     let (m, on) = chosen-at f x fs (has-at x (filter f fs) h) in
     has-on (chosen-on f (among x m) on)
-
--- of fewer edits it has no more groups
-pub fewer-groups :
-    (es fs : List Edit) → Apart es → Apart fs → ((x : Edit) → Mem x fs → Mem x es) → (c : Edit) →
-    length (trueGroups fs c) ≤ length (trueGroups es c)
-unfolding trueGroups
-fewer-groups es fs u v among c =
-    no-more-of noEdit isEqual equal-at equal-self doConflict (setsOn (c .site) (c .seq) es)
-    (setsOn (c .site) (c .seq) fs) (sets-distinct es u c) (sets-distinct fs v c) (sets-among es fs among c)
-    conflict-symmetric conflict-irreflexive

@@ -1,6 +1,3 @@
-pub mod ListMembers
-pub mod Rearranged
-pub mod PairsInList
 pub mod Identities
 pub mod AnswerNought
 pub mod CountsInTurn

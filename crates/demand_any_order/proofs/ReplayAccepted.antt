@@ -21,6 +21,7 @@ use lib.Dec.{eqb}
 use borrow.Author.Tests.{eqb-true, eqb-false}
 use Rattle.edit_record.specs.declared.Edit.{Edit}
 use Rattle.edit_record.specs.Layout.{mostSites, recordLength}
+use Rattle.edit_record.proofs.RecordSpans.{one-span}
 use Rattle.edit_record.specs.RecordBytes.{decodeOf}
 use Rattle.edit_history.specs.EditsHeld.{editsOf}
 use Rattle.table_drawing.specs.Tables.{Tables, heldBy, emptyDrawing}
@@ -31,9 +32,9 @@ use Rattle.table_arrival.proofs.Admitted.{accepted, taken-records}
 use Rattle.table_arrival.proofs.Faithful.{Faithful}
 use Rattle.table_replay.specs.Replay.{Replayed, replayed, replayOf, editsIn}
 use Rattle.table_replay.proofs.ReplayFaithful.{replay-faithful}
-use Rattle.demand_any_order.specs.Rearranged.{recordsOf, Whole}
+use Rattle.demand_any_order.specs.Records.{recordsOf, Whole}
 use Rattle.demand_any_order.specs.Settled.{listAnswer, AllAccepted}
-use Rattle.demand_any_order.proofs.ListMembers.{mem-middle, split-snoc}
+use Rattle.math_lists.proofs.ListMembers.{mem-middle, split-snoc}
 use Rattle.demand_any_order.proofs.AnswerOverList.{answer-over-list, taken-holds}
 
 -- ---- lists that grow at their end
@@ -130,7 +131,7 @@ module _ (sites : ℕ) (some : 1 ≤ sites) (few : sites ≤ mostSites) (rs : �
       let t = replayOf sites rs n .after in
       let (z, a) = refuses-none-before sites rs n h in
       let (whole, all) = refuses-none-at n z in
-      let w : length (rs n) ≡ recordLength = accepted t (rs n) a .admitted .whole in (
+      let w : length (rs n) ≡ recordLength = accepted t (rs n) a .admitted .whole ∙ one-span (rs n) in (
         (λ b m. elim (List·Memᴰ·append-cases (recordsOf rs n) m)
             [ inl k ↦ whole b k | inr k ↦ rw (List·Memᴰ·eq-of-singleton k) w ]),
         accepted-more sites (editsIn rs n) (decodeOf (rs n)) all (sym (next-answer n z w) ∙ a),

@@ -20,10 +20,11 @@ use Rattle.table_arrival.proofs.ObjectsByNumber.{object-create}
 use Rattle.table_arrival.proofs.Faithful.{Faithful}
 use Rattle.table_replay.specs.Replay.{replayOf, editsIn}
 use Rattle.table_replay.proofs.ReplayFaithful.{replay-faithful}
-use Rattle.demand_any_order.specs.Rearranged.{Rearranged, recordsOf}
+use Rattle.math_lists.specs.Rearranged.{Rearranged}
+use Rattle.demand_any_order.specs.Records.{recordsOf}
 use Rattle.demand_any_order.specs.Settled.{Apart}
-use Rattle.demand_any_order.proofs.ListMembers.{mem-place, place-of}
-use Rattle.demand_any_order.proofs.Rearranged.{same-length, same-members, chosen-rearranged}
+use Rattle.math_lists.proofs.ListMembers.{mem-place, place-of}
+use Rattle.math_lists.proofs.Rearranged.{same-length, same-members, chosen-rearranged}
 use Rattle.demand_any_order.proofs.Identities.{one-object}
 use Rattle.demand_any_order.proofs.AcceptedSettled.{accepted-apart}
 use Rattle.demand_any_order.proofs.ReplayAccepted.{replay-holds, refuses-none-exactly}
@@ -93,5 +94,5 @@ module _ (sites : ℕ) (some : 1 ≤ sites) (few : sites ≤ mostSites) (rs rs�
       let row : rowOf t o ≡ trueGroups (heldBy t) c = f .rows o l in
       let row′ : rowOf t′ o′ ≡ trueGroups (heldBy t′) c
       = f′ .rows o′ l′ ∙ one-object (heldBy t′) (createIn t′ o′) c (sym p) (sym q) in
-      same-keys lt irr tr key (heldBy t) (heldBy t′) held-rearranged held-apart c ks ks′ a a′
+      same-keys (heldBy t) (heldBy t′) held-rearranged held-apart c lt irr tr key ks ks′ a a′
       (rw row at k) (rw (row′, ← p, ← q) at k′)

@@ -1,40 +1,74 @@
--- Demand 3, groups: in two orders of the same edits an object has the same groups of Sets, so that their keys, which
--- may be anything made of a set of edits, are one ascending list. Assumes that the order of the keys is strict.
+-- Demand 3, groups: in two orders of the same edits an object has as many groups, and the same groups of Sets, so that
+-- their keys, which may be anything made of a set of edits, are one ascending list. Assumes that no identity stands
+-- twice, and that the order of the keys is strict.
 use mathlib.Core.Path.{_≡_}
 use mathlib.Core.Bool.{Bool}
 use mathlib.Core.List.{List}
-use Prim.Native.Nat.{ℕ}
+use Prim.Native.Nat.{ℕ, _<_}
+use lib.ListN.{length, getD}
 use Rattle.math_lists.specs.SortedLists.{Asc}
 use Rattle.edit_record.specs.declared.Edit.{Edit}
-use Rattle.edit_causal.specs.Conflict.{doConflict}
+use Rattle.edit_causal.specs.Conflict.{conflictsIn}
+use Rattle.edit_causal.proofs.ConflictsAmongSets.{conflicts-renumbered}
+use Rattle.math_maximal.specs.MaximalSets.{_⊆_}
 use Rattle.math_maximal.proofs.Renumbered.{Keys}
-use Rattle.math_maximal.proofs.GroupsByArrival.{setOf, same-list}
+use Rattle.math_maximal.proofs.AnotherOrder.{has, place, setOf, Distinct, there, as-many-groups, same-list}
 use Rattle.edit_history.specs.EditsHeld.{setsOn}
 use Rattle.edit_record.specs.RecordBytes.{noEdit}
-use Rattle.group_true.specs.TrueGroups.{trueGroups}
-use Rattle.demand_any_order.specs.Rearranged.{Rearranged}
+use Rattle.group_true.specs.TrueGroups.{groupsOf, trueGroups}
+use Rattle.math_lists.specs.Rearranged.{Rearranged}
 use Rattle.demand_any_order.specs.Settled.{Differ, Apart}
 use Rattle.demand_any_order.specs.EqualEdits.{isEqual}
-use Rattle.demand_any_order.proofs.Rearranged.{turned, same-members}
-use Rattle.demand_any_order.proofs.PairsInList.{pairs-rearranged}
+use Rattle.math_lists.proofs.Rearranged.{turned, same-members}
+use Rattle.math_lists.proofs.PairsInList.{pairs-rearranged}
 use Rattle.demand_any_order.proofs.Identities.{differ-turned, equal-at, equal-self, sets-distinct, sets-among}
 
 -- the Sets in the group g of the object whose Create is c, where es are held
 abbrev pub membersOf : List Edit → Edit → ℕ → Edit → Bool
 membersOf es c g = setOf isEqual (setsOn (c .site) (c .seq) es) g
 
-pub same-keys :
-    {K : Type 0} (lt : K → K → Type 0) → ((x : K) → lt x x → ⊥) → ((x y z : K) → lt x y → lt y z → lt x z) →
-    (key : (Edit → Bool) → K) (es fs : List Edit) → Rearranged es fs → Apart es →
-    (c : Edit) (ks ks′ : List K) → Asc lt ks → Asc lt ks′ →
-    Keys (λ g. key (membersOf es c g)) (trueGroups es c) ks →
-    Keys (λ g. key (membersOf fs c g)) (trueGroups fs c) ks′ →
-    ks ≡ ks′
-unfolding trueGroups
-same-keys lt irr tr key es fs r u c =
-    same-list noEdit isEqual equal-at equal-self doConflict (setsOn (c .site) (c .seq) es)
-    (setsOn (c .site) (c .seq) fs) (sets-distinct es u c)
-    (sets-distinct fs (pairs-rearranged Differ differ-turned r u) c)
-    (sets-among es fs (same-members (turned r)) c)
-    (sets-among fs es (same-members r) c)
-    lt irr tr key
+-- ---- the edits es in another order, fs
+
+module _ (es fs : List Edit) (r : Rearranged es fs) (u : Apart es) (c : Edit) where
+  abbrev ms : List Edit
+  ms = setsOn (c .site) (c .seq) es
+
+  abbrev ns : List Edit
+  ns = setsOn (c .site) (c .seq) fs
+
+  ms-differ : Distinct noEdit ms
+  ms-differ = sets-distinct es u c
+
+  ns-differ : Distinct noEdit ns
+  ns-differ = sets-distinct fs (pairs-rearranged Differ differ-turned r u) c
+
+  ns-among : has isEqual ns ⊆ has isEqual ms
+  ns-among = sets-among es fs (same-members (turned r)) c
+
+  ms-among : has isEqual ms ⊆ has isEqual ns
+  ms-among = sets-among fs es (same-members r) c
+
+  -- two Sets conflict by their numbers in one order if they do by those in the other
+  same-conflicts :
+      (i j : ℕ) → i < length ns → j < length ns →
+      conflictsIn ns i j ≡ conflictsIn ms (place isEqual ms (getD ns i noEdit)) (place isEqual ms (getD ns j noEdit))
+  same-conflicts =
+      conflicts-renumbered ms ns (λ i. place isEqual ms (getD ns i noEdit))
+      (there noEdit isEqual equal-at equal-self ms ns ms-differ ns-differ ns-among ms-among)
+
+  pub as-many-in-any-order : length (trueGroups es c) ≡ length (trueGroups fs c)
+  unfolding trueGroups groupsOf
+  as-many-in-any-order =
+      as-many-groups noEdit isEqual equal-at equal-self ms ns ms-differ ns-differ ns-among ms-among
+      (conflictsIn ms) (conflictsIn ns) same-conflicts
+
+  pub same-keys :
+      {K : Type 0} (lt : K → K → Type 0) → ((x : K) → lt x x → ⊥) → ((x y z : K) → lt x y → lt y z → lt x z) →
+      (key : (Edit → Bool) → K) (ks ks′ : List K) → Asc lt ks → Asc lt ks′ →
+      Keys (λ g. key (membersOf es c g)) (trueGroups es c) ks →
+      Keys (λ g. key (membersOf fs c g)) (trueGroups fs c) ks′ →
+      ks ≡ ks′
+  unfolding trueGroups groupsOf
+  same-keys =
+      same-list noEdit isEqual equal-at equal-self ms ns ms-differ ns-differ ns-among ms-among
+      (conflictsIn ms) (conflictsIn ns) same-conflicts

@@ -26,18 +26,19 @@ use Rattle.edit_record.specs.Answer1.{isCreate, isSet, isAimed}
 use Rattle.edit_record.proofs.WellFormed.{WellFormed, well-formed, set-aimed, aimed-not-create}
 use Rattle.edit_causal.specs.Causal.{sameEdit, hasSeen}
 use Rattle.edit_causal.proofs.CausalLaws.{same-reflexive}
+use Rattle.edit_causal.proofs.ConflictsAmongSets.{none-itself}
 use Rattle.edit_history.specs.EditsHeld.{countFrom, creates, isSetOn, setsOn}
 use Rattle.edit_history.proofs.EditsHeld.{Target, target-parts}
 use Rattle.edit_history.proofs.RecordsPassed.{InTurn}
 use Rattle.group_step.specs.GroupRows.{mostSets, mostGroups}
 use Rattle.group_true.specs.TrueGroups.{trueGroups}
+use Rattle.group_true.proofs.TrueGroups.{groups-grow}
 use Rattle.edit_causal.proofs.Identities.{same-site, same-seq}
-use Rattle.demand_any_order.specs.Rearranged.{Mem}
+use Rattle.math_lists.specs.Rearranged.{Mem}
 use Rattle.demand_any_order.specs.Settled.{named, AllAccepted, MayPrecede, Causal, Differ, Apart, Settled}
-use Rattle.demand_any_order.proofs.ListMembers.{here, chosen-more, mem-along, mem-middle, fronts}
-use Rattle.demand_any_order.proofs.PairsInList.{pairs-cross, pairs-front}
+use Rattle.math_lists.proofs.ListMembers.{here, chosen-more, mem-along, mem-middle, fronts}
+use Rattle.math_lists.proofs.PairsInList.{pairs-cross}
 use Rattle.demand_any_order.proofs.Identities.{same-on, same-at, seen-on, before-on, one-edit, one-object}
-use Rattle.demand_any_order.proofs.Identities.{fewer-groups}
 use Rattle.demand_any_order.proofs.AnswerNought.{Fine, fine-on}
 use Rattle.demand_any_order.proofs.CountsInTurn.{Counted, counted-none, counted-more}
 
@@ -152,8 +153,8 @@ module _ (n : ℕ) (few : n ≤ mostSites) (es : List Edit) (s : Settled n es) (
             (s .few-groups target (s .aimed e self k .1) (parts .create)) in
             omega (
               arith,
-              fewer-groups es front (s .apart) (pairs-front Differ front ys (subst Apart split (s .apart)))
-                  (λ x m. mem-along (sym split) (Memᴰ·append-left ys m)) (named e),
+              ap (λ (l : List Edit). length (trueGroups l (named e))) split,
+              groups-grow front ys (named e) (none-itself (setsOn (named e .site) (named e .seq) (front ++ ys))),
             )
 
       fine-here : Fine n xs e

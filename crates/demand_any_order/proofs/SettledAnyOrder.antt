@@ -5,11 +5,12 @@ use native.Mathlib.Omega.{arith}
 use Rattle.edit_record.specs.declared.Edit.{Edit}
 use Rattle.edit_record.specs.Answer1.{isCreate}
 use Rattle.edit_history.specs.EditsHeld.{creates, isSetOn, setsOn}
-use Rattle.demand_any_order.specs.Rearranged.{Mem, Rearranged}
+use Rattle.math_lists.specs.Rearranged.{Mem, Rearranged}
 use Rattle.demand_any_order.specs.Settled.{Differ, Apart, Settled}
-use Rattle.demand_any_order.proofs.Rearranged.{turned, same-length, same-members, chosen-rearranged}
-use Rattle.demand_any_order.proofs.PairsInList.{pairs-rearranged}
-use Rattle.demand_any_order.proofs.Identities.{differ-turned, fewer-groups}
+use Rattle.math_lists.proofs.Rearranged.{turned, same-length, same-members, chosen-rearranged}
+use Rattle.math_lists.proofs.PairsInList.{pairs-rearranged}
+use Rattle.demand_any_order.proofs.Identities.{differ-turned}
+use Rattle.demand_any_order.proofs.SameGroups.{as-many-in-any-order}
 
 pub settled-in-any-order : (n : ℕ) (es fs : List Edit) → Rearranged es fs → Settled n es → Settled n fs
 unfolding creates setsOn
@@ -27,5 +28,5 @@ settled-in-any-order n es fs r s =
       few-sets = λ c m k.
           omega (arith, s .few-sets c (back c m) k, same-length (chosen-rearranged (isSetOn (c .site) (c .seq)) r));
       few-groups = λ c m k.
-          omega (arith, s .few-groups c (back c m) k, fewer-groups es fs (s .apart) apart back c);
+          omega (arith, s .few-groups c (back c m) k, as-many-in-any-order es fs r (s .apart) c);
     }

@@ -1,13 +1,13 @@
 -- The sum of Req 11 over lists of edits: the same edits in a different order have the same sum, so that different sums
 -- mean different edits. Assumes nothing.
 use mathlib.Core.Path.{_≡_, refl, ap, _∙_}
-use mathlib.Core.List.{List, _∷_}
+use mathlib.Core.List.{List}
 use Prim.Native.Nat.{ℕ, _+_}
 use native.Mathlib.Omega.{arith}
 use Rattle.edit_record.specs.declared.Edit.{Edit}
 use Rattle.edit_sum.specs.WordSum.{wrapped}
 use Rattle.edit_sum.specs.SumOfEdits.{wordsIn, wordsOver, sumOver}
-use Rattle.demand_any_order.specs.Rearranged.{Rearranged, none, skip, swap, then}
+use Rattle.math_lists.specs.Rearranged.{Rearranged, none, skip, swap, then}
 
 words-any-order : {es fs : List Edit} → Rearranged es fs → wordsOver es ≡ wordsOver fs
 unfolding wordsOver

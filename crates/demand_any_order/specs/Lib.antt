@@ -1,3 +1,3 @@
-pub mod Rearranged
+pub mod Records
 pub mod Settled
 pub mod EqualEdits

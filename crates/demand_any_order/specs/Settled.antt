@@ -17,7 +17,7 @@ use Rattle.edit_history.specs.Answers2to5.{isRepeated, isEarly, tears, isTorn, 
 use Rattle.group_step.specs.GroupRows.{mostObjects, mostSets, mostGroups}
 use Rattle.table_arrival.specs.Answers6and7.{firstOf}
 use Rattle.group_true.specs.TrueGroups.{trueGroups}
-use Rattle.demand_any_order.specs.Rearranged.{Mem}
+use Rattle.math_lists.specs.Rearranged.{Mem}
 
 -- ---- the answer over a list
 

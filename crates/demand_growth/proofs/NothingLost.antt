@@ -9,12 +9,9 @@ use Rattle.math_lists.specs.SortedLists.{elem}
 use Rattle.math_lists.proofs.Elements.{elem→mem, mem→elem}
 use Rattle.edit_record.specs.declared.Edit.{Edit}
 use Rattle.edit_record.specs.Layout.{mostSites}
-use Rattle.edit_record.specs.RecordBytes.{noEdit}
-use Rattle.edit_causal.specs.Conflict.{doConflict}
-use Rattle.edit_causal.proofs.CausalLaws.{conflict-symmetric, conflict-irreflexive}
-use Rattle.math_maximal.specs.GroupsByArrival.{groupsOf}
-use Rattle.math_maximal.proofs.GroupsGrow.{lies-in-later, never-fewer-groups}
-use Rattle.group_true.specs.TrueGroups.{trueGroups}
+use Rattle.edit_causal.proofs.ConflictsAmongSets.{none-itself}
+use Rattle.group_true.specs.TrueGroups.{groupsOf, trueGroups}
+use Rattle.group_true.proofs.GroupsGrow.{lies-in-later, never-fewer-groups}
 use Rattle.table_drawing.specs.Tables.{Tables, emptyDrawing}
 use Rattle.table_arrival.specs.Answers6and7.{rowOf}
 use Rattle.table_arrival.proofs.Faithful.{Faithful, empty-faithful}
@@ -34,7 +31,7 @@ use Rattle.demand_growth.proofs.Later.{Later, arrivals-lead, replay-lea
 -- the row of an object is the groups of its Sets
 row-is :
     (t : Tables) → Faithful t → (o : ℕ) → o < t .counters .objects →
-    rowOf t o ≡ groupsOf noEdit doConflict (setsFor t o)
+    rowOf t o ≡ groupsOf (setsFor t o)
 row-is t f o l = unfold trueGroups in f .rows o l
 
 module _ (t u : Tables) (f : Faithful t) (w : Faithful u) (r : Later t u) (o : ℕ) (l : o < t .counters .objects) where
@@ -50,13 +47,13 @@ module _ (t u : Tables) (f : Faithful t) (w : Faithful u) (r : Later t u) (o : �
   still : o < u .counters .objects
   still = omega (arith, r .objects)
 
-  row-grown : rowOf u o ≡ groupsOf noEdit doConflict (ms ++ more)
-  row-grown = row-is u w o still ∙ ap (groupsOf noEdit doConflict) grown
+  row-grown : rowOf u o ≡ groupsOf (ms ++ more)
+  row-grown = row-is u w o still ∙ ap groupsOf grown
 
-  before : (g : ℕ) → IsVersion t o g → elem g (groupsOf noEdit doConflict ms) ≡ true
+  before : (g : ℕ) → IsVersion t o g → elem g (groupsOf ms) ≡ true
   before g e = rw (row-is t f o l) at e
 
-  after : (k : ℕ) → IsVersion u o k → elem k (groupsOf noEdit doConflict (ms ++ more)) ≡ true
+  after : (k : ℕ) → IsVersion u o k → elem k (groupsOf (ms ++ more)) ≡ true
   after k e = rw row-grown at e
 
   differ : NamesDiffer (ms ++ more)
@@ -64,8 +61,7 @@ module _ (t u : Tables) (f : Faithful t) (w : Faithful u) (r : Later t u) (o : �
 
   container : (g : ℕ) → IsVersion t o g → (k : ℕ) × IsVersion u o k × Contains t u o g k
   container g e =
-      let (k, i, sub) =
-      lies-in-later noEdit doConflict conflict-symmetric conflict-irreflexive ms more g (before g e) in (
+      let (k, i, sub) = lies-in-later ms more (none-itself (ms ++ more)) g (before g e) in (
         k,
         rw row-grown i,
         record {
@@ -88,7 +84,7 @@ module _ (t u : Tables) (f : Faithful t) (w : Faithful u) (r : Later t u) (o : �
         = λ g p x e. rw grown at (mem→elem (p x (elem→mem x (identifierOf ms g) e))) in
         identifiers-never-in-one ms more differ g h k (before g eg) (before h eh) (after k ek) (over g p) (over h q);
     neverFewer = rw (row-is t f o l, row-grown)
-        (never-fewer-groups noEdit doConflict conflict-symmetric conflict-irreflexive ms more);
+        (never-fewer-groups ms more (none-itself (ms ++ more)));
   }
 
 -- ---- records that arrive

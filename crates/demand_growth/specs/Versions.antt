@@ -9,7 +9,7 @@ use Rattle.edit_record.specs.declared.Edit.{Edit}
 use Rattle.table_drawing.specs.Tables.{Tables}
 use Rattle.table_arrival.specs.Answers6and7.{rowOf}
 use Rattle.table_arrival.specs.Arrival.{arrivalOf}
-use Rattle.demand_any_order.specs.Rearranged.{Mem}
+use Rattle.math_lists.specs.Rearranged.{Mem}
 use Rattle.list_version.specs.Members.{membersOf}
 use Rattle.list_version.specs.Identifier.{identifierOf}
 use Rattle.list_objects.specs.Objects.{setsFor}

@@ -12,9 +12,10 @@ use Rattle.edit_sum.specs.SumOfEdits.{sumOver}
 use Rattle.table_drawing.specs.Tables.{Tables, heldBy}
 use Rattle.table_replay.specs.Replay.{replayOf, editsIn}
 use Rattle.table_replay.proofs.ReplayFaithful.{replay-faithful}
-use Rattle.demand_any_order.specs.Rearranged.{Rearranged, recordsOf}
+use Rattle.math_lists.specs.Rearranged.{Rearranged}
+use Rattle.demand_any_order.specs.Records.{recordsOf}
 use Rattle.demand_any_order.specs.Settled.{Causal, Apart}
-use Rattle.demand_any_order.proofs.Rearranged.{same-length, chosen-rearranged}
+use Rattle.math_lists.proofs.Rearranged.{same-length, chosen-rearranged}
 use Rattle.demand_any_order.proofs.SumAnyOrder.{sum-any-order}
 use Rattle.demand_any_order.proofs.ReplayAccepted.{replay-holds}
 use Rattle.demand_any_order.proofs.AnyOrderAccepted.{any-order-accepted}
@@ -29,7 +30,7 @@ use Rattle.list_order.proofs.AnyOrder.{layered-any-order}
 use Rattle.list_lines.specs.List.{linesOf}
 use Rattle.list_print.specs.Printing.{joined, listOf}
 use Rattle.demand_list.specs.ListOverEdits.{linesIn, versionLines, linesOver}
-use Rattle.demand_list.proofs.FlatMaps.{flat-same}
+use Rattle.math_lists.proofs.FlatMaps.{flat-same}
 use Rattle.demand_list.proofs.ListOverEdits.{lines-over-list}
 
 -- ---- lists of edits

@@ -9,23 +9,20 @@ use lib.ListN.{length}
 use borrow.Author.Tests.{eqb-true}
 use Rattle.math_lists.specs.SortedLists.{any, filter}
 use Rattle.math_lists.proofs.Booleans.{both, off}
-use Rattle.math_maximal.specs.GroupsByArrival.{groupsOf}
 use Rattle.edit_record.specs.declared.Edit.{Edit}
 use Rattle.edit_record.specs.Layout.{setKind, bottomKind}
 use Rattle.edit_record.specs.Answer1.{isSet, isCreate, isBottom}
-use Rattle.edit_record.specs.RecordBytes.{noEdit}
 use Rattle.edit_causal.specs.Causal.{sameEdit}
-use Rattle.edit_causal.specs.Conflict.{doConflict}
 use Rattle.edit_history.specs.EditsHeld.{creates, isSetOn, setsOn}
 use Rattle.edit_sum.specs.SumOfEdits.{sumOver}
-use Rattle.group_true.specs.TrueGroups.{trueGroups}
+use Rattle.group_true.specs.TrueGroups.{groupsOf, trueGroups}
 use Rattle.list_text.specs.HeadAndRefusal.{headLine}
 use Rattle.list_line.specs.Line.{objectLines}
 use Rattle.list_order.specs.Moves.{layeredOrder}
 use Rattle.list_order.proofs.OrderBefore.{orderBefore, leftIn, left-same, create-not-bottom}
 use Rattle.list_order.proofs.OrderBefore.{as-before, bottoms-left-out}
 use Rattle.demand_list.specs.ListOverEdits.{linesIn, versionLines, linesOver}
-use Rattle.demand_list.proofs.FlatMaps.{flat-same}
+use Rattle.math_lists.proofs.FlatMaps.{flat-same}
 
 -- ---- the list as Req 08 had it
 
@@ -61,7 +58,7 @@ left-text es c =
     let same : filter on (leftIn es) ≡ filter on es
     = left-same on
     (λ e h. set-not-bottom e (both (isSet e) (sameEdit (e .tsite) (e .tseq) (c .site) (c .seq)) h .0)) es in
-    ap (λ (ss : List Edit). objectLines c ss (groupsOf noEdit doConflict ss)) (sym same)
+    ap (λ (ss : List Edit). objectLines c ss (groupsOf ss)) (sym same)
 
 pub lists-without-bottoms : (n : ℕ) (es : List Edit) → linesOver n es ≡ listBefore n (sumOver es) (leftIn es)
 unfolding linesOver versionLines listBefore linesBefore creates

@@ -16,7 +16,7 @@ use Rattle.list_line.specs.Line.{versionLine, objectLines}
 use Rattle.list_version.proofs.VersionsSorted.{versions-length}
 use Rattle.list_objects.specs.Objects.{createOf, setsFor, objectsOf}
 use Rattle.list_lines.specs.List.{linesFor, versionTotal, linesOf}
-use Rattle.demand_list.proofs.FlatMaps.{flat-rearranged, flat-below}
+use Rattle.math_lists.proofs.FlatMaps.{flat-rearranged, flat-below}
 use Rattle.demand_list.proofs.ObjectsInOrder.{objects-rearranged}
 
 module _ (t : Tables) (s : Sound t) where

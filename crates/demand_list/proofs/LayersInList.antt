@@ -13,7 +13,7 @@ use Rattle.edit_record.proofs.WellFormed.{create-not-set, layer-not-set}
 use Rattle.edit_history.specs.EditsHeld.{creates, isSetOn}
 use Rattle.group_true.proofs.TrueGroups.{sets-same, groups-same}
 use Rattle.demand_any_order.specs.Settled.{Apart}
-use Rattle.demand_any_order.proofs.ListMembers.{chosen-at}
+use Rattle.math_lists.proofs.ListMembers.{chosen-at}
 use Rattle.list_line.specs.Line.{objectLines}
 use Rattle.list_order.specs.Layers.{isOn, inOrder}
 use Rattle.list_order.specs.Moves.{layeredOrder, without, moved}
@@ -22,7 +22,7 @@ use Rattle.list_order.proofs.Moves.{theorem-of-the-moves}
 use Rattle.list_order.proofs.Others.{isOther, create-keeps-others, keeps-others}
 use Rattle.list_order.proofs.WithoutTops.{no-tops-no-change}
 use Rattle.demand_list.specs.ListOverEdits.{linesIn, versionLines}
-use Rattle.demand_list.proofs.FlatMaps.{flat-same}
+use Rattle.math_lists.proofs.FlatMaps.{flat-same}
 
 -- ---- by moves
 

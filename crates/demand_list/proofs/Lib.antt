@@ -1,4 +1,3 @@
-pub mod FlatMaps
 pub mod ObjectsInOrder
 pub mod HeadTotal
 pub mod ListOverEdits

@@ -11,7 +11,7 @@ use Rattle.list_line.specs.Line.{objectLines}
 use Rattle.list_objects.specs.Objects.{createOf, setsFor, objectsOf}
 use Rattle.list_lines.specs.List.{linesFor, versionTotal, linesOf}
 use Rattle.demand_list.specs.ListOverEdits.{linesIn, versionLines, linesOver}
-use Rattle.demand_list.proofs.FlatMaps.{flat-same, flat-made}
+use Rattle.math_lists.proofs.FlatMaps.{flat-same, flat-made}
 use Rattle.demand_list.proofs.ObjectsInOrder.{object-below, creates-ordered}
 use Rattle.demand_list.proofs.HeadTotal.{lines-total}
 

@@ -15,16 +15,16 @@ use Rattle.edit_history.specs.EditsHeld.{creates, isTarget, objectOf}
 use Rattle.table_drawing.specs.Tables.{Tables, heldBy}
 use Rattle.table_soundness.proofs.SoundFacts.{Sound}
 use Rattle.table_arrival.proofs.ObjectsByNumber.{target-object}
-use Rattle.demand_any_order.specs.Rearranged.{Mem, Rearranged}
+use Rattle.math_lists.specs.Rearranged.{Mem, Rearranged}
 use Rattle.demand_any_order.specs.Settled.{Differ}
-use Rattle.demand_any_order.proofs.Rearranged.{same-members}
+use Rattle.math_lists.proofs.Rearranged.{same-members}
 use Rattle.demand_any_order.proofs.Identities.{differ-turned}
-use Rattle.demand_any_order.proofs.PairsInList.{pairs-chosen, pairs-two}
+use Rattle.math_lists.proofs.PairsInList.{pairs-chosen, pairs-two}
 use Rattle.list_version.proofs.NeverShared.{held-apart}
 use Rattle.list_version.proofs.RanksStrict.{held-ranked}
 use Rattle.list_order.specs.Layers.{isOn, deciding}
 use Rattle.list_order.specs.Moves.{layeredOrder}
-use Rattle.list_order.proofs.Choices.{pairs-unmade}
+use Rattle.math_lists.proofs.Choices.{pairs-unmade}
 use Rattle.list_order.proofs.Standing.{standing-rearranged, chosen-keep-order}
 use Rattle.list_order.proofs.Deciding.{one-aim}
 use Rattle.list_order.proofs.Others.{decides-nothing, decides-elsewhere}

@@ -38,14 +38,14 @@ use Rattle.edit_record.proofs.WellFormed.{layer-not-set}
 use Rattle.table_arrival.proofs.ObjectOfSet.{object-less, row-fits}
 use Rattle.table_arrival.proofs.SetKeepsSound.{not-on}
 use Rattle.table_arrival.proofs.ArrivalKeepsSound.{Kept, acceptance-keeps}
-use Rattle.demand_any_order.proofs.ListMembers.{chosen-at}
+use Rattle.math_lists.proofs.ListMembers.{chosen-at}
 use Rattle.list_line.specs.Line.{objectLines}
-use Rattle.list_order.proofs.Choices.{not-chosen-snoc}
+use Rattle.math_lists.proofs.Choices.{not-chosen-snoc}
 use Rattle.list_order.proofs.Held.{numbers}
 use Rattle.list_objects.specs.Objects.{createOf, setsFor, objectsOf}
 use Rattle.list_lines.specs.List.{linesFor}
 use Rattle.demand_list.specs.OtherBoxes.{ownOf, isOther, othersThan, otherLines}
-use Rattle.demand_list.proofs.FlatMaps.{flat-same}
+use Rattle.math_lists.proofs.FlatMaps.{flat-same}
 use Rattle.demand_list.proofs.ObjectsInOrder.{object-below, not-on-others, others-in-order}
 
 -- ---- what an edit e about the object own leaves of the tables t, where they are u after it

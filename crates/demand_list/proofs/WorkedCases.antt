@@ -6,23 +6,25 @@ use mathlib.Core.List.{List, [], _∷_, _++_, map, flatMap}
 use Prim.Native.Nat.{ℕ, suc, _-_, _*_, _^_, _≤_, _<_}
 use native.Mathlib.Omega.{arith}
 use lib.Dec.{eqb}
-use lib.ListN.{length, length-map, drop, length-drop}
-use lib.Seq.{length-take-le}
+use lib.ListN.{length, length-map, drop}
 use Rattle.math_lists.specs.NumbersBelow.{some, all, sum, keep}
 use Rattle.math_lists.specs.SortedLists.{any, filter, insertBy, gatherBy, insert, gather}
 use Rattle.edit_record.specs.declared.Edit.{Edit}
 use Rattle.edit_record.specs.Layout.{recordLength}
-use Rattle.edit_form.specs.OldForm.{longForm, longFrom, storedIn}
-use Rattle.edit_record.specs.RecordBytes.{counts, countBytes}
+use Rattle.edit_form.specs.OldForm.{longForm, longFrom, startOf, storedIn}
+use Rattle.edit_form.proofs.OneLength.{start-by-number}
+use Rattle.edit_form.proofs.Stretches.{stored-whole}
+use Rattle.edit_record.specs.RecordBytes.{counts, countBytes, spanOf}
+use Rattle.edit_record.proofs.RecordSpans.{one-span}
 use Rattle.edit_record.specs.Answer1.{nonzeroPast, unfit}
+use Rattle.edit_causal.specs.Conflict.{conflictsIn}
 use Rattle.edit_causal.specs.TotalOrder.{vectorSum}
 use Rattle.edit_history.specs.EditsHeld.{countFrom, creates, setsOn}
 use Rattle.edit_history.specs.Answers2to5.{isRepeated, isEarly, largerSomewhere, isTorn, isAstray}
 use Rattle.edit_sum.specs.SumOfEdits.{wordsIn, wordsOver, sumOver}
 use Rattle.math_maximal.specs.Groups.{bit, fits, isMaximal, groups}
-use Rattle.math_maximal.specs.GroupsByArrival.{rel, groupsOf}
 use Rattle.table_arrival.specs.Answers6and7.{firstOf}
-use Rattle.group_true.specs.TrueGroups.{trueGroups}
+use Rattle.group_true.specs.TrueGroups.{groupsOf, trueGroups}
 use Rattle.group_true.specs.Disputed.{isDisputed}
 use Rattle.table_replay.specs.Replay.{replayOf, editsIn}
 use Rattle.demand_any_order.specs.Settled.{fullOver, crowdedOver, listAnswer}
@@ -94,9 +96,9 @@ by-computing c (some-edit, long, are, gives) = go (c .expected) gives
 
     records-whole : (k : ℕ) → k < length es → length (rs k) ≡ recordLength
     records-whole k l =
-        unfold longFrom in
         let bs = recordBytes es in
-        length-take-le recordLength (drop (k * recordLength) bs) (omega (arith, length-drop (k * recordLength) bs))
+        stored-whole longForm bs (length es) (omega (arith, start-by-number longForm bs (length es), long)) k l
+        ∙ one-span (rs k)
 
     n : ℕ
     n = length es
@@ -144,9 +146,10 @@ _also_ a b = (a, b)
 
 -- P10 to P12, and the example of 'The printed list'
 computed-last : AllComputed (drop 14 cases)
-unfolding cases bytesOf flatMap countBytes counts editsIn longFrom answerOver listAnswer firstOf unfit nonzeroPast
-    isRepeated isEarly countFrom isTorn largerSomewhere isAstray fullOver crowdedOver some all sum keep any filter
-    creates setsOn trueGroups groupsOf groups isMaximal fits rel bit linesOver versionLines linesIn layeredOrder
+unfolding cases bytesOf flatMap countBytes counts editsIn longFrom startOf spanOf answerOver listAnswer firstOf unfit
+    nonzeroPast isRepeated isEarly countFrom isTorn largerSomewhere isAstray fullOver crowdedOver some all sum keep any
+    filter creates setsOn trueGroups groupsOf groups isMaximal fits conflictsIn bit linesOver versionLines linesIn
+    layeredOrder
     standing deciding lastOn inOrder gatherBy insertBy gather insert vectorSum objectLines versionsOf isAhead lex
     identifierOf membersOf isDisputed versionLine identifierText settingsText settingText lastWith lastAfter later
     headLine decimal lastDigits sumOver wordsOver wordsIn
@@ -159,9 +162,10 @@ computed-last =
 
 -- P8 and P9
 computed-later : AllComputed (drop 12 cases)
-unfolding cases bytesOf flatMap countBytes counts editsIn longFrom answerOver listAnswer firstOf unfit nonzeroPast
-    isRepeated isEarly countFrom isTorn largerSomewhere isAstray fullOver crowdedOver some all sum keep any filter
-    creates setsOn trueGroups groupsOf groups isMaximal fits rel bit linesOver versionLines linesIn layeredOrder
+unfolding cases bytesOf flatMap countBytes counts editsIn longFrom startOf spanOf answerOver listAnswer firstOf unfit
+    nonzeroPast isRepeated isEarly countFrom isTorn largerSomewhere isAstray fullOver crowdedOver some all sum keep any
+    filter creates setsOn trueGroups groupsOf groups isMaximal fits conflictsIn bit linesOver versionLines linesIn
+    layeredOrder
     standing deciding lastOn inOrder gatherBy insertBy gather insert vectorSum objectLines versionsOf isAhead lex
     identifierOf membersOf isDisputed versionLine identifierText settingsText settingText lastWith lastAfter later
     headLine decimal lastDigits sumOver wordsOver wordsIn
@@ -172,9 +176,10 @@ computed-later =
 
 -- P7 in all six orders
 computed-seventh : AllComputed (drop 6 cases)
-unfolding cases bytesOf flatMap countBytes counts editsIn longFrom answerOver listAnswer firstOf unfit nonzeroPast
-    isRepeated isEarly countFrom isTorn largerSomewhere isAstray fullOver crowdedOver some all sum keep any filter
-    creates setsOn trueGroups groupsOf groups isMaximal fits rel bit linesOver versionLines linesIn layeredOrder
+unfolding cases bytesOf flatMap countBytes counts editsIn longFrom startOf spanOf answerOver listAnswer firstOf unfit
+    nonzeroPast isRepeated isEarly countFrom isTorn largerSomewhere isAstray fullOver crowdedOver some all sum keep any
+    filter creates setsOn trueGroups groupsOf groups isMaximal fits conflictsIn bit linesOver versionLines linesIn
+    layeredOrder
     standing deciding lastOn inOrder gatherBy insertBy gather insert vectorSum objectLines versionsOf isAhead lex
     identifierOf membersOf isDisputed versionLine identifierText settingsText settingText lastWith lastAfter later
     headLine decimal lastDigits sumOver wordsOver wordsIn
@@ -189,9 +194,10 @@ computed-seventh =
 
 -- P1 to P6
 computed : AllComputed cases
-unfolding cases bytesOf flatMap countBytes counts editsIn longFrom answerOver listAnswer firstOf unfit nonzeroPast
-    isRepeated isEarly countFrom isTorn largerSomewhere isAstray fullOver crowdedOver some all sum keep any filter
-    creates setsOn trueGroups groupsOf groups isMaximal fits rel bit linesOver versionLines linesIn layeredOrder
+unfolding cases bytesOf flatMap countBytes counts editsIn longFrom startOf spanOf answerOver listAnswer firstOf unfit
+    nonzeroPast isRepeated isEarly countFrom isTorn largerSomewhere isAstray fullOver crowdedOver some all sum keep any
+    filter creates setsOn trueGroups groupsOf groups isMaximal fits conflictsIn bit linesOver versionLines linesIn
+    layeredOrder
     standing deciding lastOn inOrder gatherBy insertBy gather insert vectorSum objectLines versionsOf isAhead lex
     identifierOf membersOf isDisputed versionLine identifierText settingsText settingText lastWith lastAfter later
     headLine decimal lastDigits sumOver wordsOver wordsIn

@@ -1,3 +1,4 @@
 pub mod CausalLaws
 pub mod VectorSums
 pub mod Identities
+pub mod ConflictsAmongSets

@@ -10,9 +10,11 @@ use lib.ListN.{length, getD, set, take, drop, replicate, length-append, length-d
 use lib.ListN.{List·getD-append}
 use lib.Seq.{paste, paste-suc, length-take-le, take-at, drop-at, take-take, take-add, getD-take, getD-drop}
 use Rattle.math_lists.proofs.ReplacedPart.{put}
-use Rattle.edit_record.specs.Layout.{kindAt, siteAt, vectorAt, recordLength}
-use Rattle.edit_form.specs.OldForm.{oldForm, oldSites, lacking, oldLength, lengthBy, widened, hasOldForm, longOf}
-use Rattle.edit_form.specs.OldForm.{longFrom}
+use Rattle.edit_record.specs.Layout.{kindAt, siteAt, vectorAt, recordLength, placeLength}
+use Rattle.edit_record.specs.RecordBytes.{spanOf}
+use Rattle.edit_record.proofs.RecordSpans.{span-least, span-most}
+use Rattle.edit_form.specs.OldForm.{oldForm, oldSites, lacking, oldLength, lengthFrom, widened, hasOldForm}
+use Rattle.edit_form.specs.OldForm.{longOf, longFrom}
 
 -- where the entries of an old vector end, and what stands behind them
 abbrev pub oldEnd : ℕ
@@ -22,15 +24,20 @@ abbrev pub behind : ℕ
 behind = oldLength - oldEnd
 
 -- what holds of the bytes of an old record and of a long one holds of those of either form
-pub by-form : (P : ℕ → Type 0) (form : ℕ) → P oldLength → P recordLength → P (lengthBy form)
-by-form P form old long = go (eqb form oldForm)
+pub by-form : (P : ℕ → Type 0) (form : ℕ) (rest : List ℕ) → P oldLength → P (spanOf rest) → P (lengthFrom form rest)
+by-form P form rest old long = go (eqb form oldForm)
   where
-    go : (o : Bool) → P (cond o oldLength recordLength)
+    go : (o : Bool) → P (cond o oldLength (spanOf rest))
     go true = old
     go false = long
 
-pub length-least : (form : ℕ) → oldLength ≤ lengthBy form
-length-least form = by-form (λ w. oldLength ≤ w) form (omega arith) (omega arith)
+pub length-least : (form : ℕ) (rest : List ℕ) → oldLength ≤ lengthFrom form rest
+length-least form rest =
+    by-form (λ w. oldLength ≤ w) form rest (omega arith) (omega (arith, span-least rest))
+
+pub length-most : (form : ℕ) (rest : List ℕ) → lengthFrom form rest ≤ placeLength
+length-most form rest =
+    by-form (λ w. w ≤ placeLength) form rest (omega (arith, span-least rest, span-most rest)) (span-most rest)
 
 -- ---- one byte more
 
@@ -97,7 +104,7 @@ widened-before b i long l =
 
 -- where an old record has no old form, zeros stand for it; else the site stands where it stood
 pub site-read :
-    (form : ℕ) (rest : List ℕ) → lengthBy form ≤ length rest →
+    (form : ℕ) (rest : List ℕ) → lengthFrom form rest ≤ length rest →
     getD (longFrom form rest) siteAt 0
     ≡ cond (eqb form oldForm && not (hasOldForm (getD rest kindAt 0))) 0 (getD rest siteAt 0)
 unfolding longFrom
@@ -111,9 +118,10 @@ site-read form rest long = go (eqb form oldForm) long
         ∙ getD-take oldLength rest siteAt 0 (lit< tt)
     old h false = refl
 
-    go : (o : Bool) → cond o oldLength recordLength ≤ length rest →
-        getD (cond o (longOf (take (cond o oldLength recordLength) rest)) (take (cond o oldLength recordLength) rest))
+    go : (o : Bool) → cond o oldLength (spanOf rest) ≤ length rest →
+        getD
+        (cond o (longOf (take (cond o oldLength (spanOf rest)) rest)) (take (cond o oldLength (spanOf rest)) rest))
         siteAt 0
         ≡ cond (o && not (hasOldForm (getD rest kindAt 0))) 0 (getD rest siteAt 0)
     go true h = rw (old-by-kind rest) (old h (hasOldForm (getD rest kindAt 0)))
-    go false h = getD-take recordLength rest siteAt 0 (lit< tt)
+    go false h = getD-take (spanOf rest) rest siteAt 0 (omega (arith, span-least rest))

@@ -1,2 +1,4 @@
 pub mod CopiedParts
 pub mod OldRecords
+pub mod Stretches
+pub mod OneLength

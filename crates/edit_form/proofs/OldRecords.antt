@@ -15,13 +15,14 @@ use Rattle.math_lists.proofs.ByPlaces.{zero-anywhere}
 use Rattle.edit_record.specs.declared.Edit.{Edit}
 use Rattle.edit_record.specs.Layout.{mostSites, kindAt, siteAt, seqAt, vectorAt, targetAt, keyAt, targetSeqAt, valueAt}
 use Rattle.edit_record.specs.Layout.{recordLength}
-use Rattle.edit_record.specs.RecordBytes.{two, four, counts, decodeOf}
+use Rattle.edit_record.specs.RecordBytes.{two, four, counts, decodeOf, spanOf}
 use Rattle.edit_record.specs.Answer1.{nonzeroPast, unfit, malformed}
 use Rattle.edit_record.proofs.NumbersInBytes.{counts-length}
 use Rattle.edit_record.proofs.EntriesPastSites.{isPast}
-use Rattle.edit_form.specs.OldForm.{oldForm, oldSites, lacking, oldLength, lengthBy, widened, hasOldForm, longOf}
-use Rattle.edit_form.specs.OldForm.{longFrom, storedIn}
-use Rattle.edit_form.proofs.CopiedParts.{oldEnd, by-form, drop-take, widened-before}
+use Rattle.edit_record.proofs.RecordSpans.{span-own}
+use Rattle.edit_form.specs.OldForm.{oldForm, oldSites, lacking, oldLength, lengthFrom, widened, hasOldForm}
+use Rattle.edit_form.specs.OldForm.{longOf, longFrom}
+use Rattle.edit_form.proofs.CopiedParts.{oldEnd, drop-take, widened-before}
 
 -- ---- a kind that has no old form
 
@@ -31,9 +32,6 @@ unfolding malformed unfit
 no-old-form-is-1 b h n = rw h
 
 -- ---- how long records are
-
-pub bytes-most : (n form : ℕ) → n * lengthBy form ≤ n * recordLength
-bytes-most n form = by-form (λ w. n * w ≤ n * recordLength) form (omega arith) (omega arith)
 
 pub widened-long : (b : List ℕ) → length b ≡ oldLength → length (widened b) ≡ recordLength
 widened-long b long =
@@ -46,29 +44,25 @@ longOf-long b long = go (hasOldForm (getD b kindAt 0))
     go true = widened-long b long
     go false = refl
 
-pub long-from-long :
-    (form : ℕ) (rest : List ℕ) → lengthBy form ≤ length rest → length (longFrom form rest) ≡ recordLength
+-- an old record is of no kind that is longer
+old-span : (b : List ℕ) → spanOf (longOf b) ≡ recordLength
+unfolding spanOf
+old-span b = refl
+
+-- the record that is taken is a whole one
+pub long-from-whole :
+    (form : ℕ) (rest : List ℕ) → lengthFrom form rest ≤ length rest →
+    length (longFrom form rest) ≡ spanOf (longFrom form rest)
 unfolding longFrom
-long-from-long form rest h = go (eqb form oldForm) h
+long-from-whole form rest h = go (eqb form oldForm) h
   where
-    go : (o : Bool) → cond o oldLength recordLength ≤ length rest →
-        length (cond o (longOf (take (cond o oldLength recordLength) rest)) (take (cond o oldLength recordLength) rest))
-        ≡ recordLength
-    go true l = longOf-long (take oldLength rest) (length-take-le oldLength rest l)
-    go false l = length-take-le recordLength rest l
+    taken : Bool → List ℕ
+    taken o = cond o (longOf (take (cond o oldLength (spanOf rest)) rest)) (take (cond o oldLength (spanOf rest)) rest)
 
--- the record number k is there whole
-pub stored-there :
-    (form : ℕ) (s : List ℕ) (k : ℕ) → lengthBy form * (k + 1) ≤ length s →
-    lengthBy form ≤ length (drop (k * lengthBy form) s)
-stored-there form s k =
-    by-form (λ w. w * (k + 1) ≤ length s → w ≤ length (drop (k * w) s)) form
-    (λ l. simp length-drop (omega arith))
-    (λ l. simp length-drop (omega arith))
-
-pub stored-long :
-    (form : ℕ) (s : List ℕ) (k : ℕ) → lengthBy form * (k + 1) ≤ length s → length (storedIn form s k) ≡ recordLength
-stored-long form s k h = long-from-long form (drop (k * lengthBy form) s) (stored-there form s k h)
+    go : (o : Bool) → cond o oldLength (spanOf rest) ≤ length rest → length (taken o) ≡ spanOf (taken o)
+    go true l =
+        longOf-long (take oldLength rest) (length-take-le oldLength rest l) ∙ sym (old-span (take oldLength rest))
+    go false l = length-take-le (spanOf rest) rest l ∙ sym (span-own rest)
 
 -- ---- counts
 

@@ -1,12 +1,13 @@
 -- The two forms in which a block holds its records, of document 02's Req 04. The long form is the edit record itself.
 -- The old one has eight entries where that has sixteen, and was there for Creates and Sets alone: a record of another
 -- kind has no old form. A stretch is the bytes of records one behind the other. Assumes nothing.
-use Prim.Native.Nat.{ℕ, _+_, _-_, _*_}
-use mathlib.Core.List.{List, _++_}
+use Prim.Native.Nat.{ℕ, zero, suc, _+_, _-_, _*_}
+use mathlib.Core.List.{List, [], _++_}
 use mathlib.Core.Bool.{Bool, _||_, cond}
 use lib.ListN.{getD, take, drop, replicate}
 use lib.Dec.{eqb}
 use Rattle.edit_record.specs.Layout.{mostSites, createKind, setKind, kindAt, vectorAt, recordLength}
+use Rattle.edit_record.specs.RecordBytes.{spanOf}
 
 -- ---- the forms, by the number that a trailer has for each
 
@@ -26,12 +27,9 @@ lacking = 2 * (mostSites - oldSites)
 abbrev pub oldLength : ℕ
 oldLength = recordLength - lacking
 
--- the most sites in a form, and the bytes of its records
+-- the most sites in a form
 abbrev pub sitesBy : ℕ → ℕ
 sitesBy form = cond (eqb form oldForm) oldSites mostSites
-
-abbrev pub lengthBy : ℕ → ℕ
-lengthBy form = cond (eqb form oldForm) oldLength recordLength
 
 -- ---- an old record as a long one
 
@@ -50,12 +48,26 @@ longOf b = cond (hasOldForm (getD b kindAt 0)) (widened b) (replicate recordLeng
 
 -- ---- a stretch
 
--- the record at the front of what is left of a stretch, as a long one
+-- the bytes of the record at the front of what is left of a stretch, and that record as a long one
+abbrev pub lengthFrom : ℕ → List ℕ → ℕ
+lengthFrom form rest = cond (eqb form oldForm) oldLength (spanOf rest)
+
 unfoldable pub longFrom : ℕ → List ℕ → List ℕ
 longFrom form rest =
-    let b = take (lengthBy form) rest in
+    let b = take (lengthFrom form rest) rest in
     cond (eqb form oldForm) (longOf b) b
 
--- the record number k, as a long one
+-- where the record number k starts, each behind the one before it; and that record as a long one
+unfoldable pub startOf : ℕ → List ℕ → ℕ → ℕ
+startOf form stretch zero = 0
+startOf form stretch (suc k) =
+    let at = startOf form stretch k in
+    at + lengthFrom form (drop at stretch)
+
 abbrev pub storedIn : ℕ → List ℕ → ℕ → List ℕ
-storedIn form stretch k = longFrom form (drop (k * lengthBy form) stretch)
+storedIn form stretch k = longFrom form (drop (startOf form stretch k) stretch)
+
+-- the first n of some records one behind the other
+unfoldable pub chained : (ℕ → List ℕ) → ℕ → List ℕ
+chained rs zero = []
+chained rs (suc n) = chained rs n ++ rs n

@@ -1,5 +1,5 @@
-// The old and the long form of a stored record: how many bytes each has, and the record at the front of what is left of
-// a stretch, as a long one.
+// The old and the long form of a stored record: how many bytes the record at the front of what is left of a stretch
+// has, and that record as a long one.
 use edit_record::AT_KIND;
 use edit_record::AT_SITE;
 use edit_record::AT_VECTOR;
@@ -12,7 +12,7 @@ ghost use mathlib.Core.List.{_++_};
 ghost use Prim.Native.Nat.{_+_, _≤_};
 ghost use lib.ListN.{length, getD, take, drop};
 ghost use Rattle.edit_record.specs.Layout.{siteAt, recordLength};
-ghost use Rattle.edit_form.specs.OldForm.{sitesBy, lengthBy, oldLength, hasOldForm, longOf, longFrom};
+ghost use Rattle.edit_form.specs.OldForm.{sitesBy, lengthFrom, oldLength, hasOldForm, longOf, longFrom};
 
 // The forms, by the number that a trailer has for each.
 pub const OLD: u8 = 0;
@@ -40,11 +40,14 @@ pub fn sites_by(form: u8) -> u8
     }
 }
 
-// The bytes of a record in a form.
-pub fn length_by(form: u8) -> usize
-    ensures { λ r. ⌜ r ≡ lengthBy form ⌝ }
+// The bytes of the record at the front of what is left of a stretch in a form.
+pub fn length_from(rest: &[u8], form: u8) -> usize
+    ensures { λ r. ⌜ r ≡ lengthFrom form (now (rest .entry)) ⌝ }
 {
-    if form == OLD { OLD_RECORD } else { RECORD }
+    if form == OLD {
+        return OLD_RECORD;
+    }
+    edit_record::span_of(rest)
 }
 
 // The record with n bytes of s, from `from` on, in place of its own from `to` on.
@@ -86,9 +89,9 @@ fn widened_from(rest: &[u8]) -> [u8; RECORD]
     )
 }
 
-// The record at the front of what is left of a stretch in a form, as a long one.
+// That record as a long one, where it is there whole.
 pub fn long_from(rest: &[u8], form: u8) -> [u8; RECORD]
-    requires { ⌜ lengthBy form ≤ length (now rest) ⌝ }
+    requires { ⌜ lengthFrom form (now rest) ≤ length (now rest) ⌝ }
     ensures { λ r. ⌜ r ≡ longFrom form (now (rest .entry)) ⌝ }
 {
     if form == OLD {
@@ -99,7 +102,7 @@ pub fn long_from(rest: &[u8], form: u8) -> [u8; RECORD]
 
 // The site of that record, read where it stands.
 pub fn site_from(rest: &[u8], form: u8) -> u8
-    requires { ⌜ lengthBy form ≤ length (now rest) ⌝ }
+    requires { ⌜ lengthFrom form (now rest) ≤ length (now rest) ⌝ }
     ensures { λ r. ⌜ r ≡ getD (longFrom form (now (rest .entry))) siteAt 0 ⌝ }
 {
     let old = has_old_form(rest[AT_KIND]);

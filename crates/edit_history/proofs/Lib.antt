@@ -1,5 +1,5 @@
 pub mod EditsHeld
-pub mod ConflictMarks
+pub mod EditsByPlaces
 pub mod SurveyOneMore
 pub mod ByCounts
 pub mod RecordsPassed

@@ -1,5 +1,5 @@
 -- Of records that pass 1 to 5 in their order: an edit that another has seen stands before it, in the table and in the
--- total order. Assumes nothing.
+-- total order; and who has seen an edit has seen what its author had seen. Assumes nothing.
 use mathlib.Core.Path.{_≡_, sym, ap, _∙_}
 use mathlib.Core.Bool.{true, false, not}
 use mathlib.Core.List.{List}
@@ -7,9 +7,8 @@ use Prim.Native.Nat.{ℕ, _+_, _≤_, _<_}
 use native.Mathlib.Omega.{arith}
 use native.Mathlib.Decide.{ℕ-discrete}
 use lib.ListN.{getD}
-use lib.Dec.{eqb, leb, ltb}
-use borrow.Author.Tests.{eq-eqb, leb-true, ltb-false, not-true}
-use Rattle.math_lists.specs.SortedLists.{any}
+use lib.Dec.{eqb, ltb}
+use borrow.Author.Tests.{eq-eqb, eqb-true, leb-true, le-leb, ltb-false, not-true}
 use Rattle.math_lists.proofs.Booleans.{clash, off, both}
 use Rattle.math_lists.proofs.NumbersBelow.{none-at}
 use Rattle.edit_record.specs.declared.Edit.{Edit}
@@ -109,3 +108,31 @@ module _ (sites : ℕ) (few : sites ≤ mostSites) (rs : List ℕ) (n : ℕ) (pa
     before-ranks =
         larger-ranks-later a b nowhere-above (b .site .0) (omega (arith, formed-at sites rs n pass q lq .site))
         below-own
+
+-- ---- who has seen an edit has seen what its author had seen
+
+module _ (sites : ℕ) (few : sites ≤ mostSites) (rs : List ℕ) (n : ℕ) (pass : recordsPass sites rs n ≡ true)
+    (p q r : ℕ) (lp : p < n) (lq : q < n) (lr : r < n) where
+  pub seen-through :
+      comesBefore (recordAt rs p) (recordAt rs q) ≡ true → comesBefore (recordAt rs q) (recordAt rs r) ≡ true →
+      comesBefore (recordAt rs p) (recordAt rs r) ≡ true
+  seen-through h k =
+      let a = recordAt rs p in
+      let c = recordAt rs r in
+      let one = stands-before sites few rs n pass p q lp lq h in
+      let two = stands-before sites few rs n pass q r lq lr k in
+      let site : a .site .0 < mostSites = omega (arith, formed-at sites rs n pass p lp .site) in
+      let seen : hasSeen (c .vector) (a .site) (a .seq) ≡ true
+      = le-leb (a .seq .0) (getD (c .vector) (a .site .0) 0)
+      (omega (
+        arith,
+        reached sites few rs n pass p q lp lq h,
+        nowhere-above sites few rs n pass q r lq lr k (a .site .0) site,
+      )) in
+      let other : sameEdit (a .site) (a .seq) (c .site) (c .seq) ≡ false
+      = off (sameEdit (a .site) (a .seq) (c .site) (c .seq)) (λ e.
+      let (s, t) = both (eqb (a .site .0) (c .site .0)) (eqb (a .seq .0) (c .seq .0)) e in
+      let same = one-place sites rs n pass p r lp lr (eqb-true (a .site .0) (c .site .0) s)
+      (eqb-true (a .seq .0) (c .seq .0) t) in
+      omega arith) in
+      rw (other, seen)

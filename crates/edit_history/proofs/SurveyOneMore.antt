@@ -1,19 +1,29 @@
 -- The survey of the edits held, kept while they are read one after another: one edit more changes it as `surveyWith`
 -- says, and its counts have room. Assumes nothing.
-use mathlib.Core.Path.{_≡_, refl}
-use mathlib.Core.Bool.{Bool, true, false, _||_, cond}
-use mathlib.Core.List.{List, [], _∷_, _++_}
-use Prim.Native.Nat.{ℕ, suc, _+_, _≤_, _<_}
+use mathlib.Core.Path.{_≡_, refl, ap, _∙_}
+use mathlib.Core.Bool.{Bool, true, false, _&&_, _||_, cond}
+use mathlib.Core.List.{List, [], _∷_, _++_, append-nil}
+use Prim.Native.Nat.{ℕ, suc, _+_, _^_, _≤_, _<_}
 use native.Mathlib.Omega.{arith}
 use lib.ListN.{length}
 use Rattle.math_lists.proofs.Booleans.{clash}
-use Rattle.math_lists.proofs.GrownAtEnd.{any-snoc, filter-length-snoc}
+use Rattle.math_lists.specs.SortedLists.{any, filter}
+use Rattle.math_lists.proofs.GrownAtEnd.{any-snoc, filter-snoc, filter-length-snoc}
 use Rattle.edit_record.specs.declared.Edit.{Edit}
-use Rattle.edit_history.specs.EditsHeld.{mostRecords, recordAt, editsOf, isSetOn, setsOn, isTarget}
+use Rattle.edit_causal.specs.Conflict.{doConflict, conflictsWith}
+use Rattle.edit_causal.proofs.ConflictsAmongSets.{none-marked, one-more-marked, marked-below}
+use Rattle.edit_history.specs.EditsHeld.{mostRecords, recordAt, editsOf, creates, isSetOn, setsOn, isTarget}
+use Rattle.edit_history.specs.EditsHeld.{indexOf, objectOf}
 use Rattle.edit_history.specs.Answers2to5.{tears, isTorn}
 use Rattle.edit_history.specs.SurveyForms.{markBits, surveyOf, surveyWith, Room}
 use Rattle.edit_history.proofs.EditsHeld.{chosen-grow, object-snoc, object-few}
-use Rattle.edit_history.proofs.ConflictMarks.{set-marks, conflicts-below}
+
+-- ---- of no edits
+
+pub survey-none :
+    (e : Edit) → record { torn = false; found = false; object = 0; sets = 0; conflicts = 0 } ≡ surveyOf [] e
+unfolding surveyOf isTorn any objectOf creates indexOf setsOn filter
+survey-none e = rw (none-marked e)
 
 -- ---- one edit more
 
@@ -28,6 +38,24 @@ sets-snoc :
 unfolding setsOn
 sets-snoc es e a = filter-length-snoc (isSetOn (e .tsite) (e .tseq)) es a
 
+-- only a Set of the object is marked
+marks-snoc :
+    (es : List Edit) (e a : Edit) →
+    conflictsWith e (setsOn (e .tsite) (e .tseq) (es ++ (a ∷ [])))
+    ≡ conflictsWith e (setsOn (e .tsite) (e .tseq) es)
+    + cond (isSetOn (e .tsite) (e .tseq) a && doConflict a e) (2 ^ length (setsOn (e .tsite) (e .tseq) es)) 0
+unfolding setsOn
+marks-snoc es e a =
+    ap (conflictsWith e) (filter-snoc (isSetOn (e .tsite) (e .tseq)) es a) ∙ go (isSetOn (e .tsite) (e .tseq) a)
+  where
+    mates : List Edit
+    mates = filter (isSetOn (e .tsite) (e .tseq)) es
+
+    go : (b : Bool) → conflictsWith e (mates ++ cond b (a ∷ []) [])
+        ≡ conflictsWith e mates + cond (b && doConflict a e) (2 ^ length mates) 0
+    go true = one-more-marked e mates a
+    go false = rw (append-nil mates) (omega arith)
+
 pub survey-snoc : (es : List Edit) (e a : Edit) → surveyOf (es ++ (a ∷ [])) e ≡ surveyWith (surveyOf es e) a e
 unfolding surveyOf
 survey-snoc es e a =
@@ -36,7 +64,7 @@ survey-snoc es e a =
       any-snoc (isTarget e) es a,
       object-snoc e es a,
       sets-snoc es e a,
-      set-marks e (e .tsite) (e .tseq) es a,
+      marks-snoc es e a,
     )
 
 pub survey-more :
@@ -62,5 +90,5 @@ survey-room rs i n e l m h =
       sets =
           rw (← (sets-snoc (editsOf rs i) e (recordAt rs i)))
           (omega (arith, chosen-grow (isSetOn (e .tsite) (e .tseq)) rs (suc i) n l));
-      conflicts = conflicts-below e (setsOn (e .tsite) (e .tseq) (editsOf rs i));
+      conflicts = marked-below e (setsOn (e .tsite) (e .tseq) (editsOf rs i));
     }

@@ -1,6 +1,6 @@
 -- The edits held, in the order of arrival, as the table of records holds them: one record after another.
 -- Assumes nothing.
-use Prim.Native.Nat.{ℕ, zero, suc, _+_, _*_}
+use Prim.Native.Nat.{ℕ, zero, suc, _*_}
 use mathlib.Core.List.{List, [], _∷_, _++_}
 use mathlib.Core.Bool.{Bool, _&&_, cond}
 use lib.ListN.{drop, take, length}
@@ -9,11 +9,10 @@ use Rattle.math_lists.specs.SortedLists.{filter}
 use Rattle.edit_record.specs.declared.Site.{Site}
 use Rattle.edit_record.specs.declared.Seq.{Seq}
 use Rattle.edit_record.specs.declared.Edit.{Edit}
-use Rattle.edit_record.specs.Layout.{recordLength, placeLength}
-use Rattle.edit_record.specs.RecordBytes.{decodeOf}
+use Rattle.edit_record.specs.Layout.{placeLength}
+use Rattle.edit_record.specs.RecordBytes.{decodeOf, spanOf}
 use Rattle.edit_record.specs.Answer1.{isCreate, isSet}
 use Rattle.edit_causal.specs.Causal.{sameEdit, hasSeen}
-use Rattle.edit_causal.specs.Conflict.{doConflict}
 
 -- ---- in the table
 
@@ -23,7 +22,9 @@ mostRecords = 256
 
 -- the bytes of the record in place p, and the edit in it
 abbrev pub bytesAt : List ℕ → ℕ → List ℕ
-bytesAt rs p = take recordLength (drop (p * placeLength) rs)
+bytesAt rs p =
+    let place = drop (p * placeLength) rs in
+    take (spanOf place) place
 
 abbrev pub recordAt : List ℕ → ℕ → Edit
 recordAt rs p = decodeOf (drop (p * placeLength) rs)
@@ -63,8 +64,3 @@ indexOf f (a ∷ rest) = cond (f a) 0 (suc (indexOf f rest))
 
 unfoldable pub objectOf : Edit → List Edit → ℕ
 objectOf e es = indexOf (isTarget e) (creates es)
-
--- the Sets among ms that conflict with e, as a number: bit i stands for the i-th
-unfoldable pub conflictsWith : Edit → List Edit → ℕ
-conflictsWith e [] = 0
-conflictsWith e (m ∷ ms) = cond (doConflict m e) 1 0 + 2 * conflictsWith e ms

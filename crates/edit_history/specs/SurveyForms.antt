@@ -12,9 +12,8 @@ use Rattle.edit_record.specs.declared.Site.{Site}
 use Rattle.edit_record.specs.declared.Edit.{Edit}
 use Rattle.edit_record.specs.Layout.{mostSites}
 use Rattle.edit_record.specs.Answer1.{isCreate, entryOf}
-use Rattle.edit_causal.specs.Conflict.{doConflict}
+use Rattle.edit_causal.specs.Conflict.{doConflict, conflictsWith}
 use Rattle.edit_history.specs.EditsHeld.{mostRecords, countFrom, isSetOn, setsOn, isTarget, objectOf}
-use Rattle.edit_history.specs.EditsHeld.{conflictsWith}
 use Rattle.edit_history.specs.Answers2to5.{tears, isTorn}
 use Rattle.edit_history.specs.declared.Surveyed.{Surveyed}
 

@@ -5,3 +5,4 @@ pub mod EntriesPastSites
 pub mod RoundTrip
 pub mod WellFormed
 pub mod AgreeingBytes
+pub mod RecordSpans

@@ -4,7 +4,7 @@ use mathlib.Core.List.{List, [], _∷_, _++_}
 use lib.ListN.{getD, drop}
 use Rattle.edit_record.specs.declared.Edit.{Edit}
 use Rattle.edit_record.specs.Layout.{mostSites, kindAt, siteAt, seqAt, vectorAt, targetAt, keyAt, targetSeqAt}
-use Rattle.edit_record.specs.Layout.{valueAt}
+use Rattle.edit_record.specs.Layout.{valueAt, recordLength}
 
 -- ---- numbers in bytes
 
@@ -44,6 +44,10 @@ abbrev pub encodeOf : Edit → List ℕ
 encodeOf e =
     (e .kind ∷ e .site .0 ∷ countBytes (e .seq .0 ∷ e .vector))
     ++ (e .tsite .0 ∷ e .key ∷ countBytes (e .tseq .0 ∷ e .value % 65536 ∷ e .value / 65536 ∷ []))
+
+-- the bytes of the record at the front of s: as many for every kind
+unfoldable pub spanOf : List ℕ → ℕ
+spanOf s = recordLength
 
 -- stands for an edit past the end of a list: it has zeros alone
 abbrev pub noEdit : Edit

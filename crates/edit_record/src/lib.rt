@@ -4,7 +4,7 @@ ghost use Prim.Native.Nat.{ℕ, _+_, _*_, _≤_, _<_, _^_};
 ghost use mathlib.Core.List.{[], _∷_, _++_};
 ghost use lib.ListN.{length, getD, take, drop};
 ghost use Rattle.edit_record.specs.Layout.{mostSites, vectorAt, targetAt, recordLength};
-ghost use Rattle.edit_record.specs.RecordBytes.{two, counts, countBytes, decodeOf, encodeOf};
+ghost use Rattle.edit_record.specs.RecordBytes.{two, counts, countBytes, decodeOf, encodeOf, spanOf};
 ghost use Rattle.edit_record.specs.Answer1.{isLayer, isAimed, entryOf, nonzeroPast, lastEightZero, unfit};
 ghost use Rattle.edit_record.specs.Answer1.{malformed};
 
@@ -91,6 +91,13 @@ pub fn pair_at(s: &[u8], i: usize) -> u16
     ensures { λ r. ⌜ r ≡ two (now (s .entry)) i ⌝ }
 {
     both(s[i], s[i + 1])
+}
+
+// The bytes of the record at the front of rec: as many for every kind.
+pub fn span_of(rec: &[u8]) -> usize
+    ensures { λ r. ⌜ r ≡ spanOf (now (rec .entry)) ⌝ }
+{
+    RECORD
 }
 
 // The vector of a record that is there whole.

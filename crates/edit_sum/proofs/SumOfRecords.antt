@@ -8,12 +8,12 @@ use lib.ListN.{drop}
 use lib.Seq.{getD-drop}
 use Rattle.math_lists.specs.NumbersBelow.{sum}
 use Rattle.edit_record.specs.declared.Edit.{Edit}
-use Rattle.edit_record.specs.Layout.{recordLength}
-use Rattle.edit_record.specs.RecordBytes.{counts, decodeOf}
+use Rattle.edit_record.specs.Layout.{placeLength}
+use Rattle.edit_record.specs.RecordBytes.{counts, decodeOf, spanOf}
 use Rattle.edit_history.specs.EditsHeld.{recordAt, editsOf}
-use Rattle.edit_sum.specs.WordSum.{recordWords, wordAt, wrapped, sumOf}
+use Rattle.edit_sum.specs.WordSum.{recordWords, wordAt, wrapped, sumOf, wordsAt, sumHeld}
 use Rattle.edit_sum.specs.SumOfEdits.{wordsIn, wordsOver, sumOver}
-use Rattle.edit_sum.proofs.WordsAdded.{words-add, both-early}
+use Rattle.edit_sum.proofs.WordsAdded.{both-early}
 
 -- ---- lists one after the other
 
@@ -29,30 +29,25 @@ joined-sum es fs = ap wrapped (words-joined es fs) ∙ both-early (wordsOver es)
 
 -- ---- the words of records
 
-record-words : (s : List ℕ) → sum recordWords (wordAt s) ≡ wordsIn (decodeOf s)
-unfolding sum wordsIn counts
+record-words : (s : List ℕ) → sum (recordWords s) (wordAt s) ≡ wordsIn (decodeOf s)
+unfolding sum wordsIn counts spanOf
 record-words s = simp getD-drop (omega arith)
 
-held-words : (rs : List ℕ) (n : ℕ) → sum (n * recordWords) (wordAt rs) ≡ wordsOver (editsOf rs n)
+held-words : (rs : List ℕ) (n : ℕ) → sum n (wordsAt rs) ≡ wordsOver (editsOf rs n)
 unfolding sum wordsOver editsOf
 held-words rs zero = refl
 held-words rs (suc n) =
-    let more : suc n * recordWords ≡ n * recordWords + recordWords = omega arith in
-    let at : n * recordWords * 4 ≡ n * recordLength = omega arith in
     rw (
-      more,
       words-joined (editsOf rs n) (recordAt rs n ∷ []),
-      words-add (n * recordWords) recordWords rs,
       held-words rs n,
-      at,
-      record-words (drop (n * recordLength) rs),
+      record-words (drop (n * placeLength) rs),
     ) (omega arith)
 
 -- the sum of the words of the first n records is the sum over their edits
-pub held-sum : (rs : List ℕ) (n : ℕ) → sumOf (n * recordWords) rs ≡ sumOver (editsOf rs n)
-unfolding sumOf sumOver
+pub held-sum : (rs : List ℕ) (n : ℕ) → sumHeld n rs ≡ sumOver (editsOf rs n)
+unfolding sumHeld sumOver
 held-sum rs n = ap wrapped (held-words rs n)
 
-pub record-sum : (b : List ℕ) → sumOf recordWords b ≡ sumOver (decodeOf b ∷ [])
+pub record-sum : (b : List ℕ) → sumOf (recordWords b) b ≡ sumOver (decodeOf b ∷ [])
 unfolding sumOf sumOver wordsOver
 record-sum b = ap wrapped (record-words b ∙ omega arith)

@@ -1,4 +1,4 @@
--- Words added up: one word more, words behind others, and words that are zero. Assumes nothing.
+-- Words added up: one word more, one record more, words behind others, and words that are zero. Assumes nothing.
 use mathlib.Core.Path.{_≡_, refl, sym, ap, ap₂, _∙_}
 use mathlib.Core.List.{List, _++_}
 use Prim.Native.Nat.{ℕ, zero, suc, _+_, _*_, _^_, _<_}
@@ -9,9 +9,10 @@ use lib.Seq.{drop-at}
 use Rattle.math_lists.specs.NumbersBelow.{sum}
 use Rattle.math_lists.proofs.NumbersBelow.{sum-same}
 use Rattle.math_lists.proofs.ByPlaces.{zero-anywhere}
+use Rattle.edit_record.specs.Layout.{placeLength}
 use Rattle.edit_record.specs.RecordBytes.{two}
 use Rattle.edit_record.proofs.NumbersInBytes.{two-drop}
-use Rattle.edit_sum.specs.WordSum.{wordLength, wordAt, wrapped, sumOf}
+use Rattle.edit_sum.specs.WordSum.{wordLength, recordWords, wordAt, wrapped, sumOf, wordsAt, sumHeld}
 
 -- ---- wrapped numbers
 
@@ -27,6 +28,14 @@ both-early a b = add-mod a b (2 ^ 32)
 pub sum-more : (n : ℕ) (s : List ℕ) → wrapped (sumOf n s + wordAt s n) ≡ sumOf (suc n) s
 unfolding sumOf sum
 sum-more n s = wrapped-early (sum n (wordAt s)) (wordAt s n)
+
+-- and one record
+pub record-more :
+    (n : ℕ) (rs : List ℕ) →
+    let place = drop (n * placeLength) rs in
+    wrapped (sumHeld n rs + sumOf (recordWords place) place) ≡ sumHeld (suc n) rs
+unfolding sumHeld sumOf sum
+record-more n rs = sym (both-early (sum n (wordsAt rs)) (wordsAt rs n))
 
 -- ---- words behind others
 

@@ -1,18 +1,18 @@
 -- The sum of document 02's Req 11: a word is four bytes, little-endian, from a record's start; words are added up and
--- the sum wraps at the top of 32 bits. Records that stand one behind the other have the words of each, since a record
--- is a whole number of words. Assumes nothing.
+-- the sum wraps at the top of 32 bits. A record is a whole number of words. Assumes nothing.
 use mathlib.Core.List.{List}
 use Prim.Native.Nat.{ℕ, _*_, _/_, _%_, _^_}
+use lib.ListN.{drop}
 use Rattle.math_lists.specs.NumbersBelow.{sum}
-use Rattle.edit_record.specs.Layout.{recordLength}
-use Rattle.edit_record.specs.RecordBytes.{four}
+use Rattle.edit_record.specs.Layout.{placeLength}
+use Rattle.edit_record.specs.RecordBytes.{four, spanOf}
 
--- the bytes of a word, and the words of a record
+-- the bytes of a word, and how many words the record at the front of s has
 abbrev pub wordLength : ℕ
 wordLength = 4
 
-abbrev pub recordWords : ℕ
-recordWords = recordLength / wordLength
+abbrev pub recordWords : List ℕ → ℕ
+recordWords s = spanOf s / wordLength
 
 -- the word that starts i words from the front
 abbrev pub wordAt : List ℕ → ℕ → ℕ
@@ -25,3 +25,12 @@ wrapped n = n % 2 ^ 32
 -- the first n words added up, wrapped
 unfoldable pub sumOf : ℕ → List ℕ → ℕ
 sumOf n s = wrapped (sum n (wordAt s))
+
+-- the words of the records in the first n places of a table added up, wrapped
+abbrev pub wordsAt : List ℕ → ℕ → ℕ
+wordsAt rs p =
+    let place = drop (p * placeLength) rs in
+    sum (recordWords place) (wordAt place)
+
+unfoldable pub sumHeld : ℕ → List ℕ → ℕ
+sumHeld n rs = wrapped (sum n (wordsAt rs))

@@ -1,14 +1,14 @@
 // The sum of document 02's Req 11: the words of the records, added up and wrapped at 32 bits.
-use edit_record::RECORD;
+use edit_record::PLACE;
 ghost use mathlib.Core.Path.{_≡_};
 ghost use Prim.Native.Nat.{_*_, _+_, _≤_};
 ghost use lib.ListN.{length};
-ghost use Rattle.edit_sum.specs.WordSum.{wordLength, wordAt, wrapped, sumOf};
+ghost use Rattle.edit_record.specs.Layout.{placeLength};
+ghost use Rattle.edit_record.specs.RecordBytes.{spanOf};
+ghost use Rattle.edit_sum.specs.WordSum.{wordLength, recordWords, wordAt, wrapped, sumOf, sumHeld};
 
-// The bytes of a word, and the words of a record.
+// The bytes of a word.
 const WORD: usize = 4;
-
-pub const WORDS: usize = RECORD / WORD;
 
 // The word that starts i words from the front.
 fn word_at(s: &[u8], i: usize) -> u32
@@ -28,7 +28,7 @@ pub fn added(a: u32, b: u32) -> u32
 }
 
 // The first n words added up, wrapped at the top.
-pub fn sum_words(s: &[u8], n: usize) -> u32
+fn sum_words(s: &[u8], n: usize) -> u32
     requires { ⌜ n * wordLength ≤ length (now s) ⌝ }
     ensures { λ r. ⌜ r ≡ sumOf n (now (s .entry)) ⌝ }
 {
@@ -36,6 +36,29 @@ pub fn sum_words(s: &[u8], n: usize) -> u32
     let mut i: usize = 0;
     while i < n {
         sum = added(sum, word_at(s, i));
+        i += 1;
+    }
+    sum
+}
+
+// The words of the record at the front of rec added up, wrapped at the top.
+pub fn sum_record(rec: &[u8]) -> u32
+    requires { ⌜ spanOf (now rec) ≤ length (now rec) ⌝ }
+    ensures { λ r. ⌜ r ≡ sumOf (recordWords (now (rec .entry))) (now (rec .entry)) ⌝ }
+{
+    sum_words(rec, edit_record::span_of(rec) / WORD)
+}
+
+// The words of the first n records of a table added up, wrapped at the top.
+pub fn sum_records(recs: &[u8], n: usize) -> u32
+    requires { ⌜ n * placeLength ≤ length (now recs) ⌝ }
+    ensures { λ r. ⌜ r ≡ sumHeld n (now (recs .entry)) ⌝ }
+{
+    let mut sum: u32 = 0;
+    let mut i: usize = 0;
+    while i < n {
+        let at = i * PLACE;
+        sum = added(sum, sum_record(&recs[at..]));
         i += 1;
     }
     sum

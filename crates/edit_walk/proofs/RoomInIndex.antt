@@ -1,10 +1,10 @@
 -- Room in the index for the edits of each site: two edits have two slots, none of which is a start, so that putting a
 -- place into one leaves the others as they are. The starts that count the edits leave room for them. Assumes nothing.
-use mathlib.Core.Path.{_≡_, refl, ap, _∙_}
+use mathlib.Core.Path.{_≡_, ap, _∙_}
 use mathlib.Core.Logic.{inl, inr}
 use mathlib.Core.Bool.{Bool, true, false, cond}
 use mathlib.Core.List.{List, [], _∷_}
-use Prim.Native.Nat.{ℕ, zero, suc, _+_, _≤_, _<_}
+use Prim.Native.Nat.{ℕ, suc, _+_, _≤_, _<_}
 use native.Mathlib.Omega.{arith}
 use native.Mathlib.Decide.{decLt}
 use lib.Dec.{eqb, ltb}
@@ -98,7 +98,8 @@ counts-few (e ∷ es) k =
     first s true = omega arith
     first s false = omega arith
 
-    go : (b : Bool) → sum k (λ s. countFrom s es) ≤ length es → sum k (λ s. countFrom s es) + cond b 1 0 ≤ suc (length es)
+    go : (b : Bool) → sum k (λ s. countFrom s es) ≤ length es →
+        sum k (λ s. countFrom s es) + cond b 1 0 ≤ suc (length es)
     go true h = omega arith
     go false h = omega arith
 

@@ -5,33 +5,8 @@ use group_step::GROUPS;
 ghost use mathlib.Core.Path.{_≡_};
 ghost use Prim.Native.Nat.{_+_, _-_, _^_, _≤_, _<_};
 ghost use lib.ListN.{length};
-ghost use lib.Bits.{bitAnd};
-ghost use Rattle.math_maximal.specs.Groups.{bit};
 ghost use Rattle.group_step.specs.GroupRows.{mostGroups, mostSets, settled};
 ghost use Rattle.group_engine.specs.SearchForms.{Conflicts, byMasks, lost, Partial, Found, countTold};
-
-// Whether Set i is a member of g.
-fn has(g: u64, i: usize) -> bool
-    requires { ⌜ i < mostSets ⌝ }
-    ensures { λ r. ⌜ r ≡ bit g i ⌝ }
-{
-    (g >> i) % 2 == 1
-}
-
-// The number whose one member is Set i.
-fn only(i: usize) -> u64
-    requires { ⌜ i < mostSets ⌝ }
-    ensures { λ r. ⌜ r ≡ 2 ^ i ⌝ }
-{
-    1 << i
-}
-
-// The members of g that are not in m.
-fn without(g: u64, m: u64) -> u64
-    ensures { λ r. ⌜ r ≡ g - bitAnd g m ⌝ }
-{
-    g - (g & m)
-}
 
 // Whether some Set from u on, of n, is not in `taken` and conflicts with no member of `reach`.
 fn is_lost(conflicts: &[u64], n: usize, u: usize, taken: u64, reach: u64) -> bool
@@ -40,7 +15,7 @@ fn is_lost(conflicts: &[u64], n: usize, u: usize, taken: u64, reach: u64) -> boo
 {
     let mut i = u;
     while i < n {
-        if !has(taken, i) & (reach & conflicts[i] == 0) {
+        if !group_step::has(taken, i) & (reach & conflicts[i] == 0) {
             return true;
         }
         i += 1;
@@ -83,12 +58,12 @@ fn decide_rest(
         return found + 1;
     }
     let k = undecided - 1;
-    let bit = only(k);
-    let rest = without(may, bit);
-    let fit = without(rest, conflicts[k]);
+    let bit = group_step::only(k);
+    let rest = group_step::without(may, bit);
+    let fit = group_step::without(rest, conflicts[k]);
     let with = taken + bit;
     let next = decide_rest(conflicts, n, k, taken, rest, found, out);
-    if !has(may, k) {
+    if !group_step::has(may, k) {
         return next;
     }
     decide_rest(conflicts, n, k, with, fit, next, out)
@@ -106,7 +81,7 @@ pub fn enumerate(conflicts: &[u64], n: usize, out: &mut [u64]) -> usize
         × (now (out .exit) ≡ settled (byMasks (now (conflicts .entry)) n) (now (out .entry))) ⌝ }
 {
     let mut row = [0u64; GROUPS];
-    let r = decide_rest(conflicts, n, n, 0, only(n) - 1, 0, &mut row);
+    let r = decide_rest(conflicts, n, n, 0, group_step::only(n) - 1, 0, &mut row);
     if GROUPS < r {
         return r;
     }

@@ -1,26 +1,28 @@
 -- The Sets of an object, ms, and more that arrive after them: what is in dispute stays so, and two versions are never
--- found in one later version, not even by their members in dispute alone. Of conflict nothing enters but that it is
--- symmetric and irreflexive. Assumes nothing.
+-- found in one later version, not even by their members in dispute alone. Dispute is document 01's conflict of two
+-- edits; that groups are told apart by it is `known-by-disputed`. Assumes nothing.
 use mathlib.Core.Path.{_≡_, _∙_}
-use mathlib.Core.Bool.{true, _&&_}
+use mathlib.Core.Bool.{true, false, _&&_}
 use mathlib.Core.List.{List, _++_}
 use Prim.Native.Nat.{ℕ, _<_}
 use native.Mathlib.Omega.{arith}
 use lib.ListN.{length, getD, length-append, List·getD-append}
 use Rattle.math_lists.specs.SortedLists.{any, elem}
-use Rattle.math_lists.proofs.Booleans.{both, and-on, or-left}
+use Rattle.math_lists.proofs.Booleans.{clash, off, both, and-on, or-left}
 use Rattle.math_lists.proofs.Elements.{any-append}
 use Rattle.math_lists.proofs.NumbersBelow.{keep-at, keep-on}
 use Rattle.math_lists.proofs.ByPlaces.{any-place-on}
 use Rattle.edit_record.specs.declared.Edit.{Edit}
-use Rattle.edit_causal.specs.Conflict.{doConflict}
-use Rattle.edit_causal.proofs.CausalLaws.{conflict-symmetric, conflict-irreflexive}
-use Rattle.math_maximal.specs.MaximalSets.{_⊆_}
-use Rattle.math_maximal.specs.Groups.{bit}
-use Rattle.math_maximal.specs.GroupsByArrival.{rel, groupsOf}
-use Rattle.math_maximal.proofs.GroupsGrow.{members-arrived, never-in-one-later}
+use Rattle.edit_causal.specs.Conflict.{doConflict, conflictsIn}
+use Rattle.edit_causal.proofs.CausalLaws.{conflict-symmetric}
+use Rattle.edit_causal.proofs.ConflictsAmongSets.{conflicts-turned, conflict-plainly}
+use Rattle.math_maximal.specs.MaximalSets.{_∈_, _⊆_}
+use Rattle.math_maximal.specs.Groups.{bit, every}
+use Rattle.math_maximal.proofs.MoreElements.{one-group}
 use Rattle.edit_record.specs.RecordBytes.{noEdit}
+use Rattle.group_true.specs.TrueGroups.{groupsOf}
 use Rattle.group_true.specs.Disputed.{isDisputed, disputedOf}
+use Rattle.group_true.proofs.GroupsGrow.{members-arrived, members-free}
 
 -- ---- in dispute
 
@@ -55,6 +57,17 @@ module _ (ms : List Edit) where
       let (b, h) = both (bit g i) (isDisputed ms (getD ms i noEdit)) p in
       (l, b, h)
 
+-- ---- two groups of the same Sets
+
+-- if no member of one is in dispute with a member of the other they are one
+known-by-disputed :
+    (ms : List Edit) (g h : ℕ) → elem g (groupsOf ms) ≡ true → elem h (groupsOf ms) ≡ true →
+    ((i j : ℕ) → i ∈ bit g → j ∈ bit h → doConflict (getD ms i noEdit) (getD ms j noEdit) ≡ false) → g ≡ h
+unfolding groupsOf
+known-by-disputed ms g h eg eh none =
+    one-group (conflictsIn ms) (length ms) every g h eg eh
+    (λ i j b x. let c = conflict-plainly ms i j (none i j b x) in (c, conflicts-turned ms j i ∙ c))
+
 -- ---- more Sets
 
 module _ (ms more : List Edit) where
@@ -73,17 +86,15 @@ module _ (ms more : List Edit) where
 
   -- two versions are never found in one
   pub versions-never-in-one :
-      (g h k : ℕ) → elem g (groupsOf noEdit doConflict ms) ≡ true → elem h (groupsOf noEdit doConflict ms) ≡ true →
-      elem k (groupsOf noEdit doConflict ns) ≡ true → ((i : ℕ) → elem i (disputedOf ms g) ≡ true → bit k i ≡ true) →
+      (g h k : ℕ) → elem g (groupsOf ms) ≡ true → elem h (groupsOf ms) ≡ true → elem k (groupsOf ns) ≡ true →
+      ((i : ℕ) → elem i (disputedOf ms g) ≡ true → bit k i ≡ true) →
       ((i : ℕ) → elem i (disputedOf ms h) ≡ true → bit k i ≡ true) → g ≡ h
   versions-never-in-one g h k eg eh ek into into′ =
-      never-in-one-later noEdit doConflict conflict-symmetric conflict-irreflexive ms more g h k eg eh ek
-      (λ i j b l r. into i (disputed g eg i j b l r)) (λ i j b l r. into′ i (disputed h eh i j b l r))
-    where
-      disputed :
-          (g : ℕ) → elem g (groupsOf noEdit doConflict ms) ≡ true → (i j : ℕ) → bit g i ≡ true → j < length ms →
-          rel noEdit doConflict ns i j ≡ true → elem i (disputedOf ms g) ≡ true
-      disputed g e i j b l r = unfold rel in
-          let m : i < length ms = members-arrived noEdit doConflict ms g e i b in
-          disputed-on ms g i m b
-          (disputed-by ms (getD ms i noEdit) j l (rw (← same-there i m, ← same-there j l) r))
+      known-by-disputed ms g h eg eh (λ i j b x. off (doConflict (getD ms i noEdit) (getD ms j noEdit)) (λ c.
+      let l : i < length ms = members-arrived ms g eg i b in
+      let m : j < length ms = members-arrived ms h eh j x in
+      let back : doConflict (getD ms j noEdit) (getD ms i noEdit) ≡ true
+      = conflict-symmetric (getD ms j noEdit) (getD ms i noEdit) ∙ c in
+      let ki = into i (disputed-on ms g i l b (disputed-by ms (getD ms i noEdit) j m c)) in
+      let kj = into′ j (disputed-on ms h j m x (disputed-by ms (getD ms j noEdit) i l back)) in
+      clash c (rw (same-there i l, same-there j m) at (members-free ns k ek i j ki kj))))

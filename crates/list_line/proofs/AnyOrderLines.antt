@@ -13,20 +13,19 @@ use Rattle.math_lists.specs.SortedLists.{elem, filter, Asc}
 use Rattle.math_lists.proofs.Booleans.{clash}
 use Rattle.math_lists.proofs.Elements.{elem→mem, mem→elem}
 use Rattle.edit_record.specs.declared.Edit.{Edit}
-use Rattle.edit_causal.specs.Conflict.{doConflict}
+use Rattle.edit_causal.specs.Conflict.{conflictsIn}
 use Rattle.math_maximal.specs.Groups.{every}
-use Rattle.math_maximal.specs.GroupsByArrival.{rel, groupsOf}
 use Rattle.math_maximal.proofs.Groups.{groups-ascending}
-use Rattle.math_maximal.proofs.GroupsByArrival.{setOf, Distinct}
+use Rattle.math_maximal.proofs.AnotherOrder.{setOf, Distinct}
 use Rattle.math_maximal.proofs.Renumbered.{Keys}
 use Rattle.edit_history.specs.EditsHeld.{isSetOn, setsOn}
 use Rattle.edit_record.specs.RecordBytes.{noEdit}
-use Rattle.group_true.specs.TrueGroups.{trueGroups}
-use Rattle.demand_any_order.specs.Rearranged.{Mem, Rearranged}
+use Rattle.group_true.specs.TrueGroups.{groupsOf, trueGroups}
+use Rattle.math_lists.specs.Rearranged.{Mem, Rearranged}
 use Rattle.demand_any_order.specs.Settled.{Differ, Apart}
 use Rattle.demand_any_order.specs.EqualEdits.{isEqual}
-use Rattle.demand_any_order.proofs.Rearranged.{turned, unchanged, same-members, chosen-rearranged}
-use Rattle.demand_any_order.proofs.PairsInList.{pairs-made, pairs-weaken, pairs-rearranged}
+use Rattle.math_lists.proofs.Rearranged.{turned, unchanged, same-members, chosen-rearranged}
+use Rattle.math_lists.proofs.PairsInList.{pairs-made, pairs-weaken, pairs-rearranged}
 use Rattle.demand_any_order.proofs.Identities.{differ-turned, sets-distinct}
 use Rattle.demand_any_order.proofs.SameGroups.{same-keys}
 use Rattle.list_version.specs.Identifier.{seqNumbers, identifierOf}
@@ -58,7 +57,7 @@ module _ (c : Edit) (ms : List Edit) where
   printed g = (identifierOf ms g, versionLine c ms g)
 
   abbrev gs : List ℕ
-  gs = groupsOf noEdit doConflict ms
+  gs = groupsOf ms
 
   abbrev entries : List Printed
   entries = map printed (versionsOf ms gs)
@@ -83,7 +82,7 @@ module _ (c : Edit) (ms : List Edit) where
             let less : g < h = ltb-true g h l in
             absurd (omega arith))
       ])
-      (versions-sorted ms gs (groups-ascending (rel noEdit doConflict ms) (length ms) every)))
+      (versions-sorted ms gs (groups-ascending (conflictsIn ms) (length ms) every)))
 
   entries-keys : (key : ℕ → Printed) → ((g : ℕ) → printed g ≡ key g) → Keys key gs entries
   entries-keys key e x = (
@@ -133,7 +132,7 @@ module _ (es fs : List Edit) (r : Rearranged es fs) (u : Apart es) (small : Numb
   any-order-lines =
       lines-are c ms
       ∙ ap (map (λ (p : Printed). p .1))
-      (same-keys Ahead ahead-irreflexive ahead-through key es fs r u c (entries c ms) (entries c ns)
+      (same-keys es fs r u c Ahead ahead-irreflexive ahead-through key (entries c ms) (entries c ns)
       (entries-sorted c ms (names-apart es u small c))
       (entries-sorted c ns (names-apart fs v (λ e m. small e (same-members (turned r) e m)) c))
       (entries-keys c ms (λ g. key (setOf isEqual ms g)) (key-is ms (sets-distinct es u c) (unchanged ms)))

@@ -13,14 +13,14 @@ use Rattle.edit_record.specs.declared.Edit.{Edit}
 use Rattle.edit_record.specs.Layout.{keys}
 use Rattle.edit_causal.specs.Conflict.{doConflict}
 use Rattle.math_maximal.specs.Groups.{bit}
-use Rattle.math_maximal.proofs.GroupsByArrival.{setOf, Distinct, has-at, place-of}
+use Rattle.math_maximal.proofs.AnotherOrder.{setOf, Distinct, has-at, place-of}
 use Rattle.edit_record.specs.RecordBytes.{noEdit}
 use Rattle.group_true.specs.Disputed.{isDisputed}
 use Rattle.list_text.specs.Pieces.{space, newline, dotted}
-use Rattle.demand_any_order.specs.Rearranged.{Rearranged}
+use Rattle.math_lists.specs.Rearranged.{Rearranged}
 use Rattle.demand_any_order.specs.EqualEdits.{isEqual}
 use Rattle.demand_any_order.proofs.Identities.{equal-at, equal-self}
-use Rattle.demand_any_order.proofs.Rearranged.{turned, any-rearranged, chosen-rearranged, made-rearranged}
+use Rattle.math_lists.proofs.Rearranged.{turned, any-rearranged, chosen-rearranged, made-rearranged}
 use Rattle.list_version.specs.Identifier.{nameOf, identifierOf}
 use Rattle.list_version.specs.Members.{membersOf}
 use Rattle.list_version.specs.Values.{hasKey, lastAfter, lastWith}

@@ -16,8 +16,8 @@ use Rattle.edit_causal.specs.TotalOrder.{ranksBefore}
 use Rattle.edit_history.specs.EditsHeld.{creates}
 use Rattle.table_drawing.specs.Tables.{Tables, heldBy}
 use Rattle.table_soundness.proofs.SoundFacts.{Sound}
-use Rattle.demand_any_order.specs.Rearranged.{Mem}
-use Rattle.demand_any_order.proofs.ListMembers.{here, chosen-at}
+use Rattle.math_lists.specs.Rearranged.{Mem}
+use Rattle.math_lists.proofs.ListMembers.{here, chosen-at}
 use Rattle.list_version.proofs.RanksStrict.{held-ranked}
 use Rattle.list_order.specs.Layers.{isOn, inOrder, lastOn, deciding}
 use Rattle.list_order.specs.LayerForms.{goesBefore, rankOf, ranks, keyOf}

@@ -11,14 +11,14 @@ use Rattle.edit_record.specs.declared.Edit.{Edit}
 use Rattle.edit_record.specs.Answer1.{isCreate, isTop}
 use Rattle.edit_causal.specs.TotalOrder.{ranksBefore}
 use Rattle.edit_history.specs.EditsHeld.{creates}
-use Rattle.demand_any_order.specs.Rearranged.{Rearranged, then}
+use Rattle.math_lists.specs.Rearranged.{Rearranged, then}
 use Rattle.demand_any_order.specs.Settled.{Apart}
-use Rattle.demand_any_order.proofs.Rearranged.{turned, same-members, chosen-rearranged}
-use Rattle.demand_any_order.proofs.PairsInList.{pairs-rearranged}
+use Rattle.math_lists.proofs.Rearranged.{turned, same-members, chosen-rearranged}
+use Rattle.math_lists.proofs.PairsInList.{pairs-rearranged}
 use Rattle.list_version.proofs.RanksStrict.{not-itself, ranks-through}
 use Rattle.list_order.specs.Layers.{inOrder, lastOn, deciding, standing}
 use Rattle.list_order.specs.Moves.{layeredOrder}
-use Rattle.list_order.proofs.PutTogether.{gathered-rearranged}
+use Rattle.math_lists.proofs.PutTogether.{gathered-rearranged}
 use Rattle.list_order.proofs.Comparing.{one-way-turned}
 use Rattle.list_order.proofs.Standing.{standing-any-order}
 use Rattle.list_order.proofs.Deciding.{Ranked, AllRanked, counted-sorted, deciding-ranked}

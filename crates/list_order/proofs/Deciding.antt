@@ -15,15 +15,15 @@ use Rattle.edit_causal.specs.TotalOrder.{ranksBefore}
 use Rattle.edit_causal.proofs.Identities.{same-parts}
 use Rattle.edit_causal.proofs.CausalLaws.{same-reflexive}
 use Rattle.edit_history.specs.EditsHeld.{creates}
-use Rattle.demand_any_order.specs.Rearranged.{Mem}
+use Rattle.math_lists.specs.Rearranged.{Mem}
 use Rattle.demand_any_order.specs.Settled.{Differ, Apart}
-use Rattle.demand_any_order.proofs.Rearranged.{turned, same-members}
-use Rattle.demand_any_order.proofs.ListMembers.{chosen-at, chosen-on}
-use Rattle.demand_any_order.proofs.PairsInList.{pairs-two, pairs-chosen, pairs-weaken}
+use Rattle.math_lists.proofs.Rearranged.{turned, same-members}
+use Rattle.math_lists.proofs.ListMembers.{chosen-at, chosen-on}
+use Rattle.math_lists.proofs.PairsInList.{pairs-two, pairs-chosen, pairs-weaken}
 use Rattle.list_version.proofs.RanksStrict.{ranks-through}
 use Rattle.list_order.specs.Layers.{isOn, inOrder, lastOn, deciding}
-use Rattle.list_order.proofs.Choices.{pairs-unmade}
-use Rattle.list_order.proofs.PutTogether.{gathered-rearranged}
+use Rattle.math_lists.proofs.Choices.{pairs-unmade}
+use Rattle.math_lists.proofs.PutTogether.{gathered-rearranged}
 use Rattle.list_order.proofs.Comparing.{one-way-turned, create-not-top}
 use Rattle.list_order.proofs.Standing.{OneRanks}
 

@@ -22,9 +22,10 @@ use Rattle.edit_history.proofs.EditsHeld.{count-few}
 use Rattle.table_drawing.specs.Tables.{Tables, placeAt, heldBy}
 use Rattle.table_soundness.proofs.SoundFacts.{Sound}
 use Rattle.table_arrival.proofs.ObjectsByNumber.{object-create}
-use Rattle.demand_any_order.specs.Rearranged.{Mem}
-use Rattle.demand_any_order.proofs.ListMembers.{chosen-at}
-use Rattle.list_version.proofs.NeverShared.{edit-in, held-apart}
+use Rattle.math_lists.specs.Rearranged.{Mem}
+use Rattle.math_lists.proofs.ListMembers.{chosen-at}
+use Rattle.edit_history.proofs.EditsByPlaces.{edit-in}
+use Rattle.list_version.proofs.NeverShared.{held-apart}
 use Rattle.list_version.proofs.MembersByTest.{map-keep-same, all-places}
 use Rattle.list_version.proofs.RanksStrict.{held-ranked}
 use Rattle.list_order.specs.Layers.{deciding, standing}

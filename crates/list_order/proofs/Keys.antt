@@ -16,7 +16,7 @@ use Rattle.edit_record.specs.declared.Edit.{Edit}
 use Rattle.edit_record.specs.Answer1.{isTop}
 use Rattle.edit_record.specs.Layout.{mostSites, twoBytes}
 use Rattle.edit_causal.specs.TotalOrder.{vectorSum, ranksBefore}
-use Rattle.demand_any_order.specs.Rearranged.{Mem}
+use Rattle.math_lists.specs.Rearranged.{Mem}
 use Rattle.list_version.specs.Identifier.{siteNumbers}
 use Rattle.list_version.proofs.Names.{two-in-one}
 use Rattle.list_order.specs.Layers.{standing}

@@ -1,5 +1,3 @@
-pub mod Choices
-pub mod PutTogether
 pub mod Comparing
 pub mod Standing
 pub mod Deciding

@@ -11,16 +11,16 @@ use Rattle.edit_record.specs.declared.Edit.{Edit}
 use Rattle.edit_record.specs.Answer1.{isCreate, isTop}
 use Rattle.edit_causal.specs.TotalOrder.{ranksBefore}
 use Rattle.edit_history.specs.EditsHeld.{creates}
-use Rattle.demand_any_order.specs.Rearranged.{Mem, Rearranged, then}
+use Rattle.math_lists.specs.Rearranged.{Mem, Rearranged, then}
 use Rattle.demand_any_order.specs.Settled.{Apart}
-use Rattle.demand_any_order.proofs.Rearranged.{unchanged, turned, same-members}
-use Rattle.demand_any_order.proofs.ListMembers.{here, chosen-at}
-use Rattle.demand_any_order.proofs.PairsInList.{pairs-chosen, pairs-weaken}
+use Rattle.math_lists.proofs.Rearranged.{unchanged, turned, same-members}
+use Rattle.math_lists.proofs.ListMembers.{here, chosen-at}
+use Rattle.math_lists.proofs.PairsInList.{pairs-chosen, pairs-weaken}
 use Rattle.demand_any_order.proofs.Identities.{one-edit}
 use Rattle.list_order.specs.Layers.{isOn, inOrder, lastOn, deciding}
 use Rattle.list_order.specs.Moves.{layeredOrder, without, alone, move, moves, moved}
-use Rattle.list_order.proofs.Choices.{pairs-append}
-use Rattle.list_order.proofs.PutTogether.{gathered-rearranged, two-parts}
+use Rattle.math_lists.proofs.Choices.{pairs-append}
+use Rattle.math_lists.proofs.PutTogether.{gathered-rearranged, two-parts}
 use Rattle.list_order.proofs.Comparing.{not-before-itself, create-not-top, level-before, top-last}
 use Rattle.list_order.proofs.Standing.{Goes, one-standing, standing-rearranged, standing-goes}
 use Rattle.list_order.proofs.Deciding.{Ranked, AllRanked, counted-sorted, counted-at, one-aim, deciding-ranked}

@@ -14,11 +14,11 @@ use Rattle.edit_record.specs.Layout.{createKind, topKind, bottomKind}
 use Rattle.edit_record.specs.Answer1.{isCreate, isTop, isBottom, isLayer}
 use Rattle.edit_causal.specs.TotalOrder.{ranksBefore}
 use Rattle.edit_history.specs.EditsHeld.{creates}
-use Rattle.demand_any_order.specs.Rearranged.{Mem}
-use Rattle.demand_any_order.proofs.ListMembers.{any-on, chosen-at}
+use Rattle.math_lists.specs.Rearranged.{Mem}
+use Rattle.math_lists.proofs.ListMembers.{any-on, chosen-at}
 use Rattle.list_order.specs.Layers.{inOrder, lastOn, deciding, byLast, standing}
 use Rattle.list_order.specs.Moves.{layeredOrder}
-use Rattle.list_order.proofs.Choices.{no-chosen, chosen-same, chosen-twice}
+use Rattle.math_lists.proofs.Choices.{no-chosen, chosen-same, chosen-twice}
 use Rattle.list_order.proofs.Deciding.{deciding-cases}
 
 -- ---- the order before

@@ -19,12 +19,12 @@ use Rattle.edit_causal.specs.TotalOrder.{ranksBefore}
 use Rattle.edit_causal.proofs.CausalLaws.{same-reflexive}
 use Rattle.edit_history.specs.EditsHeld.{creates}
 use Rattle.demand_any_order.specs.Settled.{Differ, Apart}
-use Rattle.demand_any_order.proofs.Rearranged.{same-members}
-use Rattle.demand_any_order.proofs.ListMembers.{here, chosen-at}
-use Rattle.demand_any_order.proofs.PairsInList.{pairs-front, pairs-cross}
+use Rattle.math_lists.proofs.Rearranged.{same-members}
+use Rattle.math_lists.proofs.ListMembers.{here, chosen-at}
+use Rattle.math_lists.proofs.PairsInList.{pairs-front, pairs-cross}
 use Rattle.list_order.specs.Layers.{isOn, inOrder, lastOn, deciding, standing}
 use Rattle.list_order.specs.Moves.{layeredOrder, without}
-use Rattle.list_order.proofs.Choices.{all-chosen, not-chosen-snoc}
+use Rattle.math_lists.proofs.Choices.{all-chosen, not-chosen-snoc}
 use Rattle.list_order.proofs.Comparing.{create-not-top}
 use Rattle.list_order.proofs.Standing.{standing-rearranged, chosen-keep-order}
 use Rattle.list_order.proofs.Deciding.{AllRanked, counted-sorted, deciding-ranked}

@@ -11,15 +11,15 @@ use Rattle.math_lists.proofs.PutInOrder.{OneWay, gathered-sorted, gathered-same
 use Rattle.edit_record.specs.declared.Edit.{Edit}
 use Rattle.edit_record.specs.Answer1.{isTop}
 use Rattle.edit_causal.specs.TotalOrder.{ranksBefore}
-use Rattle.demand_any_order.specs.Rearranged.{Mem, Rearranged, then}
-use Rattle.demand_any_order.proofs.Rearranged.{turned, same-members, chosen-rearranged}
-use Rattle.demand_any_order.proofs.ListMembers.{chosen-at}
-use Rattle.demand_any_order.proofs.PairsInList.{pairs-chosen, pairs-weaken, pairs-rearranged}
+use Rattle.math_lists.specs.Rearranged.{Mem, Rearranged, then}
+use Rattle.math_lists.proofs.Rearranged.{turned, same-members, chosen-rearranged}
+use Rattle.math_lists.proofs.ListMembers.{chosen-at}
+use Rattle.math_lists.proofs.PairsInList.{pairs-chosen, pairs-weaken, pairs-rearranged}
 use Rattle.list_version.proofs.RanksStrict.{ranks-through}
 use Rattle.list_order.specs.Layers.{byLast, standing}
 use Rattle.list_order.specs.LayerForms.{goesBefore}
-use Rattle.list_order.proofs.Choices.{chosen-same, chosen-made, pairs-append}
-use Rattle.list_order.proofs.PutTogether.{joined-rearranged, gathered-rearranged, two-parts}
+use Rattle.math_lists.proofs.Choices.{chosen-same, chosen-made, pairs-append}
+use Rattle.math_lists.proofs.PutTogether.{joined-rearranged, gathered-rearranged, two-parts}
 use Rattle.list_order.proofs.Comparing.{not-before-itself, goes-through, one-goes, one-way-turned}
 use Rattle.list_order.proofs.Comparing.{level-before, rest-first}
 

@@ -10,12 +10,12 @@ use Rattle.edit_record.specs.declared.Edit.{Edit}
 use Rattle.edit_record.specs.Answer1.{isCreate, isTop}
 use Rattle.edit_causal.specs.TotalOrder.{ranksBefore}
 use Rattle.edit_history.specs.EditsHeld.{creates}
-use Rattle.demand_any_order.specs.Rearranged.{Mem}
+use Rattle.math_lists.specs.Rearranged.{Mem}
 use Rattle.demand_any_order.specs.Settled.{Apart}
-use Rattle.demand_any_order.proofs.ListMembers.{chosen-at}
+use Rattle.math_lists.proofs.ListMembers.{chosen-at}
 use Rattle.list_order.specs.Layers.{inOrder, lastOn, deciding, byLast, standing}
 use Rattle.list_order.specs.Moves.{layeredOrder}
-use Rattle.list_order.proofs.Choices.{none-chosen, no-chosen, all-chosen}
+use Rattle.math_lists.proofs.Choices.{none-chosen, no-chosen, all-chosen}
 use Rattle.list_order.proofs.Comparing.{create-not-top}
 use Rattle.list_order.proofs.Standing.{standing-chosen}
 use Rattle.list_order.proofs.Deciding.{AllRanked, rest-by-create, deciding-ranked}

@@ -17,15 +17,13 @@ use Rattle.math_lists.proofs.Elements.{any-map, any-on, any-at, elem→mem, mem
 use Rattle.math_lists.proofs.SortedLists.{any-ascending}
 use Rattle.edit_record.specs.declared.Edit.{Edit}
 use Rattle.edit_record.specs.RecordBytes.{noEdit}
-use Rattle.edit_causal.specs.Conflict.{doConflict}
-use Rattle.edit_causal.proofs.CausalLaws.{conflict-symmetric, conflict-irreflexive}
 use Rattle.math_maximal.specs.MaximalSets.{_⊆_}
 use Rattle.math_maximal.specs.Groups.{bit}
-use Rattle.math_maximal.specs.GroupsByArrival.{groupsOf}
-use Rattle.math_maximal.proofs.GroupsGrow.{members-arrived, never-in-one-later}
+use Rattle.group_true.specs.TrueGroups.{groupsOf}
+use Rattle.group_true.proofs.GroupsGrow.{members-arrived, never-in-one-later}
 use Rattle.group_true.specs.Disputed.{isDisputed, disputedOf}
 use Rattle.group_true.proofs.DisputesGrow.{disputed-at, dispute-grows, versions-never-in-one}
-use Rattle.demand_any_order.specs.Rearranged.{Mem}
+use Rattle.math_lists.specs.Rearranged.{Mem}
 use Rattle.list_version.specs.Identifier.{nameOf, identifierOf}
 use Rattle.list_version.specs.Members.{membersOf}
 use Rattle.list_version.proofs.MembersByTest.{filter-keep}
@@ -107,20 +105,19 @@ module _ (ms more : List Edit) where
 
   -- ---- two versions are never found in one
 
-  module _ (differ : NamesDiffer ns) (g h k : ℕ) (eg : elem g (groupsOf noEdit doConflict ms) ≡ true)
-      (eh : elem h (groupsOf noEdit doConflict ms) ≡ true) (ek : elem k (groupsOf noEdit doConflict ns) ≡ true) where
+  module _ (differ : NamesDiffer ns) (g h k : ℕ) (eg : elem g (groupsOf ms) ≡ true)
+      (eh : elem h (groupsOf ms) ≡ true) (ek : elem k (groupsOf ns) ≡ true) where
     pub members-never-in-one :
         ((e : Edit) → Mem e (membersOf ms g) → Mem e (membersOf ns k)) →
         ((e : Edit) → Mem e (membersOf ms h) → Mem e (membersOf ns k)) → g ≡ h
     members-never-in-one into into′ =
-        never-in-one-later noEdit doConflict conflict-symmetric conflict-irreflexive ms more g h k eg eh ek
-        (λ i j b l r. over g eg into i b) (λ i j b l r. over h eh into′ i b)
+        never-in-one-later ms more g h k eg eh ek (over g eg into) (over h eh into′)
       where
         over :
-            (g : ℕ) → elem g (groupsOf noEdit doConflict ms) ≡ true →
+            (g : ℕ) → elem g (groupsOf ms) ≡ true →
             ((e : Edit) → Mem e (membersOf ms g) → Mem e (membersOf ns k)) → bit g ⊆ bit k
         over g e into i b =
-            let l : i < length ms = members-arrived noEdit doConflict ms g e i b in
+            let l : i < length ms = members-arrived ms g e i b in
             let (j, m, c, q) = member-at ns k (getD ms i noEdit) (into (getD ms i noEdit) (member-on ms g i l b)) in
             let one : j ≡ i = differ j i m (further i l) (ap nameOf (q ∙ sym (same-there i l))) in
             rw (← one) c

@@ -11,7 +11,7 @@ use lib.ListN.{length, getD}
 use Rattle.math_lists.proofs.Booleans.{clash}
 use Rattle.edit_record.specs.declared.Edit.{Edit}
 use Rattle.edit_causal.specs.TotalOrder.{vectorSum}
-use Rattle.demand_any_order.specs.Rearranged.{Rearranged, none, skip, swap, then}
+use Rattle.math_lists.specs.Rearranged.{Rearranged, none, skip, swap, then}
 use Rattle.list_version.specs.Values.{standsBefore, later, lastAfter}
 use Rattle.list_version.specs.VersionOrder.{lex}
 use Rattle.list_version.proofs.ListsCompared.{lex-last, before-through, lex-irreflexive, lex-neither}

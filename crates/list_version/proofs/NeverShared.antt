@@ -1,30 +1,26 @@
 -- In sound tables the Sets of an object have different names, so that two versions of true tables never share an
 -- identifier. Assumes nothing.
 use mathlib.Core.Path.{_≡_}
-use mathlib.Core.Logic.{inl, inr}
 use mathlib.Core.Bool.{true}
 use mathlib.Core.List.{List, [], _++_, append-nil}
-use mathlib.Core.List.{List·Memᴰ·not-nil, List·Memᴰ·append-cases, List·Memᴰ·eq-of-singleton}
-use Prim.Native.Nat.{ℕ, zero, suc, _<_}
+use Prim.Native.Nat.{ℕ, _<_}
 use native.Mathlib.Omega.{arith}
 use lib.ListN.{getD}
-use Rattle.math_lists.specs.SortedLists.{elem, filter, Asc}
+use Rattle.math_lists.specs.SortedLists.{elem, filter}
 use Rattle.math_lists.proofs.Booleans.{off}
 use Rattle.edit_record.specs.declared.Edit.{Edit}
 use Rattle.edit_causal.specs.Causal.{sameEdit}
-use Rattle.edit_causal.specs.Conflict.{doConflict}
-use Rattle.edit_history.specs.EditsHeld.{recordAt, editsOf, isSetOn, setsOn}
+use Rattle.edit_history.proofs.EditsByPlaces.{edit-in, edits-pairs}
+use Rattle.edit_history.specs.EditsHeld.{recordAt, isSetOn, setsOn}
 use Rattle.edit_history.proofs.EditsHeld.{count-few}
 use Rattle.edit_history.proofs.RecordsPassed.{next-at, one-place}
-use Rattle.math_maximal.specs.GroupsByArrival.{groupsOf}
 use Rattle.table_drawing.specs.Tables.{Tables, heldBy}
 use Rattle.table_soundness.proofs.SoundFacts.{Sound}
 use Rattle.edit_record.specs.RecordBytes.{noEdit}
-use Rattle.group_true.specs.TrueGroups.{trueGroups}
-use Rattle.demand_any_order.specs.Rearranged.{Mem}
+use Rattle.group_true.specs.TrueGroups.{groupsOf, trueGroups}
+use Rattle.math_lists.specs.Rearranged.{Mem}
 use Rattle.demand_any_order.specs.Settled.{Differ, Apart}
-use Rattle.demand_any_order.proofs.ListMembers.{chosen-at, mem-place}
-use Rattle.demand_any_order.proofs.PairsInList.{pairs-snoc}
+use Rattle.math_lists.proofs.ListMembers.{chosen-at, mem-place}
 use Rattle.demand_any_order.proofs.Identities.{same-on, same-at, one-edit, sets-distinct}
 use Rattle.list_version.specs.Identifier.{seqNumbers, identifierOf}
 use Rattle.list_version.proofs.IdentifiersGrow.{NamesDiffer, identifiers-never-in-one}
@@ -32,7 +28,7 @@ use Rattle.list_version.proofs.IdentifiersGrow.{NamesDiffer, identifier
 module _ (ms : List Edit) (differ : NamesDiffer ms) where
   -- else both would be found in one, with no Set more
   pub never-shared :
-      (g h : ℕ) → elem g (groupsOf noEdit doConflict ms) ≡ true → elem h (groupsOf noEdit doConflict ms) ≡ true →
+      (g h : ℕ) → elem g (groupsOf ms) ≡ true → elem h (groupsOf ms) ≡ true →
       identifierOf ms g ≡ identifierOf ms h → g ≡ h
   never-shared g h eg eh same =
       let whole : ms ++ [] ≡ ms = append-nil ms in
@@ -54,28 +50,6 @@ names-apart es u small c i j li lj e =
     let low : a .seq .0 < seqNumbers = small a ma in
     let low′ : b .seq .0 < seqNumbers = small b mb in
     sets-distinct es u c i j li lj (one-edit es u a b ma mb (same-on a b (omega arith) (omega arith)))
-
--- ---- the edits of a table of records
-
-module _ (rs : List ℕ) where
-  pub edit-in : (k : ℕ) (y : Edit) → Mem y (editsOf rs k) → (p : ℕ) × (p < k) × (y ≡ recordAt rs p)
-  unfolding editsOf
-  edit-in zero y w = absurd (List·Memᴰ·not-nil w)
-  edit-in (suc k) y w =
-      elim (List·Memᴰ·append-cases (editsOf rs k) w) [
-        | inl u ↦ (let (p, l, e) = edit-in k y u in (p, omega arith, e))
-        | inr v ↦ (k, omega arith, List·Memᴰ·eq-of-singleton v)
-      ]
-
-  -- what holds between each record and each later one holds between the edits
-  pub edits-pairs :
-      (R : Edit → Edit → Type 0) (k : ℕ) →
-      ((p q : ℕ) → p < q → q < k → R (recordAt rs p) (recordAt rs q)) → Asc R (editsOf rs k)
-  unfolding editsOf
-  edits-pairs R zero h = tt
-  edits-pairs R (suc k) h =
-      pairs-snoc R (editsOf rs k) (recordAt rs k) (edits-pairs R k (λ p q l m. h p q l (omega arith)))
-      (λ y w. let (p, m, e) = edit-in k y w in rw e (h p k m (omega arith)))
 
 -- ---- in sound tables
 

@@ -27,7 +27,7 @@ use Rattle.list_version.specs.Values.{standsBefore}
 use Rattle.list_version.specs.VersionOrder.{lex}
 use Rattle.list_version.proofs.ListsCompared.{lex-last, before-through, lex-irreflexive, lex-neither}
 use Rattle.list_version.proofs.ListsCompared.{not-before-through}
-use Rattle.list_version.proofs.NeverShared.{edits-pairs}
+use Rattle.edit_history.proofs.EditsByPlaces.{edits-pairs}
 
 -- ---- a strict order
 

@@ -1,5 +1,5 @@
--- Lists that grow at their end: what a test, a choice and its length make of one element more; and a test over a
--- choice that holds all which pass. Assumes nothing.
+-- Lists that grow at their end: what a choice makes of more elements; what a test, a choice and its length make of one
+-- element more; and a test over a choice that holds all which pass. Assumes nothing.
 use mathlib.Core.Path.{_≡_, refl, ap, _∙_}
 use mathlib.Core.Bool.{Bool, true, false, _||_, cond, or-false}
 use mathlib.Core.List.{List, [], _∷_, _++_}
@@ -11,6 +11,19 @@ use Rattle.math_lists.proofs.Elements.{any-append}
 use Rattle.math_lists.specs.SortedLists.{any, filter}
 
 module _ {A : Type 0} where
+  -- ---- more elements
+
+  pub filter-append : (f : A → Bool) (xs more : List A) → filter f (xs ++ more) ≡ filter f xs ++ filter f more
+  unfolding filter
+  filter-append f [] more = refl
+  filter-append f (y ∷ ys) more = go (f y) (filter-append f ys more)
+    where
+      go : (b : Bool) → filter f (ys ++ more) ≡ filter f ys ++ filter f more →
+          cond b (y ∷ filter f (ys ++ more)) (filter f (ys ++ more))
+          ≡ cond b (y ∷ filter f ys) (filter f ys) ++ filter f more
+      go true ih = rw ih
+      go false ih = ih
+
   -- ---- one element more
 
   pub any-snoc : (f : A → Bool) (xs : List A) (x : A) → any f (xs ++ (x ∷ [])) ≡ (any f xs || f x)
@@ -20,14 +33,7 @@ module _ {A : Type 0} where
   pub filter-snoc :
       (f : A → Bool) (xs : List A) (x : A) → filter f (xs ++ (x ∷ [])) ≡ filter f xs ++ cond (f x) (x ∷ []) []
   unfolding filter
-  filter-snoc f [] x = refl
-  filter-snoc f (y ∷ ys) x = go (f y) (filter-snoc f ys x)
-    where
-      go : (b : Bool) → filter f (ys ++ (x ∷ [])) ≡ filter f ys ++ cond (f x) (x ∷ []) [] →
-          cond b (y ∷ filter f (ys ++ (x ∷ []))) (filter f (ys ++ (x ∷ [])))
-          ≡ cond b (y ∷ filter f ys) (filter f ys) ++ cond (f x) (x ∷ []) []
-      go true ih = rw ih
-      go false ih = ih
+  filter-snoc f xs x = filter-append f xs (x ∷ [])
 
   -- a list to whose end one element is added, or none
   pub length-maybe : (xs : List A) (b : Bool) (x : A) → length (xs ++ cond b (x ∷ []) []) ≡ length xs + cond b 1 0

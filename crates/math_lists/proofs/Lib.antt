@@ -8,3 +8,9 @@ pub mod GrownAtEnd
 pub mod PutInOrder
 pub mod ReplacedPart
 pub mod LentLocal
+pub mod ListMembers
+pub mod Rearranged
+pub mod PairsInList
+pub mod Choices
+pub mod PutTogether
+pub mod FlatMaps

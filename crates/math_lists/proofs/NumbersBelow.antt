@@ -1,19 +1,20 @@
--- What a test, a sum and a choice over the numbers below n say. Assumes nothing.
+-- What a test, a sum, a number of bits and a choice over the numbers below n say. Assumes nothing.
 use mathlib.Core.Path.{_≡_, refl, sym, _∙_}
 use mathlib.Core.Logic.{_⊎_, inl, inr}
 use mathlib.Core.Bool.{Bool, true, false, _||_, cond}
 use mathlib.Core.List.{[], _∷_}
-use Prim.Native.Nat.{ℕ, zero, suc, _+_, _*_, _≤_, _<_}
+use Prim.Native.Nat.{ℕ, zero, suc, _+_, _*_, _^_, _≤_, _<_}
 use native.Mathlib.Omega.{arith}
 use native.Mathlib.Decide.{decLt, ℕ-discrete}
 use lib.ListN.{length}
 use lib.Dec.{eqb, ltb}
+use lib.Pow.{pow-pos}
 use borrow.Author.Tests.{eqb-true, eq-eqb, ne-eqb, lt-ltb, le-ltb}
 use Rattle.math_lists.proofs.Booleans.{clash, decide, off, both, and-on, either, or-left, or-right, eqb-self}
 use Rattle.math_lists.proofs.LastBelow.{last}
 use Rattle.math_lists.proofs.Elements.{any-append}
 use Rattle.math_lists.proofs.GrownAtEnd.{length-maybe}
-use Rattle.math_lists.specs.NumbersBelow.{some, all, sum, keep}
+use Rattle.math_lists.specs.NumbersBelow.{some, all, sum, mask, keep}
 use Rattle.math_lists.specs.SortedLists.{any, elem}
 
 -- ---- every number
@@ -126,6 +127,25 @@ sum-one-more (suc n) t f = rw (sum-one-more n t f) (go (decLt t n) (ℕ-discrete
         rw (le-ltb t n (omega arith), eq-eqb t n e, lt-ltb t (suc n) (omega arith)) (omega arith)
     go (no a) (no d) =
         rw (le-ltb t n (omega arith), ne-eqb t n d, le-ltb t (suc n) (omega arith)) (omega arith)
+
+-- ---- the number whose bits are those that pass
+
+pub mask-same : (n : ℕ) (f g : ℕ → Bool) → ((i : ℕ) → i < n → f i ≡ g i) → mask n f ≡ mask n g
+unfolding mask
+mask-same n f g h = sum-same n (λ i. cond (f i) (2 ^ i) 0) (λ i. cond (g i) (2 ^ i) 0) (λ i l. rw (h i l))
+
+pub mask-more : (n : ℕ) (f : ℕ → Bool) → mask (suc n) f ≡ mask n f + cond (f n) (2 ^ n) 0
+unfolding mask sum
+mask-more n f = refl
+
+pub mask-below : (n : ℕ) (f : ℕ → Bool) → mask n f < 2 ^ n
+unfolding mask sum
+mask-below zero f = omega arith
+mask-below (suc n) f = go (f n) (mask-below n f)
+  where
+    go : (b : Bool) → mask n f < 2 ^ n → mask n f + cond b (2 ^ n) 0 < 2 ^ suc n
+    go true h = omega (arith, pow-pos n)
+    go false h = omega (arith, pow-pos n)
 
 -- ---- the numbers that pass
 

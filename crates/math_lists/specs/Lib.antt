@@ -1,2 +1,3 @@
 pub mod NumbersBelow
 pub mod SortedLists
+pub mod Rearranged

@@ -3,7 +3,7 @@
 -- Assumes nothing.
 use mathlib.Core.Bool.{Bool, true, false, _&&_, _||_, cond}
 use mathlib.Core.List.{List, [], _∷_, _++_}
-use Prim.Native.Nat.{ℕ, zero, suc, _+_}
+use Prim.Native.Nat.{ℕ, zero, suc, _+_, _^_}
 use lib.ListN.{getD, length}
 use lib.Dec.{eqb}
 
@@ -21,6 +21,10 @@ all (suc n) f = all n f && f n
 unfoldable pub sum : ℕ → (ℕ → ℕ) → ℕ
 sum zero f = 0
 sum (suc n) f = sum n f + f n
+
+-- the number whose bits are the numbers below n that pass
+unfoldable pub mask : ℕ → (ℕ → Bool) → ℕ
+mask n f = sum n (λ i. cond (f i) (2 ^ i) 0)
 
 -- the numbers below n that pass, ascending
 unfoldable pub keep : ℕ → (ℕ → Bool) → List ℕ

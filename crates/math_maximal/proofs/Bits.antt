@@ -1,6 +1,6 @@
--- A number as a set: bit i says whether i is a member. What the operations of a 64-bit number do to the bits, and the
--- number that has given bits. Assumes nothing.
-use mathlib.Core.Path.{_≡_, refl, sym, _∙_, ap, fun-ext}
+-- A number as a set: bit i says whether i is a member. What the operations of a 64-bit number do to the bits. Assumes
+-- nothing.
+use mathlib.Core.Path.{_≡_, refl, sym, _∙_, ap}
 use mathlib.Core.Logic.{_↔_, _⊎_, inl, inr}
 use mathlib.Core.Bool.{Bool, true, false, not, _&&_, _||_}
 use Prim.Native.Nat.{ℕ, zero, suc, _+_, _-_, _*_, _/_, _%_, _^_, _≤_, _<_, min, max}
@@ -10,9 +10,11 @@ use native.Mathlib.Numerals.{one-add}
 use native.Mathlib.Decide.{decLt}
 use lib.Dec.{eqb}
 use lib.Pow.{shr-shr, pow-pos}
-use lib.Bits.{bitAnd, bitOr, and-step, or-step, and-lt, or-lt, and-le-l}
-use borrow.Author.Tests.{eqb-true, eqb-false, eq-eqb, ne-eqb}
+use lib.Bits.{bitAnd, bitOr, and-step, or-step, and-comm, and-lt, or-lt, and-le-l}
+use borrow.Author.Tests.{eqb-true, eqb-false, eq-eqb, ne-eqb, not-true}
+use Rattle.math_lists.specs.NumbersBelow.{some}
 use Rattle.math_lists.proofs.Booleans.{clash, decide, off, same-test, both, and-on, or-right, eqb-self}
+use Rattle.math_lists.proofs.NumbersBelow.{some-on, some-at}
 use Rattle.math_maximal.specs.MaximalSets.{_∈_, _⊆_}
 use Rattle.math_maximal.specs.Groups.{bit}
 use Rattle.math_maximal.specs.Step.{compatible, candidate}
@@ -21,11 +23,6 @@ use Rattle.math_maximal.specs.Step.{compatible, candidate}
 abbrev digit : Bool → ℕ
 digit true = 1
 digit false = 0
-
--- the number below 2 ^ n whose bits are those of f
-pub pack : ℕ → (ℕ → Bool) → ℕ
-pack zero f = 0
-pack (suc n) f = digit (f 0) + 2 * pack n (λ i. f (suc i))
 
 -- ---- the first bit, and the others
 
@@ -55,7 +52,7 @@ bit-digit g = rw (bit-zero g) (go (decide (eqb (g % 2) 1)))
 
 -- ---- no bit at or past n
 
-bit-none : (i : ℕ) → bit 0 i ≡ false
+pub bit-none : (i : ℕ) → bit 0 i ≡ false
 unfolding bit
 bit-none zero = refl
 bit-none (suc i) = bit-suc 0 i ∙ bit-none i
@@ -83,33 +80,6 @@ bit-ext (suc n) g h l m e =
 pub same-bits : (n g h : ℕ) → g < 2 ^ n → h < 2 ^ n → bit g ≡ bit h → g ≡ h
 same-bits n g h l m e = bit-ext n g h l m (λ i k. rw e)
 
--- ---- the number of a set
-
-pub pack-below : (n : ℕ) (f : ℕ → Bool) → pack n f < 2 ^ n
-unfolding pack
-pack-below zero f = omega arith
-pack-below (suc n) f = omega (arith, pack-below n (λ i. f (suc i)), digit-below (f 0))
-
-bit-pack : (n : ℕ) (f : ℕ → Bool) (i : ℕ) → i < n → bit (pack n f) i ≡ f i
-unfolding pack
-bit-pack zero f i l = absurd (omega arith)
-bit-pack (suc n) f zero l =
-    let g = digit (f 0) + 2 * pack n (λ i. f (suc i)) in
-    let e : g % 2 ≡ digit (f 0) = omega (arith, digit-below (f 0)) in
-    bit-zero g ∙ ap (λ (x : ℕ). eqb x 1) e ∙ digit-on (f 0)
-bit-pack (suc n) f (suc i) l =
-    let g = digit (f 0) + 2 * pack n (λ i. f (suc i)) in
-    let e : g / 2 ≡ pack n (λ i. f (suc i)) = omega (arith, digit-below (f 0)) in
-    bit-suc g i ∙ ap (λ (x : ℕ). bit x i) e ∙ bit-pack n (λ i. f (suc i)) i (omega arith)
-
--- a set of numbers below n is a number
-pub packed : (n : ℕ) (P : ℕ → Bool) → ((i : ℕ) → i ∈ P → i < n) → bit (pack n P) ≡ P
-packed n P h =
-    fun-ext
-    (λ i. same-test (bit (pack n P) i) (P i)
-    (λ b. let l = bit-below n (pack n P) (pack-below n P) i b in sym (bit-pack n P i l) ∙ b)
-    (λ p. bit-pack n P i (h i p) ∙ p))
-
 -- ---- an operation that works bit by bit: `at` is what it does to a digit, `on` what it does to a bit
 
 module _ (op at : ℕ → ℕ → ℕ) (on : Bool → Bool → Bool)
@@ -130,7 +100,7 @@ module _ (op at : ℕ → ℕ → ℕ) (on : Bool → Bool → Bool)
       bit-suc (op a b) i ∙ ap (λ (x : ℕ). bit x i) (low a b .1) ∙ bit-op (a / 2) (b / 2) i
       ∙ rw (bit-suc a i, bit-suc b i)
 
-bit-and : (a b i : ℕ) → bit (bitAnd a b) i ≡ (bit a i && bit b i)
+pub bit-and : (a b i : ℕ) → bit (bitAnd a b) i ≡ (bit a i && bit b i)
 bit-and = bit-op bitAnd min _&&_ and-step digits
   where
     digits : (x y : Bool) → min (digit x) (digit y) ≡ digit (x && y)
@@ -202,6 +172,24 @@ module _ (m g : ℕ) where
   compatible-at h i b =
       let e : bitAnd g m ≡ 0 = eqb-true (bitAnd g m) 0 h in
       off (bit m i) (λ q. clash (bit-and g m i ∙ and-on (bit g i) (bit m i) b q) (rw e (bit-none i)))
+
+-- two numbers, one of them below a power of 2, have a bit in common
+pub some-common :
+    (n p g : ℕ) → p < 2 ^ n → some n (λ k. bit p k && bit g k) ≡ not (compatible p g)
+some-common n p g small =
+    same-test (some n (λ k. bit p k && bit g k)) (not (compatible p g))
+    (λ h. let (k, _, e) = some-at n (λ k. bit p k && bit g k) h in
+    let (x, y) = both (bit p k) (bit g k) e in
+    rw (off (compatible p g) (λ c. clash x (compatible-at p g c k y))))
+    (λ h. elim (decide (some n (λ k. bit p k && bit g k))) [
+      | inl t ↦ t
+      | inr t ↦ clash
+          (rw (and-comm g p)
+          (compatible-on g p n small (λ k x. off (bit g k) (λ y.
+          let l = bit-below n p small k x in
+          clash (some-on n (λ k. bit p k && bit g k) k l (and-on (bit p k) (bit g k) x y)) t))))
+          (not-true (compatible p g) h)
+    ])
 
 -- ---- the candidate of g for k
 

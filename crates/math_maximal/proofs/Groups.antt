@@ -3,18 +3,20 @@
 use mathlib.Core.Path.{_≡_, refl, sym, _∙_}
 use mathlib.Core.Bool.{Bool, true, not, _&&_, Bool·beq}
 use mathlib.Core.List.{[], _∷_}
-use Prim.Native.Nat.{ℕ, _^_, _<_}
+use Prim.Native.Nat.{ℕ, _^_, _≤_, _<_}
+use native.Mathlib.Omega.{arith}
 use lib.Dec.{ltb}
 use borrow.Author.Tests.{ltb-true, lt-ltb, not-true}
-use Rattle.math_lists.specs.NumbersBelow.{all, keep}
+use Rattle.math_lists.specs.NumbersBelow.{all, mask, keep}
 use Rattle.math_lists.specs.SortedLists.{elem, Ascending}
 use Rattle.math_lists.proofs.Booleans.{clash, off, same-test, both, and-on, beq-on, beq-eq}
-use Rattle.math_lists.proofs.NumbersBelow.{all-on, all-at, keep-at, keep-on, keep-same}
+use Rattle.math_lists.proofs.NumbersBelow.{all-on, all-at, mask-below, keep-at, keep-on, keep-same}
 use Rattle.math_lists.proofs.SortedLists.{keep-ascending}
-use Rattle.math_maximal.specs.MaximalSets.{_∈_, Fits, Maximal}
-use Rattle.math_maximal.specs.Groups.{bit, below, fits, isMaximal, groups}
+use Rattle.math_maximal.specs.MaximalSets.{_∈_, _⊆_, Fits, Maximal}
+use Rattle.math_maximal.specs.Groups.{bit, below, every, fits, isMaximal, groups}
 use Rattle.math_maximal.proofs.MaximalSets.{carried}
-use Rattle.math_maximal.proofs.Bits.{pack, pack-below, packed, bit-below}
+use Rattle.math_maximal.proofs.Bits.{bit-below}
+use Rattle.math_maximal.proofs.Masks.{masked}
 
 -- ---- the members of S below n
 
@@ -26,6 +28,10 @@ module _ (n : ℕ) (S : ℕ → Bool) (i : ℕ) where
   pub below-on : i < n → i ∈ S → i ∈ below n S
   unfolding below
   below-on l s = and-on (ltb i n) (S i) (lt-ltb i n l) s
+
+-- the first n are among the first m
+pub first-among : (n m : ℕ) → n ≤ m → below n every ⊆ below m every
+first-among n m few i s = let (l, _) = below-at n every i s in below-on m every i (omega arith) refl
 
 -- ---- the tests
 
@@ -86,8 +92,8 @@ module _ (c : ℕ → ℕ → Bool) (n : ℕ) where
     pub has-number :
         (P : ℕ → Bool) → Maximal c (below n S) P → (g : ℕ) × (elem g (groups c n S) ≡ true) × (bit g ≡ P)
     has-number P m =
-        let e : bit (pack n P) ≡ P = packed n P (λ i p. below-at n S i (m .isFree .within i p) .0) in
-        (pack n P, groups-on (pack n P) (pack-below n P) (rw e m), e)
+        let e : bit (mask n P) ≡ P = masked n P (λ i p. below-at n S i (m .isFree .within i p) .0) in
+        (mask n P, groups-on (mask n P) (mask-below n P) (rw e m), e)
 
 pub groups-ascending : (c : ℕ → ℕ → Bool) (n : ℕ) (S : ℕ → Bool) → Ascending (groups c n S)
 unfolding groups

@@ -1,10 +1,10 @@
 pub mod MaximalSets
 pub mod OneElementMore
 pub mod Bits
+pub mod Masks
 pub mod Groups
 pub mod StepOnAnyRow
 pub mod StepKeepsMaximal
 pub mod MoreElements
 pub mod Renumbered
-pub mod GroupsByArrival
-pub mod GroupsGrow
+pub mod AnotherOrder

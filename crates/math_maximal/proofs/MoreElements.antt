@@ -1,17 +1,20 @@
 -- More elements never lose a group: each group lies in a group of the larger set, which gives it back, and so the
--- groups never become fewer; and two groups never lie in one. Assumes that the relation is symmetric and, but for the
--- last law, irreflexive.
+-- groups never become fewer; and two groups never lie in one. Assumes that the relation is symmetric and irreflexive,
+-- which the last law does not need.
 use mathlib.Core.Path.{_≡_, _∙_}
 use mathlib.Core.Bool.{Bool, true, false, _&&_}
 use Prim.Native.Nat.{ℕ, _≤_}
 use lib.ListN.{length}
 use Rattle.math_lists.specs.SortedLists.{elem}
-use Rattle.math_lists.proofs.Booleans.{clash, off, both, and-on}
+use Rattle.math_lists.specs.NumbersBelow.{mask}
+use Rattle.math_lists.proofs.Booleans.{both, and-on}
+use Rattle.math_lists.proofs.NumbersBelow.{mask-below}
 use Rattle.math_lists.proofs.SortedLists.{not-longer}
 use Rattle.math_maximal.specs.MaximalSets.{_∈_, _⊆_, Free}
 use Rattle.math_maximal.specs.Groups.{bit, below, groups}
 use Rattle.math_maximal.proofs.MaximalSets.{same-set, top, within-maximal}
-use Rattle.math_maximal.proofs.Bits.{pack, pack-below, packed, same-bits}
+use Rattle.math_maximal.proofs.Bits.{same-bits}
+use Rattle.math_maximal.proofs.Masks.{masked}
 use Rattle.math_maximal.proofs.Groups.{below-at, groups-at, has-number, groups-ascending}
 
 -- ---- S below n is part of U below m
@@ -30,7 +33,7 @@ module _ (c : ℕ → ℕ → Bool) (n m : ℕ) (S U : ℕ → Bool) (sm : (i j 
 
   -- what a group of the larger set holds of the smaller one, as a number
   cut : ℕ → ℕ
-  cut h = pack n (λ i. bit h i && below n S i)
+  cut h = mask n (λ i. bit h i && below n S i)
 
   cut-back : (g h : ℕ) → elem g (groups c n S) ≡ true → elem h (groups c m U) ≡ true → bit g ⊆ bit h → cut h ≡ g
   unfolding cut
@@ -38,8 +41,8 @@ module _ (c : ℕ → ℕ → Bool) (n m : ℕ) (S U : ℕ → Bool) (sm : (i j 
       let (l, p) = groups-at c n S g e in
       let q = groups-at c m U h f .1 in
       let P : ℕ → Bool = λ i. bit h i && below n S i in
-      same-bits n (pack n P) g (pack-below n P) l
-      (packed n P (λ i b. below-at n S i (both (bit h i) (below n S i) b .1) .0)
+      same-bits n (mask n P) g (mask-below n P) l
+      (masked n P (λ i b. below-at n S i (both (bit h i) (below n S i) b .1) .0)
       ∙ same-set
       (λ i b. let (x, y) = both (bit h i) (below n S i) b in top p (q .isFree) s i y x)
       (λ i b. and-on (bit h i) (below n S i) (s i b) (p .isFree .within i b)))
@@ -52,24 +55,23 @@ module _ (c : ℕ → ℕ → Bool) (n m : ℕ) (S U : ℕ → Bool) (sm : (i j 
 
 -- ---- two groups are never found in one
 
--- groups whose members in conflict all lie in one conflict-free set are one
-pub never-in-one :
-    (c : ℕ → ℕ → Bool) → ((i j : ℕ) → c i j ≡ c j i) → (n : ℕ) (S : ℕ → Bool) (g h : ℕ) →
-    elem g (groups c n S) ≡ true → elem h (groups c n S) ≡ true → {U Q : ℕ → Bool} → Free c U Q →
-    ((i j : ℕ) → i ∈ bit g → j ∈ below n S → c i j ≡ true → i ∈ Q) →
-    ((i j : ℕ) → i ∈ bit h → j ∈ below n S → c i j ≡ true → i ∈ Q) → g ≡ h
-never-in-one c sm n S g h e f {Q = Q} free into into′ =
-    same-bits n g h (groups-at c n S g e .0) (groups-at c n S h f .0)
-    (same-set (half g h e f into into′) (half h g f e into′ into))
-  where
-    half :
-        (g h : ℕ) → elem g (groups c n S) ≡ true → elem h (groups c n S) ≡ true →
-        ((i j : ℕ) → i ∈ bit g → j ∈ below n S → c i j ≡ true → i ∈ Q) →
-        ((i j : ℕ) → i ∈ bit h → j ∈ below n S → c i j ≡ true → i ∈ Q) → bit g ⊆ bit h
-    half g h e f into into′ i b =
-        let p = groups-at c n S g e .1 in
-        let q = groups-at c n S h f .1 in
-        let s = p .isFree .within i b in
-        q .full i s (λ j x. off (c i j) (λ r.
-        let t = q .isFree .within j x in
-        clash r (free .free i (into i j b t r) j (into′ j i x s (sm j i ∙ r)))))
+module _ (c : ℕ → ℕ → Bool) (n : ℕ) (S : ℕ → Bool) where
+  -- groups of which no member of one conflicts with a member of the other are one
+  pub one-group :
+      (g h : ℕ) → elem g (groups c n S) ≡ true → elem h (groups c n S) ≡ true →
+      ((i j : ℕ) → i ∈ bit g → j ∈ bit h → (c i j ≡ false) × (c j i ≡ false)) → g ≡ h
+  one-group g h e f none =
+      let (l, p) = groups-at c n S g e in
+      let (m, q) = groups-at c n S h f in
+      same-bits n g h l m
+      (same-set
+      (λ i b. q .full i (p .isFree .within i b) (λ j x. none i j b x .0))
+      (λ j x. p .full j (q .isFree .within j x) (λ i b. none i j b x .1)))
+
+  -- so are groups that lie in one conflict-free set
+  pub never-in-one :
+      (g h : ℕ) → elem g (groups c n S) ≡ true → elem h (groups c n S) ≡ true → {U Q : ℕ → Bool} → Free c U Q →
+      bit g ⊆ Q → bit h ⊆ Q → g ≡ h
+  never-in-one g h e f free into into′ =
+      one-group g h e f
+      (λ i j b x. (free .free i (into i b) j (into′ j x), free .free j (into′ j x) i (into i b)))

@@ -8,12 +8,15 @@ use Prim.Native.Nat.{ℕ, _^_, _≤_, _<_}
 use native.Mathlib.Omega.{arith}
 use lib.ListN.{length}
 use Rattle.math_lists.specs.SortedLists.{elem, Asc}
+use Rattle.math_lists.specs.NumbersBelow.{mask}
 use Rattle.math_lists.proofs.Booleans.{both, and-on}
+use Rattle.math_lists.proofs.NumbersBelow.{mask-below}
 use Rattle.math_lists.proofs.SortedLists.{asc-unique, not-longer}
 use Rattle.math_maximal.specs.MaximalSets.{_∈_, _⊆_, Maximal}
 use Rattle.math_maximal.specs.Groups.{bit, below, groups}
 use Rattle.math_maximal.proofs.MaximalSets.{same-set, carried}
-use Rattle.math_maximal.proofs.Bits.{pack, pack-below, packed, same-bits}
+use Rattle.math_maximal.proofs.Bits.{same-bits}
+use Rattle.math_maximal.proofs.Masks.{masked}
 use Rattle.math_maximal.proofs.Groups.{below-at, groups-at, groups-on, groups-ascending}
 
 -- f gives the one number of the element that has the other number i, and q the other way round
@@ -30,7 +33,7 @@ unfoldable pub pulled : ℕ → (ℕ → Bool) → (ℕ → ℕ) → ℕ → ℕ
 pulled m U f g i = below m U i && bit g (f i)
 
 unfoldable pub image : ℕ → (ℕ → Bool) → (ℕ → ℕ) → ℕ → ℕ
-image m U f g = pack m (pulled m U f g)
+image m U f g = mask m (pulled m U f g)
 
 -- the members of ks are the keys of the groups
 abbrev pub Keys : {K : Type 0} → (ℕ → K) → List ℕ → List K → Type 0
@@ -55,11 +58,11 @@ turned {q = q} r = record {
 pub bit-image : (m : ℕ) (U : ℕ → Bool) (f : ℕ → ℕ) (g : ℕ) → bit (image m U f g) ≡ pulled m U f g
 unfolding pulled image
 bit-image m U f g =
-    packed m (pulled m U f g) (λ i h. below-at m U i (both (below m U i) (bit g (f i)) h .0) .0)
+    masked m (pulled m U f g) (λ i h. below-at m U i (both (below m U i) (bit g (f i)) h .0) .0)
 
 image-below : (m : ℕ) (U : ℕ → Bool) (f : ℕ → ℕ) (g : ℕ) → image m U f g < 2 ^ m
 unfolding image
-image-below m U f g = pack-below m (pulled m U f g)
+image-below m U f g = mask-below m (pulled m U f g)
 
 module _ {c : ℕ → ℕ → Bool} {n : ℕ} {S : ℕ → Bool} {d : ℕ → ℕ → Bool} {m : ℕ} {U : ℕ → Bool} {f q : ℕ → ℕ}
     (r : Renumbered c n S d m U f q) where

@@ -1,4 +1,3 @@
 pub mod MaximalSets
 pub mod Groups
 pub mod Step
-pub mod GroupsByArrival

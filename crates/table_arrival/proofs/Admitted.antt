@@ -11,7 +11,8 @@ use borrow.Author.Tests.{eqb-true, eqb-false, leb-false, ltb-false, not-false}
 use Rattle.math_lists.specs.SortedLists.{any}
 use Rattle.math_lists.proofs.Booleans.{neither, then-off}
 use Rattle.edit_record.specs.Layout.{recordLength}
-use Rattle.edit_record.specs.RecordBytes.{decodeOf}
+use Rattle.edit_record.specs.RecordBytes.{decodeOf, spanOf}
+use Rattle.edit_record.proofs.RecordSpans.{one-span}
 use Rattle.edit_record.specs.Answer1.{isCreate, isSet, isLayer, isAimed, malformed, unfit}
 use Rattle.edit_record.proofs.WellFormed.{WellFormed, well-formed, set-not-create, layer-aimed, set-or-layer}
 use Rattle.edit_record.proofs.WellFormed.{aimed-not-create, layer-not-set}
@@ -44,7 +45,7 @@ module _ (t : Tables) (b : List ℕ) where
 -- ---- an edit that passes 1 to 6
 
 pub record Admitted (t : Tables) (b : List ℕ) : Type 0 where
-  pub whole : length b ≡ recordLength
+  pub whole : length b ≡ spanOf b
   pub fit : unfit (t .counters .sites) (decodeOf b) ≡ false
   pub formed : WellFormed (t .counters .sites) (decodeOf b)
   pub fresh : isRepeated (heldBy t) (decodeOf b) ≡ false
@@ -67,7 +68,7 @@ admitted t b h =
     let (rc, s) = neither (records? || objects?) sets? (no 5) in
     let (r, c) = neither records? objects? rc in
     record {
-      whole = eqb-true (length b) recordLength (not-false (eqb (length b) recordLength) w);
+      whole = eqb-true (length b) recordLength (not-false (eqb (length b) recordLength) w) ∙ sym (one-span b);
       fit = f;
       formed = well-formed (t .counters .sites) e f;
       fresh = no 1;

@@ -13,7 +13,7 @@ use Rattle.edit_record.specs.Layout.{mostSites}
 use Rattle.edit_record.specs.RecordBytes.{decodeOf}
 use Rattle.edit_history.specs.EditsHeld.{editsOf, countFrom, creates}
 use Rattle.edit_history.specs.Answers2to5.{recordsPass}
-use Rattle.edit_sum.specs.WordSum.{sumOf}
+use Rattle.edit_sum.specs.WordSum.{sumHeld}
 use Rattle.table_drawing.specs.declared.Counters.{Counters}
 use Rattle.table_drawing.specs.Tables.{Tables, emptyDrawing, recordsLength, objectsLength, groupsLength}
 use Rattle.table_drawing.specs.AnswerNumbers.{outcomeOf}
@@ -35,7 +35,7 @@ pub record Kept (t : Tables) : Type 0 where
 -- ---- the empty drawing
 
 pub empty-kept : (n : ℕ) → 1 ≤ n → n ≤ mostSites → Kept (emptyDrawing n)
-unfolding emptyDrawing editsOf countFrom creates filter recordsPass all sumOf sum
+unfolding emptyDrawing editsOf countFrom creates filter recordsPass all sumHeld sum
 empty-kept n some few =
     record {
       isSound =

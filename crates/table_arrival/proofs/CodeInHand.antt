@@ -6,8 +6,7 @@ use mathlib.Core.List.{List}
 use Prim.Native.Nat.{ℕ, _≤_, _<_}
 use lib.ListN.{length, getD}
 use Rattle.edit_record.specs.declared.Edit.{Edit}
-use Rattle.edit_record.specs.Layout.{recordLength}
-use Rattle.edit_record.specs.RecordBytes.{decodeOf}
+use Rattle.edit_record.specs.RecordBytes.{decodeOf, spanOf}
 use Rattle.edit_record.specs.Answer1.{isCreate, isSet}
 use Rattle.edit_record.proofs.WellFormed.{otherwise-layer}
 use Rattle.edit_history.specs.declared.Surveyed.{Surveyed}
@@ -65,7 +64,7 @@ module _ (t : Tables) (h : sound t ≡ true) where
           × (t .counters .objects < mostObjects)
           × (length (t .records) ≡ recordsLength)
           × (length (t .objects) ≡ objectsLength)
-          × (length b ≡ recordLength)
+          × (length b ≡ spanOf b)
           × (getD (t .counters .held) (e .site .0) 0 < mostRecords)
       create-given k =
           let s = sound-at t h in
@@ -99,7 +98,7 @@ module _ (t : Tables) (h : sound t ≡ true) where
           (t .counters .records < mostRecords)
           × (t .counters .objects ≤ mostObjects)
           × (length (t .records) ≡ recordsLength)
-          × (length b ≡ recordLength)
+          × (length b ≡ spanOf b)
           × (getD (t .counters .held) (e .site .0) 0 < mostRecords)
       layer-given =
           let s = sound-at t h in

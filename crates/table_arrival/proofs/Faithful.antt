@@ -2,12 +2,12 @@
 -- the ascending list of all maximal conflict-free sets of its Sets. Assumes nothing.
 use mathlib.Core.Path.{_≡_, refl, sym, ap, ap₂, _∙_}
 use mathlib.Core.Logic.{inl, inr}
-use mathlib.Core.Bool.{Bool, true, false, not, cond}
+use mathlib.Core.Bool.{Bool, true, false, cond}
 use mathlib.Core.List.{List, [], _∷_, _++_}
-use Prim.Native.Nat.{ℕ, zero, suc, _+_, _-_, _*_, _≤_, _<_}
+use Prim.Native.Nat.{ℕ, suc, _+_, _-_, _*_, _≤_, _<_}
 use native.Mathlib.Omega.{arith}
 use native.Mathlib.Decide.{ℕ-discrete}
-use lib.ListN.{length, take, drop, replicate}
+use lib.ListN.{length, take, replicate}
 use lib.Seq.{drop-cons}
 use lib.Dec.{eqb}
 use borrow.Author.Tests.{eqb-true}
@@ -19,7 +19,9 @@ use Rattle.edit_record.specs.RecordBytes.{decodeOf}
 use Rattle.edit_record.specs.Answer1.{isCreate, isSet, isLayer}
 use Rattle.math_maximal.specs.Groups.{groups}
 use Rattle.math_maximal.specs.Step.{step}
-use Rattle.edit_history.specs.EditsHeld.{recordAt, editsOf, isSetOn, isTarget, objectOf, conflictsWith}
+use Rattle.edit_causal.specs.Conflict.{conflictsWith}
+use Rattle.edit_causal.proofs.ConflictsAmongSets.{NoneItself, none-itself}
+use Rattle.edit_history.specs.EditsHeld.{recordAt, editsOf, isSetOn, isTarget, objectOf}
 use Rattle.group_step.specs.GroupRows.{mostGroups, row, putRow}
 use Rattle.table_drawing.specs.Tables.{Tables, heldBy, placeAt, groupsAt, emptyDrawing, entryLength}
 use Rattle.table_drawing.specs.AnswerNumbers.{outcomeOf}
@@ -55,14 +57,15 @@ pub record Faithful (t : Tables) : Type 0 where
 
 pub after-true :
     (t : Tables) (f : Faithful t) (e : Edit) → isSet e ≡ true → any (isTarget e) (heldBy t) ≡ true →
+    NoneItself (matesOf t e ++ (e ∷ [])) →
     groupsAfter t e
     ≡ trueGroups (heldBy t ++ (e ∷ [])) (recordAt (t .records) (placeAt (t .objects) (objectOf e (heldBy t))))
 unfolding groupsAfter
-after-true t f e k aim =
+after-true t f e k aim irr =
     let s = f .kept .isSound in
     let o = objectOf e (heldBy t) in
     ap (step (conflictsWith e (matesOf t e)) (length (matesOf t e))) (f .rows o (object-less t s e aim))
-    ∙ groups-more (heldBy t) e k (recordAt (t .records) (placeAt (t .objects) o)) (target-site t s e aim)
+    ∙ groups-more (heldBy t) e k irr (recordAt (t .records) (placeAt (t .objects) o)) (target-site t s e aim)
     (target-seq t s e aim)
 
 -- ---- an accepted edit
@@ -174,7 +177,7 @@ module _ (t : Tables) (b : List ℕ) (f : Faithful t) (a : Accepted t b) where
         = omega (arith, s .objects-long, s .few-objects, object-less t s e aim) in
         ap (λ (g : ℕ). take g (row x gs′)) (counts-groups (t .objects) x sets (length after) fits)
         ∙ row-back (t .groups) x after (a .few k) (row-fits t s e aim)
-        ∙ after-true t f e k aim
+        ∙ after-true t f e k aim (none-itself (matesOf t e ++ (e ∷ [])))
         ∙ sym (groups-in (placeAt (t .objects) x) (s .object x (object-less t s e aim) .entry .place))
         ∙ ap (λ (q : ℕ). trueGroups (editsOf rs′ (n + 1)) (recordAt rs′ q))
         (sym (counts-place (t .objects) x sets (length after) fits))

@@ -12,7 +12,8 @@ use Rattle.edit_record.specs.declared.Seq.{Seq}
 use Rattle.edit_record.specs.declared.Edit.{Edit}
 use Rattle.math_maximal.specs.Step.{step}
 use Rattle.math_maximal.proofs.StepOnAnyRow.{step-ascending, step-below, step-some}
-use Rattle.edit_history.specs.EditsHeld.{recordAt, setsOn, isTarget, objectOf, conflictsWith}
+use Rattle.edit_causal.specs.Conflict.{conflictsWith}
+use Rattle.edit_history.specs.EditsHeld.{recordAt, setsOn, isTarget, objectOf}
 use Rattle.edit_history.proofs.EditsHeld.{Target}
 use Rattle.group_step.specs.GroupRows.{mostGroups}
 use Rattle.table_drawing.specs.Tables.{Tables, heldBy, placeAt, setsAt, groupsAt}

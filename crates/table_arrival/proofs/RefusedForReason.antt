@@ -12,10 +12,11 @@ use Rattle.math_lists.specs.SortedLists.{any}
 use Rattle.edit_record.specs.declared.Edit.{Edit}
 use Rattle.edit_record.specs.Answer1.{isSet, isLayer}
 use Rattle.edit_record.proofs.WellFormed.{layer-aimed, aimed-not-create, layer-not-set}
+use Rattle.edit_causal.proofs.ConflictsAmongSets.{none-itself}
 use Rattle.edit_history.specs.EditsHeld.{mostRecords, recordAt, isTarget, objectOf}
 use Rattle.group_step.specs.GroupRows.{mostGroups}
 use Rattle.table_drawing.specs.Tables.{Tables, heldBy, placeAt}
-use Rattle.table_arrival.specs.Answers6and7.{isFull, isCrowded, reasons, answerTo}
+use Rattle.table_arrival.specs.Answers6and7.{matesOf, isFull, isCrowded, reasons, answerTo}
 use Rattle.group_true.specs.TrueGroups.{trueGroups}
 use Rattle.table_arrival.proofs.FirstReason.{First, first-present, answer-present}
 use Rattle.table_arrival.proofs.Faithful.{Faithful, after-true}
@@ -39,7 +40,9 @@ pub crowded-exactly :
     (length
     (trueGroups (heldBy t ++ (e ∷ [])) (recordAt (t .records) (placeAt (t .objects) (objectOf e (heldBy t))))))
 unfolding isCrowded
-crowded-exactly t f e k aim = rw k (ap (λ (l : List ℕ). ltb mostGroups (length l)) (after-true t f e k aim))
+crowded-exactly t f e k aim =
+    let irr = none-itself (matesOf t e ++ (e ∷ [])) in
+    rw k (ap (λ (l : List ℕ). ltb mostGroups (length l)) (after-true t f e k aim irr))
 
 -- ---- the layer edits
 

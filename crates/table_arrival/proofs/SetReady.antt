@@ -8,8 +8,7 @@ use native.Mathlib.Omega.{arith}
 use lib.ListN.{length, getD, take}
 use Rattle.math_lists.specs.SortedLists.{any, elem, Ascending}
 use Rattle.edit_record.specs.declared.Edit.{Edit}
-use Rattle.edit_record.specs.Layout.{recordLength}
-use Rattle.edit_record.specs.RecordBytes.{decodeOf}
+use Rattle.edit_record.specs.RecordBytes.{decodeOf, spanOf}
 use Rattle.edit_record.specs.Answer1.{isSet}
 use Rattle.edit_record.proofs.WellFormed.{set-aimed}
 use Rattle.math_maximal.specs.Step.{step}
@@ -45,7 +44,7 @@ pub record Given (t : Tables) (b : List ℕ) (e : Edit) (v : Surveyed) : Type 0 
   pub records-long : length (t .records) ≡ recordsLength
   pub objects-long : length (t .objects) ≡ objectsLength
   pub groups-long : length (t .groups) ≡ groupsLength
-  pub whole : length b ≡ recordLength
+  pub whole : length b ≡ spanOf b
   pub room : t .counters .records < mostRecords
   pub few-objects : t .counters .objects ≤ mostObjects
   pub count : getD (t .counters .held) (e .site .0) 0 < mostRecords

@@ -4,7 +4,7 @@ use mathlib.Core.Path.{_≡_, refl, sym, ap, ap₂, _∙_}
 use mathlib.Core.Logic.{inl, inr}
 use mathlib.Core.Bool.{Bool, true, false, cond}
 use mathlib.Core.List.{List, [], _∷_, _++_}
-use Prim.Native.Nat.{ℕ, zero, suc, _+_, _-_, _*_, _≤_, _<_}
+use Prim.Native.Nat.{ℕ, suc, _+_, _-_, _*_, _≤_, _<_}
 use native.Mathlib.Omega.{arith}
 use native.Mathlib.Numerals.{add-one}
 use native.Mathlib.Decide.{ℕ-discrete}
@@ -12,20 +12,18 @@ use lib.ListN.{length, getD, set}
 use lib.Seq.{getD-set-same, getD-set-other}
 use lib.Dec.{eqb}
 use borrow.Author.Tests.{eq-eqb, ne-eqb}
-use Rattle.math_lists.specs.NumbersBelow.{all}
-use Rattle.math_lists.specs.SortedLists.{filter}
 use Rattle.math_lists.proofs.NumbersBelow.{all-on, all-at}
 use Rattle.math_lists.proofs.LastBelow.{last}
 use Rattle.math_lists.proofs.GrownAtEnd.{filter-length-snoc}
 use Rattle.edit_record.specs.declared.Site.{Site}
 use Rattle.edit_record.specs.declared.Seq.{Seq}
 use Rattle.edit_record.specs.declared.Edit.{Edit}
-use Rattle.edit_record.specs.Layout.{mostSites, recordLength, placeLength}
+use Rattle.edit_record.specs.Layout.{mostSites, placeLength}
 use Rattle.edit_record.specs.RecordBytes.{decodeOf}
 use Rattle.edit_record.specs.Answer1.{isCreate}
 use Rattle.edit_history.specs.EditsHeld.{recordAt, editsOf, countFrom, creates, isSetOn, setsOn}
 use Rattle.edit_history.specs.Answers2to5.{passes, recordsPass}
-use Rattle.edit_sum.specs.WordSum.{recordWords, wrapped, sumOf}
+use Rattle.edit_sum.specs.WordSum.{recordWords, wrapped, sumOf, sumHeld}
 use Rattle.edit_sum.specs.SumOfEdits.{sumOver}
 use Rattle.edit_sum.proofs.SumOfRecords.{joined-sum, held-sum, record-sum}
 use Rattle.group_step.specs.GroupRows.{mostObjects, mostSets, mostGroups}
@@ -73,7 +71,7 @@ module _ (t : Tables) (b : List ℕ) (s : Sound t) (wide : length (t .counters .
   abbrev rs′ : List ℕ
   rs′ = putRecord rs n b
 
-  pub room : n * placeLength + recordLength ≤ length rs
+  pub room : n * placeLength + placeLength ≤ length rs
   room = omega (arith, s .records-long, a .room)
 
   pub held-after : editsOf rs′ (n + 1) ≡ heldBy t ++ (e ∷ [])
@@ -104,7 +102,7 @@ module _ (t : Tables) (b : List ℕ) (s : Sound t) (wide : length (t .counters .
       ]
 
   -- the sum is that of the records
-  sum-after : wrapped (t .counters .sum + sumOf recordWords b) ≡ sumOf ((n + 1) * recordWords) rs′
+  sum-after : wrapped (t .counters .sum + sumOf (recordWords b) b) ≡ sumHeld (n + 1) rs′
   sum-after =
       ap₂ (λ (x y : ℕ). wrapped (x + y)) (s .sum ∙ held-sum rs n) (record-sum b)
       ∙ sym (held-sum rs′ (n + 1) ∙ ap sumOver held-after ∙ joined-sum (heldBy t) (e ∷ []))

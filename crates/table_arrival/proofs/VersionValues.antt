@@ -1,13 +1,12 @@
 -- Demand 2, values: in a faithful drawing the members of one key that no other member of that key comes after all have
 -- one value, and the member that is last in the total order is one of them. Assumes nothing.
 use mathlib.Core.Path.{_≡_, sym, ap, ap₂, _∙_}
-use mathlib.Core.Logic.{_⊎_, inl, inr}
+use mathlib.Core.Logic.{inl, inr}
 use mathlib.Core.Bool.{true, false, not, _&&_}
-use mathlib.Core.List.{List, [], _∷_, _++_}
-use Prim.Native.Nat.{ℕ, zero, suc, _<_}
+use mathlib.Core.List.{List}
+use Prim.Native.Nat.{ℕ, _<_}
 use native.Mathlib.Omega.{arith}
-use lib.ListN.{length, getD, List·getD-append}
-use lib.Seq.{getD-append-seam}
+use lib.ListN.{length, getD}
 use lib.Dec.{eqb}
 use borrow.Author.Tests.{eqb-true, eq-eqb}
 use Rattle.math_lists.specs.SortedLists.{elem}
@@ -23,35 +22,18 @@ use Rattle.edit_causal.specs.Causal.{sameEdit, comesBefore, areConcurrent}
 use Rattle.edit_causal.specs.ShownValue.{shownValue}
 use Rattle.edit_causal.specs.Conflict.{doConflict}
 use Rattle.edit_causal.specs.TotalOrder.{ranksBefore}
-use Rattle.math_maximal.specs.Groups.{bit, every, groups}
-use Rattle.math_maximal.specs.GroupsByArrival.{rel, groupsOf}
-use Rattle.math_maximal.proofs.Groups.{groups-at}
-use Rattle.edit_history.specs.EditsHeld.{recordAt, editsOf, isSetOn, setsOn}
+use Rattle.math_maximal.specs.Groups.{bit}
+use Rattle.edit_history.specs.EditsHeld.{recordAt, isSetOn, setsOn}
 use Rattle.edit_history.proofs.EditsHeld.{edits-length}
+use Rattle.edit_history.proofs.EditsByPlaces.{edits-at}
 use Rattle.edit_history.proofs.RecordsPassed.{one-place}
 use Rattle.edit_history.proofs.SeenRanksBefore.{before-ranks}
 use Rattle.table_drawing.specs.Tables.{Tables, heldBy}
 use Rattle.table_soundness.proofs.SoundFacts.{Sound}
 use Rattle.edit_record.specs.RecordBytes.{noEdit}
 use Rattle.group_true.specs.TrueGroups.{trueGroups}
+use Rattle.group_true.proofs.GroupsGrow.{members-free}
 use Rattle.edit_causal.proofs.Identities.{same-parts}
-
--- ---- the edits by their places
-
-pub edits-at : (d : Edit) (rs : List ℕ) (n j : ℕ) → j < n → getD (editsOf rs n) j d ≡ recordAt rs j
-unfolding editsOf
-edits-at d rs zero j l = absurd (omega arith)
-edits-at d rs (suc n) j l = go (last l) (edits-at d rs n j)
-  where
-    long : length (editsOf rs n) ≡ n
-    long = edits-length rs n
-
-    go : (j < n) ⊎ (j ≡ n) → (j < n → getD (editsOf rs n) j d ≡ recordAt rs j) →
-        getD (editsOf rs n ++ (recordAt rs n ∷ [])) j d ≡ recordAt rs j
-    go (inl m) ih = List·getD-append (editsOf rs n) (recordAt rs n ∷ []) d j (omega (arith, long)) ∙ ih m
-    go (inr e) ih =
-        ap (λ (i : ℕ). getD (editsOf rs n ++ (recordAt rs n ∷ [])) i d) (e ∙ sym long)
-        ∙ getD-append-seam (editsOf rs n) (recordAt rs n) [] d ∙ ap (recordAt rs) (sym e)
 
 -- ---- a version's members
 
@@ -116,9 +98,8 @@ module _ (t : Tables) (s : Sound t) (c : Edit) (g : ℕ) (e : elem g (trueGroups
 
     -- members of a group do not conflict
     no-conflict : doConflict (at i) (at j) ≡ false
-    unfolding trueGroups groupsOf rel
-    no-conflict =
-        groups-at (rel noEdit doConflict ms) (length ms) every g e .1 .isFree .free i (mi .held) j (mj .held)
+    unfolding trueGroups
+    no-conflict = members-free ms g e i j (mi .held) (mj .held)
 
     -- two Sets of the object with one key, neither before the other, conflict if their values differ
     conflict-if :

@@ -8,7 +8,8 @@ use lib.Dec.{leb, ltb}
 use Rattle.edit_record.specs.declared.Edit.{Edit}
 use Rattle.edit_record.specs.RecordBytes.{decodeOf}
 use Rattle.edit_record.specs.Answer1.{isCreate, isSet, malformed}
-use Rattle.edit_history.specs.EditsHeld.{setsOn, objectOf, conflictsWith, mostRecords}
+use Rattle.edit_causal.specs.Conflict.{conflictsWith}
+use Rattle.edit_history.specs.EditsHeld.{setsOn, objectOf, mostRecords}
 use Rattle.edit_history.specs.Answers2to5.{isRepeated, isEarly, isTorn, isAstray}
 use Rattle.math_maximal.specs.Step.{step}
 use Rattle.group_step.specs.GroupRows.{mostObjects, mostSets, mostGroups, row}

@@ -6,7 +6,7 @@ use mathlib.Core.Bool.{cond}
 use lib.ListN.{getD, set, length, take, drop, replicate}
 use lib.Dec.{eqb}
 use Rattle.edit_record.specs.declared.Site.{Site}
-use Rattle.edit_record.specs.Layout.{recordLength, placeLength}
+use Rattle.edit_record.specs.Layout.{placeLength}
 use Rattle.edit_record.specs.RecordBytes.{decodeOf}
 use Rattle.edit_record.specs.Answer1.{isCreate, isSet}
 use Rattle.edit_history.specs.EditsHeld.{objectOf}
@@ -28,12 +28,12 @@ counted c s b d =
       records = c .records + 1;
       objects = c .objects + d;
       held = set (c .held) (s .0) (getD (c .held) (s .0) 0 + 1);
-      sum = wrapped (c .sum + sumOf recordWords b);
+      sum = wrapped (c .sum + sumOf (recordWords b) b);
     }
 
--- the record b in place p
+-- the record b at the front of place p
 abbrev pub putRecord : List ℕ → ℕ → List ℕ → List ℕ
-putRecord rs p b = take (p * placeLength) rs ++ (b ++ drop (p * placeLength + recordLength) rs)
+putRecord rs p b = take (p * placeLength) rs ++ (b ++ drop (p * placeLength + length b) rs)
 
 -- the entry of object o: the place of its Create, its number of Sets and its number of groups
 abbrev pub putCounts : List ℕ → ℕ → ℕ → ℕ → List ℕ

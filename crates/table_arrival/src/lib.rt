@@ -7,7 +7,6 @@ use edit_record::PLACE;
 use edit_record::RECORD;
 use edit_record::SET;
 use edit_record::Site;
-use edit_sum::WORDS;
 use group_step::OBJECTS;
 use table_drawing::Answer;
 use table_drawing::Counters;
@@ -17,8 +16,8 @@ ghost use mathlib.Core.Bool.{true};
 ghost use mathlib.Core.List.{[], _∷_};
 ghost use Prim.Native.Nat.{_+_, _≤_, _<_};
 ghost use lib.ListN.{length, getD};
-ghost use Rattle.edit_record.specs.Layout.{recordLength, twoBytes};
-ghost use Rattle.edit_record.specs.RecordBytes.{decodeOf};
+ghost use Rattle.edit_record.specs.Layout.{twoBytes};
+ghost use Rattle.edit_record.specs.RecordBytes.{decodeOf, spanOf};
 ghost use Rattle.edit_history.specs.EditsHeld.{mostRecords, editsOf};
 ghost use Rattle.edit_history.specs.SurveyForms.{surveyOf};
 ghost use Rattle.group_step.specs.GroupRows.{mostObjects};
@@ -38,23 +37,23 @@ pub struct Arrived {
 
 // The bytes of the record src into d.
 fn copy_record(d: &mut [u8], src: &[u8])
-    requires { ⌜ (length (now d) ≡ recordLength) × (length (now src) ≡ recordLength) ⌝ }
+    requires { ⌜ length (now d) ≡ length (now src) ⌝ }
     ensures { λ r. ⌜ now (d .exit) ≡ now (src .entry) ⌝ }
 {
     let mut i: usize = 0;
-    while i < RECORD {
+    while i < src.len() {
         d[i] = src[i];
         i += 1;
     }
 }
 
-// The record rec in place p.
+// The record rec at the front of place p.
 fn put_record(recs: &mut [u8], p: usize, rec: &[u8])
-    requires { ⌜ (p < mostRecords) × (length (now recs) ≡ recordsLength) × (length (now rec) ≡ recordLength) ⌝ }
+    requires { ⌜ (p < mostRecords) × (length (now recs) ≡ recordsLength) × (length (now rec) ≡ spanOf (now rec)) ⌝ }
     ensures { λ r. ⌜ now (recs .exit) ≡ putRecord (now (recs .entry)) p (now (rec .entry)) ⌝ }
 {
     let at = p * PLACE;
-    let end = at + RECORD;
+    let end = at + rec.len();
     copy_record(&mut recs[at..end], rec);
 }
 
@@ -83,13 +82,13 @@ fn put_object(objects: &mut [u16], o: usize, p: u16)
 fn counted_with(c: Counters, s: Site, rec: &[u8], d: u16) -> Counters
     requires { ⌜ (c .records < mostRecords)
         × (c .objects + d < twoBytes)
-        × (length (now rec) ≡ recordLength)
+        × (length (now rec) ≡ spanOf (now rec))
         × (getD (c .held) (s .0) 0 < mostRecords) ⌝ }
     ensures { λ r. ⌜ r ≡ counted c s (now (rec .entry)) d ⌝ }
 {
     let v = c.held;
     let held = edit_history::bumped(v, s);
-    let sum = edit_sum::added(c.sum, edit_sum::sum_words(rec, WORDS));
+    let sum = edit_sum::added(c.sum, edit_sum::sum_record(rec));
     Counters {
         sites: c.sites,
         records: c.records + 1,
@@ -158,7 +157,7 @@ fn take_create(
         × (c .objects < mostObjects)
         × (length (now records) ≡ recordsLength)
         × (length (now objects) ≡ objectsLength)
-        × (length (now rec) ≡ recordLength)
+        × (length (now rec) ≡ spanOf (now rec))
         × (getD (c .held) (s .0) 0 < mostRecords) ⌝ }
     ensures { λ r. ⌜ (r ≡ counted c s (now (rec .entry)) 1)
         × (now (records .exit) ≡ putRecord (now (records .entry)) (c .records) (now (rec .entry)))
@@ -186,7 +185,7 @@ fn store_set(
         × (o < mostObjects)
         × (length (now records) ≡ recordsLength)
         × (length (now objects) ≡ objectsLength)
-        × (length (now rec) ≡ recordLength)
+        × (length (now rec) ≡ spanOf (now rec))
         × (getD (c .held) (s .0) 0 < mostRecords) ⌝ }
     ensures { λ r. ⌜ (r ≡ counted c s (now (rec .entry)) 0)
         × (now (records .exit) ≡ putRecord (now (records .entry)) (c .records) (now (rec .entry)))
@@ -235,7 +234,7 @@ fn take_layer(c: Counters, records: &mut [u8], rec: &[u8], s: Site) -> Counters
     requires { ⌜ (c .records < mostRecords)
         × (c .objects ≤ mostObjects)
         × (length (now records) ≡ recordsLength)
-        × (length (now rec) ≡ recordLength)
+        × (length (now rec) ≡ spanOf (now rec))
         × (getD (c .held) (s .0) 0 < mostRecords) ⌝ }
     ensures { λ r. ⌜ (r ≡ counted c s (now (rec .entry)) 0)
         × (now (records .exit) ≡ putRecord (now (records .entry)) (c .records) (now (rec .entry))) ⌝ }

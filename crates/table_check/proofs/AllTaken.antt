@@ -1,6 +1,6 @@
 -- The records of sound tables whose rows are true are all taken by a replay: none of 1 to 7 applies to a record after
 -- those before it. Assumes nothing.
-use mathlib.Core.Path.{_≡_, refl, ap, _∙_}
+use mathlib.Core.Path.{_≡_, refl, sym, ap, _∙_}
 use mathlib.Core.Logic.{inl, inr}
 use mathlib.Core.Bool.{Bool, true, false, _&&_, _||_, cond}
 use mathlib.Core.List.{
@@ -8,26 +8,29 @@ use mathlib.Core.List.{
   [],
   _∷_,
   _++_,
+  append-nil,
+  append-assoc,
   List·Memᴰ·not-nil,
   List·Memᴰ·append-cases,
   List·Memᴰ·eq-of-singleton,
 }
-use Prim.Native.Nat.{ℕ, zero, suc, _+_, _*_, _≤_, _<_}
+use Prim.Native.Nat.{ℕ, zero, suc, _+_, _≤_, _<_}
 use native.Mathlib.Omega.{arith}
 use native.Mathlib.Decide.{ℕ-discrete}
-use lib.ListN.{length, drop, length-drop}
-use lib.Seq.{length-take-le}
+use lib.ListN.{length}
 use lib.Dec.{leb, ltb}
 use borrow.Author.Tests.{lt-leb, le-ltb, not-true}
 use Rattle.math_lists.specs.SortedLists.{any}
 use Rattle.math_lists.proofs.Booleans.{neither, or-off, off-where}
 use Rattle.math_lists.proofs.NumbersBelow.{all-at}
 use Rattle.edit_record.specs.declared.Edit.{Edit}
-use Rattle.edit_record.specs.Layout.{recordLength, placeLength}
+use Rattle.edit_record.proofs.RecordSpans.{one-span}
 use Rattle.edit_record.specs.Answer1.{isCreate, isSet, unfit}
 use Rattle.edit_record.proofs.WellFormed.{set-aimed}
 use Rattle.edit_causal.proofs.CausalLaws.{same-reflexive}
+use Rattle.edit_causal.proofs.ConflictsAmongSets.{NoneItself, none-itself}
 use Rattle.edit_history.specs.EditsHeld.{bytesAt, recordAt, editsOf, creates, isSetOn, setsOn, isTarget, objectOf}
+use Rattle.edit_history.proofs.FieldsInPlace.{bytes-whole}
 use Rattle.edit_history.specs.EditsHeld.{mostRecords}
 use Rattle.edit_history.specs.Answers2to5.{isRepeated, isEarly, isTorn, isAstray, passes, recordsPass}
 use Rattle.edit_history.proofs.EditsHeld.{edits-length, any-edit-on, chosen-more, chosen-grow, create-less}
@@ -43,7 +46,7 @@ use Rattle.table_arrival.proofs.ObjectOfSet.{object-less, target-site, target-s
 use Rattle.table_arrival.proofs.Faithful.{RowsTrue}
 use Rattle.table_replay.specs.Replay.{replayOf}
 use Rattle.table_replay.proofs.OwnRecords.{edits-held}
-use Rattle.demand_any_order.specs.Rearranged.{recordsOf, Whole}
+use Rattle.demand_any_order.specs.Records.{recordsOf, Whole}
 use Rattle.demand_any_order.specs.Settled.{named, fullOver, crowdedOver, listAnswer, AllAccepted}
 use Rattle.demand_any_order.proofs.Identities.{one-object}
 use Rattle.demand_any_order.proofs.ReplayAccepted.{accepted-none, accepted-more, refuses-none-exactly}
@@ -68,19 +71,27 @@ taken-over n es e h full crowded =
 
 -- ---- more records never lose a group
 
-groups-later :
-    (rs : List ℕ) (c : Edit) (i n : ℕ) → i ≤ n →
-    length (trueGroups (editsOf rs i) c) ≤ length (trueGroups (editsOf rs n) c)
-groups-later rs c i zero l = let e : i ≡ 0 = omega arith in rw e (omega arith)
-groups-later rs c i (suc n) l = go (ℕ-discrete i (suc n)) (groups-later rs c i n)
+edits-lead : (rs : List ℕ) (i n : ℕ) → i ≤ n → (more : List Edit) × (editsOf rs n ≡ editsOf rs i ++ more)
+unfolding editsOf
+edits-lead rs i zero l = let e : i ≡ 0 = omega arith in ([], rw e refl)
+edits-lead rs i (suc n) l = go (ℕ-discrete i (suc n)) (edits-lead rs i n)
   where
-    go : Dec (i ≡ suc n) → (i ≤ n → length (trueGroups (editsOf rs i) c) ≤ length (trueGroups (editsOf rs n) c)) →
-        length (trueGroups (editsOf rs i) c) ≤ length (trueGroups (editsOf rs (suc n)) c)
-    go (yes e) ih = rw e (omega arith)
+    go : Dec (i ≡ suc n) → (i ≤ n → (more : List Edit) × (editsOf rs n ≡ editsOf rs i ++ more)) →
+        (more : List Edit) × (editsOf rs (suc n) ≡ editsOf rs i ++ more)
+    go (yes e) ih = ([], rw e (sym (append-nil (editsOf rs (suc n)))))
     go (no d) ih =
-        let more : length (trueGroups (editsOf rs n) c) ≤ length (trueGroups (editsOf rs (suc n)) c)
-        = unfold editsOf in groups-grow (editsOf rs n) c (recordAt rs n) in
-        omega (arith, ih (omega arith))
+        let (more, q) = ih (omega arith) in (
+          more ++ (recordAt rs n ∷ []),
+          ap (λ (es : List Edit). es ++ (recordAt rs n ∷ [])) q ∙ append-assoc (editsOf rs i) more (recordAt rs n ∷ []),
+        )
+
+groups-later :
+    (rs : List ℕ) (c : Edit) (i n : ℕ) → i ≤ n → NoneItself (setsOn (c .site) (c .seq) (editsOf rs n)) →
+    length (trueGroups (editsOf rs i) c) ≤ length (trueGroups (editsOf rs n) c)
+groups-later rs c i n l irr =
+    let (more, q) = edits-lead rs i n l in
+    let few = groups-grow (editsOf rs i) more c (rw q at irr) in
+    rw q few
 
 module _ (t : Tables) (s : Sound t) (rows : RowsTrue t) where
   abbrev rs : List ℕ
@@ -139,7 +150,8 @@ module _ (t : Tables) (s : Sound t) (rows : RowsTrue t) where
         = rows o (object-less t s e aim) ∙ one-object (heldBy t) c (named e) (target-site t s e aim)
         (target-seq t s e aim) in
         let long = used-long (t .groups) o (groupsAt (t .objects) o) (row-few t s e aim) (row-fits t s e aim) in
-        omega (arith, groups-later rs (named e) (suc p) n l, ap length its, row-few t s e aim)
+        let irr = none-itself (setsOn (named e .site) (named e .seq) (editsOf rs n)) in
+        omega (arith, groups-later rs (named e) (suc p) n l irr, ap length its, row-few t s e aim)
 
     not-crowded : crowdedOver es e ≡ false
     unfolding crowdedOver editsOf
@@ -165,8 +177,7 @@ module _ (t : Tables) (s : Sound t) (rows : RowsTrue t) where
     | inl i ↦ all-whole k (omega arith) b i
     | inr i ↦
         rw (List·Memᴰ·eq-of-singleton i)
-        (length-take-le recordLength (drop (k * placeLength) rs)
-        (omega (arith, length-drop (k * placeLength) rs, s .records-long, s .few-records)))
+        (bytes-whole rs k (omega (arith, s .records-long, s .few-records)) ∙ one-span (bytesAt rs k))
   ]
 
   pub all-taken : replayOf sites (bytesAt rs) n .answer ≡ 0

@@ -16,16 +16,14 @@ use Rattle.math_lists.specs.SortedLists.{elem, Ascending}
 use Rattle.math_lists.proofs.NumbersBelow.{keep-same, keep-more, keep-grow}
 use Rattle.edit_record.specs.declared.Edit.{Edit}
 use Rattle.edit_record.specs.Answer1.{isSet}
-use Rattle.edit_causal.specs.Conflict.{doConflict}
-use Rattle.edit_causal.proofs.CausalLaws.{conflict-symmetric, conflict-irreflexive}
-use Rattle.edit_history.specs.EditsHeld.{recordAt, conflictsWith, mostRecords}
+use Rattle.edit_causal.specs.Conflict.{conflictsIn, conflictsWith}
+use Rattle.edit_causal.proofs.ConflictsAmongSets.{none-itself}
+use Rattle.edit_history.specs.EditsHeld.{recordAt, mostRecords}
 use Rattle.edit_history.proofs.EditsInPlaces.{sets-length}
 use Rattle.edit_walk.specs.WalkForms.{placeOf, Indexed}
 use Rattle.math_maximal.specs.Groups.{every}
 use Rattle.math_maximal.specs.Step.{step}
-use Rattle.math_maximal.specs.GroupsByArrival.{rel, groupsOf}
-use Rattle.math_maximal.proofs.Groups.{groups-at, groups-ascending, no-elements}
-use Rattle.math_maximal.proofs.GroupsGrow.{never-fewer-groups}
+use Rattle.math_maximal.proofs.Groups.{groups-ascending, no-elements}
 use Rattle.group_step.specs.GroupRows.{mostSets, mostGroups, row, settled}
 use Rattle.table_drawing.specs.Tables.{Tables, heldBy, placeAt, groupsAt}
 use Rattle.table_soundness.specs.SoundnessForms.{Targeted}
@@ -34,9 +32,8 @@ use Rattle.table_soundness.proofs.SetTallies.{aims-is}
 use Rattle.table_index.specs.IndexForms.{isOn, placesOn}
 use Rattle.table_index.proofs.PlacesOfSets.{places-sets, places-length}
 use Rattle.table_arrival.specs.Answers6and7.{rowOf}
-use Rattle.edit_record.specs.RecordBytes.{noEdit}
-use Rattle.group_true.specs.TrueGroups.{trueGroups}
-use Rattle.group_true.proofs.TrueGroups.{sets-step}
+use Rattle.group_true.specs.TrueGroups.{groupsOf, trueGroups}
+use Rattle.group_true.proofs.GroupsGrow.{is-maximal, never-fewer-groups, sets-step}
 use Rattle.table_check.specs.CheckForms.{rowTrue, aimOf, Aims, TellsSets, placesAimed, groupsIn, WorkedOut}
 use Rattle.table_check.proofs.SettledByRecords.{used-long}
 
@@ -92,7 +89,7 @@ module _ (rs ms : List ℕ) where
 
   pub groups-none : groupsIn rs ms 0 ≡ 0 ∷ []
   unfolding groupsIn groupsOf
-  groups-none = no-elements (rel noEdit doConflict []) every
+  groups-none = no-elements (conflictsIn []) every
 
   groups-next :
       (i : ℕ) → i < length ms →
@@ -102,10 +99,10 @@ module _ (rs ms : List ℕ) where
       let e = recordAt rs (getD ms i 0) in
       let more : setsIn (i + 1) ≡ setsIn i ++ (e ∷ [])
       = rw (add-one, take-suc ms i 0 l) (map-append (recordAt rs) (take i ms) (getD ms i 0 ∷ [])) in
-      ap (λ (k : ℕ). step (conflictsWith e (setsIn i)) k (groupsOf noEdit doConflict (setsIn i)))
+      ap (λ (k : ℕ). step (conflictsWith e (setsIn i)) k (groupsOf (setsIn i)))
       (sym (sets-length rs ms i (omega arith)))
-      ∙ sets-step (setsIn i) e
-      ∙ ap (groupsOf noEdit doConflict) (sym more)
+      ∙ sets-step (setsIn i) e (none-itself (setsIn i ++ (e ∷ [])))
+      ∙ ap groupsOf (sym more)
 
   -- the step for the Set e in the i-th place, whose conflicts are m, on a row that has the groups of those before it
   pub stepped :
@@ -116,12 +113,11 @@ module _ (rs ms : List ℕ) where
 
   pub in-ascending : (i : ℕ) → Ascending (groupsIn rs ms i)
   unfolding groupsIn groupsOf
-  in-ascending i = groups-ascending (rel noEdit doConflict (setsIn i)) (length (setsIn i)) every
+  in-ascending i = groups-ascending (conflictsIn (setsIn i)) (length (setsIn i)) every
 
   pub in-below : (i : ℕ) → i ≤ length ms → (x : ℕ) → elem x (groupsIn rs ms i) ≡ true → x < 2 ^ i
-  unfolding groupsIn groupsOf
-  in-below i l x h =
-      rw (sets-length rs ms i l) at (groups-at (rel noEdit doConflict (setsIn i)) (length (setsIn i)) every x h .0)
+  unfolding groupsIn
+  in-below i l x h = rw (sets-length rs ms i l) at (is-maximal (setsIn i) x h .0)
 
   in-longer : (i j : ℕ) → length (groupsIn rs ms i) ≤ length (groupsIn rs ms (i + j))
   unfolding groupsIn
@@ -130,7 +126,7 @@ module _ (rs ms : List ℕ) where
       let parts : setsIn (i + j) ≡ setsIn i ++ map (recordAt rs) rest
       = rw (take-add i j ms) (map-append (recordAt rs) (take i ms) rest) in
       rw parts
-      (never-fewer-groups noEdit doConflict conflict-symmetric conflict-irreflexive (setsIn i) (map (recordAt rs) rest))
+      (never-fewer-groups (setsIn i) (map (recordAt rs) rest) (none-itself (setsIn i ++ map (recordAt rs) rest)))
 
   -- once they are many they stay so
   pub in-more : (i k : ℕ) → i ≤ k → length (groupsIn rs ms i) ≤ length (groupsIn rs ms k)
@@ -180,8 +176,8 @@ module _ (t : Tables) (s : Sound t) (ts : List ℕ) (tells : TellsSets (t .recor
       (ms : List ℕ) (k : ℕ) → take k ms ≡ placesAimed ts n p → groupsIn rs ms k ≡ trueGroups (heldBy t) (recordAt rs p)
   unfolding groupsIn trueGroups
   groups-are ms k e =
-      ap (λ (qs : List ℕ). groupsOf noEdit doConflict (map (recordAt rs) qs)) (e ∙ aimed-are)
-      ∙ ap (groupsOf noEdit doConflict) (places-sets rs p n)
+      ap (λ (qs : List ℕ). groupsOf (map (recordAt rs) qs)) (e ∙ aimed-are)
+      ∙ ap groupsOf (places-sets rs p n)
 
   pub row-fits-in : o * mostGroups + mostGroups ≤ length (t .groups)
   row-fits-in = omega (arith, s .groups-long, s .few-objects)

@@ -1,17 +1,18 @@
 -- Sound tables whose rows are true are settled by their records: two of them that hold the same records are the same to
 -- the last entry, the number of sites left out. Assumes nothing.
-use mathlib.Core.Path.{_≡_, sym, ap, ap₂, _∙_}
-use mathlib.Core.List.{List}
+use mathlib.Core.Path.{_≡_, refl, sym, ap, ap₂, _∙_}
+use mathlib.Core.List.{List, _++_}
 use Prim.Native.Nat.{ℕ, zero, suc, _+_, _*_, _≤_, _<_}
 use native.Mathlib.Omega.{arith}
 use native.Mathlib.Decide.{decLt}
 use lib.ListN.{length, getD, take, drop, length-drop}
-use lib.Seq.{ext-getD, getD-take, getD-drop, length-take-le}
+use lib.Seq.{ext-getD, getD-take, getD-drop, length-take-le, take-add}
 use Rattle.math_lists.proofs.LastBelow.{by-rows}
 use Rattle.edit_record.specs.declared.Edit.{Edit}
-use Rattle.edit_record.specs.Layout.{mostSites, recordLength}
-use Rattle.edit_history.specs.EditsHeld.{recordAt, editsOf, countFrom, creates, setsOn}
-use Rattle.edit_sum.specs.WordSum.{recordWords, sumOf}
+use Rattle.edit_record.specs.Layout.{mostSites, placeLength}
+use Rattle.edit_record.specs.RecordBytes.{spanOf}
+use Rattle.edit_history.specs.EditsHeld.{bytesAt, recordAt, editsOf, countFrom, creates, setsOn}
+use Rattle.edit_sum.specs.WordSum.{sumHeld}
 use Rattle.group_step.specs.GroupRows.{mostGroups, row}
 use Rattle.table_drawing.specs.Tables.{Tables, entryLength, placeAt, setsAt, groupsAt, heldBy}
 use Rattle.table_soundness.proofs.EachObject.{Object}
@@ -31,6 +32,26 @@ zeros-agree l m k long same z w =
       | yes a ↦ same i a b
       | no a ↦ z i (omega arith) b ∙ sym (w i (omega arith) (omega arith))
     ])
+
+-- a record fills its place, so tables that hold the same records have the same bytes there
+fills : (s : List ℕ) → spanOf s ≡ placeLength
+unfolding spanOf
+fills s = refl
+
+pub places-same :
+    (rs rs′ : List ℕ) (n : ℕ) → ((p : ℕ) → p < n → bytesAt rs p ≡ bytesAt rs′ p) →
+    take (n * placeLength) rs ≡ take (n * placeLength) rs′
+places-same rs rs′ zero h = refl
+places-same rs rs′ (suc n) h =
+    let e : suc n * placeLength ≡ n * placeLength + placeLength = omega arith in
+    let place = drop (n * placeLength) rs in
+    let place′ = drop (n * placeLength) rs′ in
+    let last : take placeLength place ≡ take placeLength place′ =
+    ap (λ (w : ℕ). take w place) (sym (fills place))
+    ∙ h n (omega arith)
+    ∙ ap (λ (w : ℕ). take w place′) (fills place′) in
+    rw (e, take-add (n * placeLength) placeLength rs, take-add (n * placeLength) placeLength rs′)
+    (ap₂ (λ (x y : List ℕ). x ++ y) (places-same rs rs′ n (λ p l. h p (omega arith))) last)
 
 -- ---- the groups in use
 
@@ -86,7 +107,7 @@ module _ (rs : List ℕ) (n : ℕ) (os gs os′ gs′ : List ℕ) (o : ℕ)
 
 module _ (t u : Tables) (s : Sound t) (w : Sound u) (true-t : RowsTrue t) (true-u : RowsTrue u)
     (count : t .counters .records ≡ u .counters .records)
-    (bytes : (i : ℕ) → i < t .counters .records * recordLength → getD (t .records) i 0 ≡ getD (u .records) i 0) where
+    (bytes : (i : ℕ) → i < t .counters .records * placeLength → getD (t .records) i 0 ≡ getD (u .records) i 0) where
   abbrev rs : List ℕ
   rs = t .records
 
@@ -98,7 +119,7 @@ module _ (t u : Tables) (s : Sound t) (w : Sound u) (true-t : RowsTrue t) (true-
 
   pub same-records : t .records ≡ u .records
   same-records =
-      zeros-agree rs (u .records) (n * recordLength) (s .records-long ∙ sym (w .records-long)) (λ i a b. bytes i a)
+      zeros-agree rs (u .records) (n * placeLength) (s .records-long ∙ sym (w .records-long)) (λ i a b. bytes i a)
       (s .records-zero) (rw (← count) at (w .records-zero))
 
   same-held : heldBy t ≡ heldBy u
@@ -111,7 +132,7 @@ module _ (t u : Tables) (s : Sound t) (w : Sound u) (true-t : RowsTrue t) (true-
   same-counts x l = s .held x l ∙ ap (countFrom x) same-held ∙ sym (w .held x l)
 
   pub same-sum : t .counters .sum ≡ u .counters .sum
-  same-sum = s .sum ∙ ap₂ (λ (k : ℕ) (l : List ℕ). sumOf (k * recordWords) l) count same-records ∙ sym (w .sum)
+  same-sum = s .sum ∙ ap₂ (λ (k : ℕ) (l : List ℕ). sumHeld k l) count same-records ∙ sym (w .sum)
 
   -- the objects of u over the records of t
   object-u : (o : ℕ) → o < m → Object rs n (u .objects) (u .groups) o

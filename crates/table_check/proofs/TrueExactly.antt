@@ -12,7 +12,7 @@ use Rattle.math_lists.specs.NumbersBelow.{all, sameList}
 use Rattle.math_lists.proofs.Booleans.{same-test, both, and-on}
 use Rattle.math_lists.proofs.NumbersBelow.{all-on, all-at}
 use Rattle.math_lists.proofs.ByPlaces.{list-equal, same-self}
-use Rattle.edit_record.specs.Layout.{mostSites, recordLength}
+use Rattle.edit_record.specs.Layout.{mostSites, placeLength}
 use Rattle.edit_history.specs.EditsHeld.{bytesAt, recordAt, mostRecords}
 use Rattle.group_step.specs.GroupRows.{mostObjects}
 use Rattle.table_drawing.specs.declared.Counters.{Counters}
@@ -25,11 +25,11 @@ use Rattle.group_true.specs.TrueGroups.{trueGroups}
 use Rattle.table_arrival.proofs.Faithful.{RowsTrue, Faithful}
 use Rattle.table_replay.specs.Replay.{Replayed, replayOf}
 use Rattle.table_replay.proofs.ReplayFaithful.{replay-faithful}
-use Rattle.table_replay.proofs.OwnRecords.{Holds, records-same, going-of, holds}
+use Rattle.table_replay.proofs.OwnRecords.{Holds, going-of, holds}
 use Rattle.table_check.specs.Check.{sameCounters, sameTables, givesBack, isTrue, checkOf}
 use Rattle.table_check.specs.CheckForms.{rowTrue, rowsTrue}
 use Rattle.table_check.proofs.SettledByRecords.{same-records, same-number, same-counts, same-sum, same-groups}
-use Rattle.table_check.proofs.SettledByRecords.{same-objects}
+use Rattle.table_check.proofs.SettledByRecords.{same-objects, places-same}
 use Rattle.table_check.proofs.AllTaken.{all-taken}
 
 -- ---- the rows
@@ -156,11 +156,11 @@ module _ (t : Tables) where
         holds (c .sites) (bytesAt (t .records)) right-sites (c .records) u
         (going-of (c .sites) (bytesAt (t .records)) (c .records) taken)
 
-    bytes : (i : ℕ) → i < c .records * recordLength → getD (t .records) i 0 ≡ getD (u .records) i 0
+    bytes : (i : ℕ) → i < c .records * placeLength → getD (t .records) i 0 ≡ getD (u .records) i 0
     bytes i l =
-        let k = c .records * recordLength in
+        let k = c .records * placeLength in
         sym (getD-take k (t .records) i 0 l)
-        ∙ ap (λ (x : List ℕ). getD x i 0) (sym (records-same (u .records) (t .records) (c .records) (its .bytes)))
+        ∙ ap (λ (x : List ℕ). getD x i 0) (sym (places-same (u .records) (t .records) (c .records) (its .bytes)))
         ∙ getD-take k (u .records) i 0 l
 
     count : c .records ≡ d .records

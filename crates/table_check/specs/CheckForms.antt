@@ -10,16 +10,13 @@ use lib.Dec.{eqb}
 use Rattle.math_lists.specs.NumbersBelow.{all, keep, sameList}
 use Rattle.edit_record.specs.declared.Edit.{Edit}
 use Rattle.edit_record.specs.Answer1.{isSet}
-use Rattle.edit_causal.specs.Conflict.{doConflict}
 use Rattle.edit_history.specs.EditsHeld.{recordAt, mostRecords}
 use Rattle.edit_walk.specs.WalkForms.{placeOf}
-use Rattle.math_maximal.specs.GroupsByArrival.{groupsOf}
 use Rattle.group_step.specs.GroupRows.{mostGroups}
 use Rattle.table_index.specs.IndexForms.{isOn}
 use Rattle.table_drawing.specs.Tables.{Tables, placeAt, heldBy}
 use Rattle.table_arrival.specs.Answers6and7.{rowOf}
-use Rattle.edit_record.specs.RecordBytes.{noEdit}
-use Rattle.group_true.specs.TrueGroups.{trueGroups}
+use Rattle.group_true.specs.TrueGroups.{groupsOf, trueGroups}
 
 -- ---- the rows
 
@@ -52,7 +49,7 @@ placesAimed ts n p = keep n (λ q. eqb (getD ts q 0) p)
 
 -- those of the Sets in the first k of the places ms
 unfoldable pub groupsIn : List ℕ → List ℕ → ℕ → List ℕ
-groupsIn rs ms k = groupsOf noEdit doConflict (map (recordAt rs) (take k ms))
+groupsIn rs ms k = groupsOf (map (recordAt rs) (take k ms))
 
 -- the groups l stand at the front of the row gs, and are r; or r says that they are too many for a row
 pub record WorkedOut (l gs : List ℕ) (r : ℕ) : Type 0 where

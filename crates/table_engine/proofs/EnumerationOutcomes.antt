@@ -9,13 +9,10 @@ use borrow.Author.Tests.{ne-eqb, eq-eqb, lt-ltb, le-ltb}
 use Rattle.edit_record.specs.declared.Site.{Site}
 use Rattle.edit_record.specs.declared.Seq.{Seq}
 use Rattle.edit_record.specs.declared.Edit.{Edit}
-use Rattle.edit_record.specs.RecordBytes.{noEdit}
-use Rattle.edit_causal.specs.Conflict.{doConflict}
 use Rattle.edit_history.specs.EditsHeld.{recordAt, setsOn}
 use Rattle.edit_object.specs.CreateHeld.{isHeld}
-use Rattle.math_maximal.specs.GroupsByArrival.{groupsOf}
 use Rattle.group_step.specs.GroupRows.{mostGroups, settled}
-use Rattle.group_true.specs.TrueGroups.{groupsOn}
+use Rattle.group_true.specs.TrueGroups.{groupsOf, groupsOn}
 use Rattle.group_engine.specs.SearchForms.{countTold}
 use Rattle.table_drawing.specs.Tables.{Tables, heldBy}
 use Rattle.table_soundness.specs.Sound.{sound}
@@ -43,7 +40,7 @@ module _ (es : List Edit) (s : Site) (q : Seq) (out : List ℕ) where
 
       its : groupsIn rs ps k ≡ gs
       unfolding groupsIn
-      its = ap (groupsOf noEdit doConflict) places
+      its = ap groupsOf places
 
       told : r ≡ countTold gs
       told = count ∙ ap countTold its

@@ -11,9 +11,9 @@ use borrow.Author.Tests.{ne-eqb}
 use Rattle.edit_record.specs.declared.Edit.{Edit}
 use Rattle.edit_record.specs.Answer1.{isSet}
 use Rattle.edit_causal.specs.Causal.{sameEdit, areConcurrent}
-use Rattle.edit_causal.specs.Conflict.{doConflict}
-use Rattle.edit_history.specs.EditsHeld.{recordAt, conflictsWith}
-use Rattle.edit_history.proofs.ConflictMarks.{conflicts-snoc, conflicts-below}
+use Rattle.edit_causal.specs.Conflict.{doConflict, conflictsWith}
+use Rattle.edit_causal.proofs.ConflictsAmongSets.{one-more-marked, marked-below}
+use Rattle.edit_history.specs.EditsHeld.{recordAt}
 
 -- edits with different keys do not conflict
 pub keys-differ : (a e : Edit) → (a .key ≡ e .key → ⊥) → false ≡ doConflict a e
@@ -27,7 +27,7 @@ module _ (e : Edit) (rs ps : List ℕ) (i : ℕ) where
 
   pub marks-below : i ≤ length ps → conflictsWith e (map (recordAt rs) (take i ps)) < 2 ^ i
   marks-below l =
-      let k = conflicts-below e (map (recordAt rs) (take i ps)) in
+      let k = marked-below e (map (recordAt rs) (take i ps)) in
       rw (front l) at k
 
   pub marks-more :
@@ -39,7 +39,7 @@ module _ (e : Edit) (rs ps : List ℕ) (i : ℕ) where
       (recordAt rs (getD ps i 0) ∷ [])
       = rw (add-one, take-suc ps i 0 l) (map-append (recordAt rs) (take i ps) (getD ps i 0 ∷ [])) in
       rw grown
-      (conflicts-snoc e (map (recordAt rs) (take i ps)) (recordAt rs (getD ps i 0))
+      (one-more-marked e (map (recordAt rs) (take i ps)) (recordAt rs (getD ps i 0))
       ∙ ap
       (λ (k : ℕ). conflictsWith e (map (recordAt rs) (take i ps))
       + cond (doConflict (recordAt rs (getD ps i 0)) e) (2 ^ k) 0)

@@ -20,9 +20,10 @@ use Rattle.edit_record.specs.Layout.{mostSites}
 use Rattle.edit_record.specs.Answer1.{isCreate, isSet, unfit}
 use Rattle.edit_record.proofs.WellFormed.{well-formed, create-aims-nowhere, set-aimed}
 use Rattle.edit_causal.specs.Causal.{sameEdit}
+use Rattle.edit_causal.specs.Conflict.{conflictsWith}
 use Rattle.edit_causal.proofs.Identities.{same-site, same-seq}
+use Rattle.edit_causal.proofs.ConflictsAmongSets.{none-marked}
 use Rattle.edit_history.specs.EditsHeld.{recordAt, editsOf, creates, isSetOn, setsOn, isTarget, indexOf, objectOf}
-use Rattle.edit_history.specs.EditsHeld.{conflictsWith}
 use Rattle.edit_history.specs.Answers2to5.{isTorn}
 use Rattle.edit_history.specs.SurveyForms.{repeatedAgainst, earlyAgainst, surveyOf}
 use Rattle.edit_walk.specs.WalkForms.{placeOf, tornByLatest, targetHeld}
@@ -184,9 +185,9 @@ module _
     pub create-surveyed :
         (torn : Bool) → torn ≡ isTorn es e →
         record { torn = torn; found = false; object = c .objects; sets = 0; conflicts = 0 } ≡ surveyOf es e
-    unfolding surveyOf conflictsWith
+    unfolding surveyOf
     create-surveyed torn y =
-        rw (y, none-among e n not-target, object-none e n not-target, none-on, h .objects)
+        rw (y, none-among e n not-target, object-none e n not-target, none-on, none-marked e, h .objects)
 
   -- ---- an edit whose target is held
 

@@ -1,18 +1,17 @@
 -- A drawing made from records holds those records: its table has their bytes in their places, and replayed they give
 -- the same drawing. Assumes nothing.
-use mathlib.Core.Path.{_≡_, refl, sym, ap, ap₂, subst, _∙_}
+use mathlib.Core.Path.{_≡_, refl, sym, ap, ap₂, _∙_}
 use mathlib.Core.Logic.{inl, inr}
 use mathlib.Core.Bool.{Bool, true, false, cond}
 use mathlib.Core.List.{List, [], _∷_, _++_}
 use Prim.Native.Nat.{ℕ, zero, suc, _+_, _*_, _≤_, _<_}
 use native.Mathlib.Omega.{arith}
 use native.Mathlib.Numerals.{add-one}
-use lib.ListN.{length, take}
-use lib.Seq.{take-add}
+use lib.ListN.{length}
 use lib.Dec.{eqb}
 use borrow.Author.Tests.{eqb-true, eqb-false, eq-eqb}
 use Rattle.math_lists.proofs.LastBelow.{last}
-use Rattle.edit_record.specs.Layout.{recordLength, placeLength}
+use Rattle.edit_record.specs.Layout.{placeLength}
 use Rattle.edit_record.specs.declared.Edit.{Edit}
 use Rattle.edit_record.specs.RecordBytes.{decodeOf}
 use Rattle.edit_history.specs.EditsHeld.{bytesAt, editsOf}
@@ -20,7 +19,7 @@ use Rattle.edit_history.proofs.FieldsInPlace.{bytes-decoded}
 use Rattle.table_drawing.specs.Tables.{Tables, emptyDrawing, sitesRight}
 use Rattle.table_drawing.specs.AnswerNumbers.{outcomeOf}
 use Rattle.table_soundness.proofs.SoundFacts.{Sound}
-use Rattle.table_arrival.specs.Arrival.{putRecord, taken, acceptanceOf}
+use Rattle.table_arrival.specs.Arrival.{putRecord, acceptanceOf}
 use Rattle.table_arrival.proofs.Admitted.{Accepted, accepted, was-taken, taken-records}
 use Rattle.table_arrival.proofs.RecordsOneMore.{put-bytes-here, put-bytes-before}
 use Rattle.table_replay.specs.Replay.{Replayed, replayed, oneMore, replayOf, editsIn}
@@ -34,15 +33,6 @@ pub replay-same :
 unfolding replayOf
 replay-same sites rs rs′ zero h = refl
 replay-same sites rs rs′ (suc n) h = rw (replay-same sites rs rs′ n (λ p l. h p (omega arith)), h n (omega arith))
-
-pub records-same :
-    (rs rs′ : List ℕ) (n : ℕ) → ((p : ℕ) → p < n → bytesAt rs p ≡ bytesAt rs′ p) →
-    take (n * recordLength) rs ≡ take (n * recordLength) rs′
-records-same rs rs′ zero h = refl
-records-same rs rs′ (suc n) h =
-    let e : suc n * recordLength ≡ n * recordLength + recordLength = omega arith in
-    rw (e, take-add (n * recordLength) recordLength rs, take-add (n * recordLength) recordLength rs′)
-    (ap₂ (λ (x y : List ℕ). x ++ y) (records-same rs rs′ n (λ p l. h p (omega arith))) (h n (omega arith)))
 
 -- ---- one record back
 
@@ -110,7 +100,7 @@ holds sites rs right (suc n) t g =
     let a : Accepted u b = accepted u b zero-answer in
     let s : Sound u = going-faithful sites rs right n u before .kept .isSound in
     let h = holds sites rs right n u before in
-    let room : n * placeLength + recordLength ≤ length (u .records)
+    let room : n * placeLength + placeLength ≤ length (u .records)
     = omega (arith, s .records-long, a .admitted .room, h .count) in
     let (records, count, sites-are) = taken-records u b in
     let put : t .records ≡ putRecord (u .records) n b

@@ -4,17 +4,14 @@ use mathlib.Core.Path.{_≡_, sym, ap, subst, _∙_}
 use mathlib.Core.Logic.{inl, inr}
 use mathlib.Core.Bool.{Bool, true, cond}
 use mathlib.Core.List.{List}
-use Prim.Native.Nat.{ℕ, zero, suc, _+_, _-_, _*_, _≤_, _<_}
+use Prim.Native.Nat.{ℕ, zero, suc, _<_}
 use native.Mathlib.Omega.{arith}
-use native.Mathlib.Nat.{mul-le-mul-right, suc-mul}
-use lib.ListN.{length, take, drop, length-drop}
-use lib.Seq.{take-all}
+use lib.ListN.{length}
 use lib.Dec.{eqb, leb}
 use borrow.Author.Tests.{leb-true, ne-eqb}
 use Rattle.math_lists.proofs.Booleans.{both}
 use Rattle.math_lists.proofs.LastBelow.{last}
 use Rattle.edit_record.specs.Layout.{mostSites}
-use Rattle.edit_form.specs.OldForm.{lengthBy, longFrom, storedIn}
 use Rattle.table_drawing.specs.Tables.{Tables, emptyDrawing, recordsLength, objectsLength, groupsLength, lengthsRight}
 use Rattle.table_drawing.specs.Tables.{sitesRight}
 use Rattle.table_drawing.specs.AnswerNumbers.{Outcome, outcomeOf}
@@ -108,28 +105,3 @@ module _ (sites : ℕ) (rs : ℕ → List ℕ) (right : sitesRight sites ≡ tru
     where
       stays : (n : ℕ) → replayed a i t′ ≡ replayOf sites rs n → replayed a i t′ ≡ replayOf sites rs (suc n)
       stays n q = unfold replayOf in rw (← q, ne-eqb a 0 d)
-
--- ---- the record that is lent, w being what the code has for the bytes of a record
-
-module _ (form w i : ℕ) (rs : List ℕ) (is : w ≡ lengthBy form) where
-  pub lent-is :
-      (b : List ℕ) → b ≡ longFrom form (take (length rs - i * w) (drop (i * w) rs)) → b ≡ storedIn form rs i
-  lent-is b h =
-      let at = i * lengthBy form in
-      h
-      ∙ ap (λ (k : ℕ). longFrom form (take (length rs - i * k) (drop (i * k) rs))) is
-      ∙ ap (longFrom form) (take-all (length rs - at) (drop at rs) (simp length-drop (omega arith)))
-
-  -- it is there
-  pub record-left : (n : ℕ) → i < n → n * lengthBy form ≤ length rs → i * w + w ≤ length rs
-  record-left n l fits =
-      let below : suc i * w ≤ n * w = mul-le-mul-right w (omega arith) in
-      let next : suc i * w ≡ i * w + w = suc-mul i w in
-      let all : n * w ≤ length rs = rw is fits in
-      omega arith
-
-  -- so that what is left has it
-  pub rest-has : i * w + w ≤ length rs → lengthBy form ≤ length (take (length rs - i * w) (drop (i * w) rs))
-  rest-has l =
-      rw (take-all (length rs - i * w) (drop (i * w) rs) (simp length-drop (omega arith)))
-      (simp length-drop (omega arith))

@@ -10,11 +10,11 @@ use table_index::MEMBERS;
 ghost use mathlib.Core.Path.{_≡_};
 ghost use mathlib.Core.Bool.{true};
 ghost use mathlib.Core.List.{[], _∷_, _++_};
-ghost use Prim.Native.Nat.{_*_, _≤_};
+ghost use Prim.Native.Nat.{_≤_};
 ghost use lib.ListN.{length};
 ghost use Rattle.edit_record.specs.Layout.{mostSites};
 ghost use Rattle.edit_record.specs.RecordBytes.{decodeOf};
-ghost use Rattle.edit_form.specs.OldForm.{lengthBy, storedIn};
+ghost use Rattle.edit_form.specs.OldForm.{startOf, storedIn};
 ghost use Rattle.edit_history.specs.EditsHeld.{mostRecords, editsOf, countFrom};
 ghost use Rattle.edit_history.specs.SurveyForms.{Counted};
 ghost use Rattle.edit_walk.specs.WalkForms.{Spaced, SameStarts};
@@ -77,15 +77,16 @@ fn take_next(
 
 // How many of the first n records of a stretch name each site.
 fn count_stretch(recs: &[u8], form: u8, n: usize) -> [u16; SITES]
-    requires { ⌜ (n ≤ mostRecords) × (n * lengthBy form ≤ length (now recs)) ⌝ }
+    requires { ⌜ (n ≤ mostRecords) × (startOf form (now recs) n ≤ length (now recs)) ⌝ }
     ensures { λ r. ⌜ Counted r (editsIn (storedIn form (now (recs .entry))) n) ⌝ }
 {
-    let step = edit_form::length_by(form);
     let mut counts = [0u16; SITES];
+    let mut at: usize = 0;
     let mut i: usize = 0;
     while i < n {
-        let at = i * step;
-        let site = edit_form::site_from(&recs[at..], form) as usize;
+        let rest = &recs[at..];
+        let site = edit_form::site_from(rest, form) as usize;
+        at = at + edit_form::length_from(rest, form);
         if site < SITES {
             counts[site] = counts[site] + 1;
         }
@@ -114,17 +115,18 @@ fn take_records(
         × Spaced (λ s. countFrom s (editsIn (storedIn form (now recs)) n)) (now places)
         × (sitesRight (empty .sites) ≡ true)
         × (n ≤ mostRecords)
-        × (n * lengthBy form ≤ length (now recs)) ⌝ }
+        × (startOf form (now recs) n ≤ length (now recs)) ⌝ }
     ensures { λ r. ⌜ replayed (numberOf (r .answer)) (r .index)
         (tablesOf (r .counters) (now (records .exit)) (now (objects .exit)) (now (groups .exit)))
         ≡ replayOf (empty .sites) (storedIn form (now (recs .entry))) n ⌝ }
 {
-    let step = edit_form::length_by(form);
     let mut c = empty;
+    let mut at: usize = 0;
     let mut i: usize = 0;
     while i < n {
-        let at = i * step;
-        let rec = edit_form::long_from(&recs[at..], form);
+        let rest = &recs[at..];
+        let rec = edit_form::long_from(rest, form);
+        at = at + edit_form::length_from(rest, form);
         let a = take_next(
             c,
             records,
@@ -169,7 +171,7 @@ pub fn replay(
     requires { ⌜ (lengthsRight (now records) (now objects) (now groups) ≡ true)
         × (sitesRight sites ≡ true)
         × (n ≤ mostRecords)
-        × (n * lengthBy form ≤ length (now recs)) ⌝ }
+        × (startOf form (now recs) n ≤ length (now recs)) ⌝ }
     ensures { λ r. ⌜ replayed (numberOf (r .answer)) (r .index)
         (tablesOf (r .counters) (now (records .exit)) (now (objects .exit)) (now (groups .exit)))
         ≡ replayOf sites (storedIn form (now (recs .entry))) n ⌝ }

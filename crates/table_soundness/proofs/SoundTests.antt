@@ -13,7 +13,7 @@ use Rattle.edit_record.specs.Layout.{mostSites, placeLength}
 use Rattle.edit_record.proofs.WellFormed.{set-aimed}
 use Rattle.edit_history.specs.Answers2to5.{recordsPass}
 use Rattle.edit_history.specs.EditsHeld.{mostRecords, recordAt, creates, countFrom}
-use Rattle.edit_sum.specs.WordSum.{recordWords, sumOf}
+use Rattle.edit_sum.specs.WordSum.{sumHeld}
 use Rattle.edit_walk.specs.declared.Walked.{Walked}
 use Rattle.edit_walk.specs.WalkForms.{WalkedOver}
 use Rattle.edit_history.proofs.EditsHeld.{target-parts}
@@ -127,7 +127,7 @@ module _ (t : Tables) (hs ps : List ℕ) (w : Passed t hs ps) where
   pub rest-is :
       let c = t .counters in
       (all mostSites (λ s. eqb (getD (c .held) s 0) (getD hs s 0))
-      && eqb (c .sum) (sumOf (c .records * recordWords) (t .records))
+      && eqb (c .sum) (sumHeld (c .records) (t .records))
       && (eqb (c .objects) (length (creates (heldBy t)))
       && all (c .objects) (objectSound (t .records) (c .records) (t .objects) (t .groups)))
       && (zeroFrom (t .records) (c .records * placeLength)

@@ -11,7 +11,7 @@ use Rattle.edit_record.specs.Layout.{mostSites, placeLength}
 use Rattle.edit_record.specs.Answer1.{isCreate}
 use Rattle.edit_history.specs.EditsHeld.{recordAt, editsOf, countFrom, creates, setsOn, mostRecords}
 use Rattle.edit_history.specs.Answers2to5.{recordsPass}
-use Rattle.edit_sum.specs.WordSum.{recordWords, sumOf}
+use Rattle.edit_sum.specs.WordSum.{sumHeld}
 use Rattle.group_step.specs.GroupRows.{mostObjects, mostSets, mostGroups}
 use Rattle.table_drawing.specs.declared.Counters.{Counters}
 use Rattle.table_drawing.specs.Tables.{Tables, entryLength, placeAt, setsAt, groupsAt, lengthsRight, sitesRight}
@@ -26,7 +26,7 @@ withinLimits c = sitesRight (c .sites) && leb (c .records) mostRecords && leb (c
 unfoldable pub countsAgree : Counters → List ℕ → Bool
 countsAgree c rs =
     all mostSites (λ s. eqb (getD (c .held) s 0) (countFrom s (editsOf rs (c .records))))
-    && eqb (c .sum) (sumOf (c .records * recordWords) rs)
+    && eqb (c .sum) (sumHeld (c .records) rs)
     && eqb (c .objects) (length (creates (editsOf rs (c .records))))
 
 -- ---- the objects

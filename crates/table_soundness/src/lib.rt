@@ -6,7 +6,6 @@ mod unused;
 use edit_history::RECORDS;
 use edit_record::PLACE;
 use edit_record::SITES;
-use edit_sum::WORDS;
 use edit_walk::PLACES;
 use group_step::GROUPS;
 use group_step::OBJECTS;
@@ -78,7 +77,7 @@ fn rest_sound(
     let n = c.records as usize;
     let m = c.objects as usize;
     let agree = counts_agree(given, held);
-    let added = edit_sum::sum_words(records, n * WORDS);
+    let added = edit_sum::sum_records(records, n);
     let drawing = objects::drawing_sound(records, n, places, objects, groups, m);
     let zero = unused_zero(records, objects, groups, n, m);
     agree & (kept == added) & drawing & zero

@@ -10,7 +10,7 @@ use lib.ListN.{length, take, drop, length-drop}
 use denote.Ref.{now}
 use borrow.Author.Needs.{needs}
 use borrow.Author.Tests.{leb-true, le-leb, not-true, not-false}
-use Rattle.edit_form.specs.OldForm.{lengthBy}
+use Rattle.edit_form.specs.OldForm.{lengthFrom}
 use Rattle.block_reader.specs.Reader.{takenAt}
 use Rattle.block_reader.proofs.take.Statement.{statement}
 use Rattle.block_reader.proofs.take.Tie as tie
@@ -21,10 +21,10 @@ enough t p w n tested left = leb-true (p + w) n (sym tested ∙ not-false t left
 
 room : (c : tie.Else1) →
     let a = c .before .before .before .before .args in
-    a .place + lengthBy (a .form) ≤ length (now (a .stretch))
+    a .place + lengthFrom (a .form) (drop (a .place) (now (a .stretch))) ≤ length (now (a .stretch))
 room c =
     let l = c .before .is-left in
-    let w = c .before .before .length-by in
+    let w = c .before .before .bytes-at in
     let a = c .before .before .before .before .args in
     rw (← (w .ensures))
     (enough (l .result) (a .place) (w .result) (length (now (a .stretch))) (l .ensures) (c .if1 .left))
@@ -33,8 +33,8 @@ room c =
 from-place : (s : List ℕ) (p : ℕ) → take (length s - p) (drop p s) ≡ drop p s
 from-place s p = take-all (length s - p) (drop p s) (simp length-drop (omega arith))
 
-length-by-requires : tie.Need-length-by-requires
-length-by-requires c κs = search needs
+bytes-at-requires : tie.Need-bytes-at-requires
+bytes-at-requires c κs = search needs
 
 is-left-requires : tie.Need-is-left-requires
 is-left-requires c κs = search needs
@@ -51,8 +51,9 @@ returns c =
     let l = c .before .before .before in
     let w = l .before in
     let a = w .before .before .args in
-    let none : leb (a .place + lengthBy (a .form)) (length (now (a .stretch))) ≡ false =
-    rw (← (w .length-by .ensures))
+    let s = now (a .stretch) in
+    let none : leb (a .place + lengthFrom (a .form) (drop (a .place) s)) (length s) ≡ false =
+    rw (← (w .bytes-at .ensures))
     (sym (l .is-left .ensures) ∙ not-true (l .is-left .result) (c .before .before .if1 .taken)) in
     rw (none, c .decode .ensures)
 
@@ -79,7 +80,7 @@ decode-requires-2 c κs = search needs
 add-t11 : tie.Need-add-t11
 add-t11 c =
     let e = c .before .before .before .before in
-    omega (arith, e .before .before .length-by .ensures, room e)
+    omega (arith, e .before .before .bytes-at .ensures, room e)
 
 returns-2 : tie.Need-returns-2
 unfolding takenAt
@@ -92,15 +93,15 @@ returns-2 c =
       c .decode2 .ensures,
       f .long-from .ensures,
       from-place s (a .place),
-      le-leb (a .place + lengthBy (a .form)) (length s) (room e),
-      ← (e .before .before .length-by .ensures),
+      le-leb (a .place + lengthFrom (a .form) (drop (a .place) s)) (length s) (room e),
+      ← (e .before .before .bytes-at .ensures),
     )
 
 pub take-spec : {M : Type 1} → statement M
 take-spec =
     tie.close
     (tie.spec
-    length-by-requires
+    bytes-at-requires
     is-left-requires
     slice-aggregate-decode
     decode-requires

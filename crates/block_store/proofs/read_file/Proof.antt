@@ -34,7 +34,7 @@ returns-2 c =
     let f = c .before .before .read-trailer in
     file-refused (tablesOf (a .c) (now (a .records)) (now (a .objects)) (now (a .groups))) (now (a .file))
     (sym (l .ensures) ∙ not-false (l .result) (c .before .before .before .if1 .left))
-    (numberOf (f .result .answer)) (f .result .sites) (f .result .form) (f .result .records) (f .ensures)
+    (numberOf (f .result .answer)) (f .result .sites) (f .result .form) (f .result .records) (f .ensures .0)
     (λ z. c .if2 .taken (c .before .number .ensures ∙ z))
 
 locate-requires : tie.Need-locate-requires
@@ -57,7 +57,7 @@ read-records-requires c κs =
     let right = sym (l .ensures) ∙ not-false (l .result) (s8 .if1 .left) in
     let (s, n, fits) = ready-to-read (tablesOf (a .c) (now (a .records)) (now (a .objects)) (now (a .groups)))
     (now (a .file)) right
-    (numberOf (f .result .answer)) (f .result .sites) (f .result .form) (f .result .records) (f .ensures)
+    (numberOf (f .result .answer)) (f .result .sites) (f .result .form) (f .result .records) (f .ensures .0)
     (sym (s6 .number .ensures) ∙ s5 .if2 .left) _ (c .before .before .before .before .locate .ensures .0) in
     (right, s, n, fits)
 
@@ -85,7 +85,7 @@ returns-3 c =
     let f = s14 .read-trailer in
     file-read (tablesOf (a .c) (now (a .records)) (now (a .objects)) (now (a .groups))) (now (a .file))
     (sym (l .ensures) ∙ not-false (l .result) (s15 .if1 .left))
-    (numberOf (f .result .answer)) (f .result .sites) (f .result .form) (f .result .records) (f .ensures)
+    (numberOf (f .result .answer)) (f .result .sites) (f .result .form) (f .result .records) (f .ensures .0)
     (sym (s13 .number .ensures) ∙ s12 .if2 .left) _ (s11 .locate .ensures .0) _ (s6 .read-records .ensures)
 
 pub read-file-spec : {M : Type 1} → statement M

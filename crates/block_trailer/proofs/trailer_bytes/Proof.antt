@@ -7,9 +7,6 @@ use Rattle.block_trailer.specs.Trailer.{trailerOf}
 use Rattle.block_trailer.proofs.trailer_bytes.Statement.{statement}
 use Rattle.block_trailer.proofs.trailer_bytes.Tie as tie
 
-mul-distance : tie.Need-mul-distance
-mul-distance c = search needs
-
 cast-a : tie.Need-cast-a
 cast-a c = search needs
 
@@ -34,4 +31,4 @@ returns c = refl
 
 pub trailer-bytes-spec : {M : Type 1} → statement M
 trailer-bytes-spec =
-    tie.close (tie.spec mul-distance cast-a cast-b cast-c cast-d cast-e cast-f returns)
+    tie.close (tie.spec cast-a cast-b cast-c cast-d cast-e cast-f returns)

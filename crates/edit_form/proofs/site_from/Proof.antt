@@ -8,7 +8,9 @@ use Rattle.edit_form.proofs.site_from.Statement.{statement}
 use Rattle.edit_form.proofs.site_from.Tie as tie
 
 shared-slice-read-has-old-form : tie.Need-shared-slice-read-has-old-form
-shared-slice-read-has-old-form c = omega (arith, length-least (c .before .before .args .form))
+shared-slice-read-has-old-form c =
+    let a = c .before .before .args in
+    omega (arith, length-least (a .form) (now (a .rest)))
 
 has-old-form-requires : tie.Need-has-old-form-requires
 has-old-form-requires c κs = search needs
@@ -22,7 +24,9 @@ returns c =
     ∙ rw (← (h .has-old-form .ensures), c .if1 .taken))
 
 shared-slice-read-result : tie.Need-shared-slice-read-result
-shared-slice-read-result c = omega (arith, length-least (c .before .before .before .before .before .args .form))
+shared-slice-read-result c =
+    let a = c .before .before .before .before .before .args in
+    omega (arith, length-least (a .form) (now (a .rest)))
 
 returns-2 : tie.Need-returns-2
 returns-2 c =

@@ -1,14 +1,12 @@
 -- `edit_history::survey` meets its contract: after i records, v is the survey of the first i edits. Assumes nothing.
-use mathlib.Core.Path.{_≡_, refl, sym}
+use mathlib.Core.Path.{_≡_, sym}
 use Prim.Native.Nat.{_≤_, _-_}
 use native.Mathlib.Numerals.{add-one}
 use native.Mathlib.Omega.{arith}
 use borrow.Author.Needs.{needs}
-use Rattle.math_lists.specs.SortedLists.{any, filter}
-use Rattle.edit_history.specs.EditsHeld.{editsOf, creates, setsOn, indexOf, objectOf, conflictsWith}
-use Rattle.edit_history.specs.Answers2to5.{isTorn}
+use Rattle.edit_history.specs.EditsHeld.{editsOf}
 use Rattle.edit_history.specs.SurveyForms.{surveyOf}
-use Rattle.edit_history.proofs.SurveyOneMore.{survey-more, survey-room}
+use Rattle.edit_history.proofs.SurveyOneMore.{survey-none, survey-more, survey-room}
 use Rattle.edit_history.proofs.survey.Statement.{statement}
 use Rattle.edit_history.proofs.survey.Tie as tie
 
@@ -19,8 +17,8 @@ abbrev μ-loop : tie.MeasureT-loop
 μ-loop recs n e v₀ i₀ v i = n - i
 
 loop-holds : tie.Need-loop-holds Inv-loop μ-loop
-unfolding surveyOf editsOf isTorn any filter objectOf creates indexOf setsOn conflictsWith
-loop-holds c = (omega arith, refl)
+unfolding editsOf
+loop-holds c = (omega arith, survey-none (c .before .args .e))
 
 decode-at-requires : tie.Need-decode-at-requires Inv-loop μ-loop
 decode-at-requires c κs = search needs

@@ -7,7 +7,7 @@ use native.Mathlib.Omega.{arith}
 use lib.ListN.{length, take}
 use lib.Seq.{take-all}
 use borrow.Author.Needs.{needs}
-use Rattle.edit_record.specs.Layout.{mostSites, vectorAt, targetAt}
+use Rattle.edit_record.specs.Layout.{mostSites, vectorAt}
 use Rattle.edit_record.specs.RecordBytes.{countBytes}
 use Rattle.edit_record.proofs.Encoding.{one-count-more}
 use Rattle.edit_record.proofs.with_vector.Statement.{statement}

@@ -17,10 +17,10 @@ use Rattle.group_engine.proofs.NextDecided.{comes-in, out-first, then-i
 use Rattle.group_engine.proofs.decide_rest.Reads as decide-rest
 use Rattle.group_engine.proofs.decide_rest.Kinds as decide-rest-kinds
 use Rattle.group_engine.proofs.+decide_rest.Lts-decide_rest as lts
-use Rattle.group_engine.proofs.has.Reads as has-reads
+use Rattle.group_step.proofs.has.Reads as has-reads
 use Rattle.group_engine.proofs.is_lost.Reads as is-lost-reads
-use Rattle.group_engine.proofs.only.Reads as only-reads
-use Rattle.group_engine.proofs.without.Reads as without-reads
+use Rattle.group_step.proofs.only.Reads as only-reads
+use Rattle.group_step.proofs.without.Reads as without-reads
 use Rattle.group_engine.proofs.+decide_rest.{statement}
 use Rattle.group_engine.proofs.+decide_rest.Tie.{close}
 

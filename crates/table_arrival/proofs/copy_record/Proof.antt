@@ -7,16 +7,15 @@ use lib.Seq.{take-all}
 use lib.ListN.{length, take, drop, length-set, drop-of-length-le}
 use denote.Ref.{now}
 use borrow.Author.Needs.{needs}
-use Rattle.edit_record.specs.Layout.{recordLength}
 use Rattle.math_lists.proofs.ReplacedPart.{copy-more}
 use Rattle.table_arrival.proofs.copy_record.Statement.{statement}
 use Rattle.table_arrival.proofs.copy_record.Tie as tie
 
 abbrev Inv-loop : tie.InvT-loop
-Inv-loop d₀ src i₀ d i = (i ≤ recordLength) × (length d ≡ length d₀) × (d ≡ take i src ++ drop i d₀)
+Inv-loop d₀ src i₀ d i = (i ≤ length src) × (length d ≡ length d₀) × (d ≡ take i src ++ drop i d₀)
 
 abbrev μ-loop : tie.MeasureT-loop
-μ-loop d₀ src i₀ d i = recordLength - i
+μ-loop d₀ src i₀ d i = length src - i
 
 loop-holds : tie.Need-loop-holds Inv-loop μ-loop
 loop-holds c = search needs
@@ -50,13 +49,13 @@ same-length c = c .before .loop .inv .1
 returns : tie.Need-returns Inv-loop μ-loop
 returns c =
     let a = c .before .before .args in
-    let k : c .before .loop .i ≡ recordLength = omega arith in
+    let w = length (now (a .src)) in
+    let k : c .before .loop .i ≡ w = omega arith in
     rw (
       c .before .loop .inv .2,
       k,
-      take-all recordLength (now (a .src)) (omega arith),
-      drop-of-length-le (now (a .d))
-          {i = recordLength} (omega arith),
+      take-all w (now (a .src)) (omega arith),
+      drop-of-length-le (now (a .d)) {i = w} (omega arith),
     )
     (append-nil (now (a .src)))
 

@@ -6,8 +6,8 @@ use Rattle.table_arrival.proofs.counted_with.Tie as tie
 bumped-requires : tie.Need-bumped-requires
 bumped-requires c κs = search needs
 
-sum-words-requires : tie.Need-sum-words-requires
-sum-words-requires c κs = search needs
+sum-record-requires : tie.Need-sum-record-requires
+sum-record-requires c κs = search needs
 
 added-requires : tie.Need-added-requires
 added-requires c κs = search needs
@@ -21,8 +21,8 @@ add-t10 c = search needs
 returns : tie.Need-returns
 returns c =
     let add = c .before .before in
-    rw (add .added .ensures, add .before .sum-words .ensures, add .before .before .bumped .ensures)
+    rw (add .added .ensures, add .before .sum-record .ensures, add .before .before .bumped .ensures)
 
 pub counted-with-spec : {M : Type 1} → statement M
 counted-with-spec =
-    tie.close (tie.spec bumped-requires sum-words-requires added-requires add-t9 add-t10 returns)
+    tie.close (tie.spec bumped-requires sum-record-requires added-requires add-t9 add-t10 returns)

@@ -3,11 +3,12 @@ use mathlib.Core.List.{List, _++_}
 use mathlib.Core.Path.{ap, _∙_}
 use Prim.Native.Nat.{ℕ, _+_, _*_}
 use native.Mathlib.Omega.{arith}
-use lib.ListN.{take, drop}
+use lib.ListN.{length, take, drop}
 use denote.Ref.{now}
 use borrow.Rule.Slice.PartMut.{post-is}
 use borrow.Author.Needs.{needs}
-use Rattle.edit_record.specs.Layout.{recordLength, placeLength}
+use Rattle.edit_record.specs.Layout.{placeLength}
+use Rattle.edit_record.proofs.RecordSpans.{span-most}
 use Rattle.table_arrival.proofs.put_record.Statement.{statement}
 use Rattle.table_arrival.proofs.put_record.Tie as tie
 
@@ -24,7 +25,7 @@ part-copy-record-start : tie.Need-part-copy-record-start
 part-copy-record-start c = search needs
 
 part-copy-record-end : tie.Need-part-copy-record-end
-part-copy-record-end c = search needs
+part-copy-record-end c = omega (arith, span-most (now (c .before .before .args .rec)))
 
 copy-record-requires : tie.Need-copy-record-requires
 copy-record-requires c κs = search needs
@@ -37,9 +38,10 @@ returns c =
     let a = c .before .before .before .before .before .before .args in
     let s = c .before .before .copy-record in
     let at = a .p * placeLength in
+    let end = at + length (now (a .rec)) in
     let rs = now (a .recs) in
-    ap (λ (x : List ℕ). take at rs ++ (s .last .0 ++ x)) (post-is at (at + recordLength) rs (omega arith))
-    ∙ ap (λ (y : List ℕ). take at rs ++ (y ++ drop (at + recordLength) rs)) (s .ensures)
+    ap (λ (x : List ℕ). take at rs ++ (s .last .0 ++ x)) (post-is at end rs (omega arith))
+    ∙ ap (λ (y : List ℕ). take at rs ++ (y ++ drop end rs)) (s .ensures)
 
 pub put-record-spec : {M : Type 1} → statement M
 put-record-spec =

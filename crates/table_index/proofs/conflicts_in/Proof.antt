@@ -1,12 +1,14 @@
 -- `table_index::conflicts_in` meets its contract: after i places, the marks are those of the edits in them. Assumes
 -- nothing.
-use mathlib.Core.Path.{_≡_, refl, sym}
+use mathlib.Core.Path.{_≡_, sym}
 use mathlib.Core.List.{map}
 use Prim.Native.Nat.{_≤_, _-_}
 use native.Mathlib.Omega.{arith}
 use lib.ListN.{take}
 use denote.Ref.{now}
-use Rattle.edit_history.specs.EditsHeld.{recordAt, conflictsWith}
+use Rattle.edit_causal.specs.Conflict.{conflictsWith}
+use Rattle.edit_causal.proofs.ConflictsAmongSets.{none-marked}
+use Rattle.edit_history.specs.EditsHeld.{recordAt}
 use Rattle.table_index.proofs.ConflictsInPlaces.{marks-below, marks-more}
 use borrow.Author.Needs.{needs}
 use Rattle.table_index.proofs.conflicts_in.Statement.{statement}
@@ -19,8 +21,7 @@ abbrev μ-loop : tie.MeasureT-loop
 μ-loop recs places k e marks₀ i₀ marks i = k - i
 
 loop-holds : tie.Need-loop-holds Inv-loop μ-loop
-unfolding conflictsWith
-loop-holds c = (omega arith, refl)
+loop-holds c = (omega arith, sym (none-marked (c .before .before .args .e)))
 
 mul-is-conflict-at : tie.Need-mul-is-conflict-at Inv-loop μ-loop
 mul-is-conflict-at c = search needs

@@ -1,7 +1,6 @@
 -- `table_index::survey` meets its contract: by the index, or, for an edit that is refused, by looking through the
 -- records. Assumes nothing.
 use mathlib.Core.Path.{_≡_, sym, ap, _∙_}
-use mathlib.Core.Bool.{false}
 use mathlib.Core.List.{List, map}
 use Prim.Native.Nat.{ℕ, _-_, _*_, _≤_, _<_}
 use native.Mathlib.Omega.{arith}
@@ -10,7 +9,8 @@ use lib.Seq.{take-take}
 use denote.Ref.{now}
 use borrow.Author.Tests.{eq-eqb, not-false}
 use Rattle.edit_record.specs.Layout.{createKind}
-use Rattle.edit_history.specs.EditsHeld.{recordAt, editsOf, setsOn, objectOf, conflictsWith}
+use Rattle.edit_causal.specs.Conflict.{conflictsWith}
+use Rattle.edit_history.specs.EditsHeld.{recordAt, editsOf, setsOn, objectOf}
 use Rattle.group_step.specs.GroupRows.{mostObjects, mostSets}
 use Rattle.table_index.proofs.SurveyByIndex.{turn, torn-is, create-surveyed, aimed, target-surveyed}
 use borrow.Author.Needs.{needs}

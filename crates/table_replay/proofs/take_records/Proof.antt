@@ -1,13 +1,14 @@
 -- `table_replay::take_records` meets its contract. Assumes nothing.
-use mathlib.Core.Path.{_≡_, sym, ap, _∙_}
+use mathlib.Core.Path.{_≡_, refl, sym, ap, _∙_}
 use mathlib.Core.List.{List}
-use Prim.Native.Nat.{ℕ, _+_, _-_, _*_, _≤_}
+use Prim.Native.Nat.{ℕ, _-_, _≤_}
 use native.Mathlib.Numerals.{add-one}
 use native.Mathlib.Omega.{arith}
-use lib.ListN.{length, take, drop}
+use lib.ListN.{length}
 use denote.Ref.{now}
 use borrow.Author.Needs.{needs}
-use Rattle.edit_form.specs.OldForm.{lengthBy, longFrom, storedIn}
+use Rattle.edit_form.specs.OldForm.{startOf, storedIn}
+use Rattle.edit_form.proofs.Stretches.{start-most, lent-is, next-start, few-bytes, start-inside, lent-there}
 use Rattle.edit_history.specs.EditsHeld.{countFrom}
 use Rattle.table_drawing.specs.Tables.{Tables, tablesOf}
 use Rattle.table_drawing.specs.AnswerNumbers.{outcomeOf, numberOf}
@@ -17,8 +18,7 @@ use Rattle.table_index.specs.IndexForms.{IndexOf}
 use Rattle.table_arrival.specs.Arrival.{acceptanceOf}
 use Rattle.table_replay.specs.Replay.{editsIn}
 use Rattle.table_replay.proofs.ReplayGoes.{Going, RightlyLong, going-start, going-faithful, going-sound}
-use Rattle.table_replay.proofs.ReplayGoes.{going-on, going-ends, going-long, next-long, lent-is, record-left}
-use Rattle.table_replay.proofs.ReplayGoes.{rest-has}
+use Rattle.table_replay.proofs.ReplayGoes.{going-on, going-ends, going-long, next-long}
 use Rattle.table_replay.proofs.RoomForAll.{next-room}
 use Rattle.table_replay.proofs.take_records.Statement.{statement}
 use Rattle.table_replay.proofs.take_records.Tie as tie
@@ -28,25 +28,28 @@ abbrev counted-in : ℕ → List ℕ → ℕ → ℕ → ℕ
 counted-in form recs n s = countFrom s (editsIn (storedIn form recs) n)
 
 abbrev Inv-loop : tie.InvT-loop
-Inv-loop records₀ objects₀ groups₀ places₀ numbers₀ counts₀ members₀ recs form n step c₀ i₀ records objects groups
-    places numbers counts members c i =
+Inv-loop records₀ objects₀ groups₀ places₀ numbers₀ counts₀ members₀ recs form n c₀ at₀ i₀ records objects groups
+    places numbers counts members c at i =
     (i ≤ n)
+    × (at ≡ startOf form recs i)
     × Going (c₀ .sites) (storedIn form recs) i (tablesOf c records objects groups)
     × IndexOf records (c .records) places numbers counts members
     × Spaced (counted-in form recs n) places
 
 abbrev μ-loop : tie.MeasureT-loop
-μ-loop records₀ objects₀ groups₀ places₀ numbers₀ counts₀ members₀ recs form n step c₀ i₀ records objects groups
-    places numbers counts members c i =
+μ-loop records₀ objects₀ groups₀ places₀ numbers₀ counts₀ members₀ recs form n c₀ at₀ i₀ records objects groups
+    places numbers counts members c at i =
     n - i
 
 -- ---- where things stand
 
 abbrev start-of : tie.At-loop Inv-loop μ-loop → tie.Start Inv-loop μ-loop
-start-of b = b .before .before .before .before .before .before .before .before .before .before
+start-of b = b .before .before .before .before .before .before .before .before .before
 
 abbrev round-of : tie.After-take-next Inv-loop μ-loop → tie.In-loop Inv-loop μ-loop
-round-of m = m .before .before .before .before .before .before .before .before .before .before .before
+round-of m =
+    m .before .before .before .before .before .before
+    .before .before .before .before .before .before
 
 abbrev call-of : tie.After-number Inv-loop μ-loop → tie.After-take-next Inv-loop μ-loop
 call-of d =
@@ -74,26 +77,24 @@ stored-at s = storedIn (s .args .form) (now (s .args .recs))
 
 -- ---- the record that is taken
 
--- it is there
-left :
-    (r : tie.In-loop Inv-loop μ-loop) →
-    r .before .loop .i * r .before .before .length-by .result + r .before .before .length-by .result
-    ≤ length (recs-of (r .before))
-left r =
+-- it starts inside the stretch
+inside : (r : tie.In-loop Inv-loop μ-loop) → r .before .loop .at ≤ length (recs-of (r .before))
+inside r =
     let b = r .before in
+    let l = b .loop in
     let s = start-of b in
-    record-left (form-of b) _ (b .loop .i) (recs-of b) (b .before .length-by .ensures) (s .args .n) (r .loop-test .taken)
-    (s .pre .5)
+    start-inside (form-of b) (recs-of b) (l .i) (l .at) (l .inv .1) (s .args .n) (r .loop-test .taken) (s .pre .5)
 
 -- and is the stretch's
 taken-is :
     (m : tie.After-take-next Inv-loop μ-loop) →
-    m .before .before .before .before .before .before .before .before .before .long-from .result
+    m .before .before .before .before .before .before .before .before .before .before .long-from .result
     ≡ given-of (round-of m .before) (round-of m .before .loop .i)
 taken-is m =
     let b = round-of m .before in
-    lent-is (form-of b) _ (b .loop .i) (recs-of b) (b .before .length-by .ensures) _
-    (m .before .before .before .before .before .before .before .before .before .long-from .ensures)
+    let l = b .loop in
+    lent-is (form-of b) (recs-of b) (l .i) (l .at) (l .inv .1) _
+    (m .before .before .before .before .before .before .before .before .before .before .long-from .ensures)
 
 -- ---- the lengths stay
 
@@ -117,7 +118,7 @@ loop-long : (b : tie.At-loop Inv-loop μ-loop) → AsLong (start-of b) (tables-o
 loop-long b =
     let s = start-of b in
     as-long s (tables-of b)
-    (going-long (s .args .empty .sites) (given-of b) (s .pre .3) (b .loop .i) (tables-of b) (b .loop .inv .1))
+    (going-long (s .args .empty .sites) (given-of b) (s .pre .3) (b .loop .i) (tables-of b) (b .loop .inv .2))
 
 call-long :
     (b : tie.At-loop Inv-loop μ-loop) (a : ℕ) (t : Tables) →
@@ -125,53 +126,67 @@ call-long :
 call-long b a t h =
     let s = start-of b in
     as-long s t
-    (next-long (s .args .empty .sites) (given-of b) (s .pre .3) (b .loop .i) (tables-of b) (b .loop .inv .1) a t h)
+    (next-long (s .args .empty .sites) (given-of b) (s .pre .3) (b .loop .i) (tables-of b) (b .loop .inv .2) a t h)
 
 -- ---- the needs
 
-length-by-requires : tie.Need-length-by-requires Inv-loop μ-loop
-length-by-requires c κs = search needs
-
 loop-holds : tie.Need-loop-holds Inv-loop μ-loop
+unfolding startOf
 loop-holds c =
-    let s = c .before .before .before .before .before .before .before .before .before in
-    (omega arith, started s, s .pre .1, s .pre .2)
+    let s = c .before .before .before .before .before .before .before .before in
+    (omega arith, refl, started s, s .pre .1, s .pre .2)
 
-mul-at : tie.Need-mul-at Inv-loop μ-loop
-mul-at c = omega (arith, left c)
+sub-rest : tie.Need-sub-rest Inv-loop μ-loop
+sub-rest c = inside c
 
-sub-long-from : tie.Need-sub-long-from Inv-loop μ-loop
-sub-long-from c = omega (arith, left c)
+part-rest-start : tie.Need-part-rest-start Inv-loop μ-loop
+part-rest-start c = inside c
 
-part-long-from-start : tie.Need-part-long-from-start Inv-loop μ-loop
-part-long-from-start c = omega (arith, left c)
-
-part-long-from-end : tie.Need-part-long-from-end Inv-loop μ-loop
-part-long-from-end c = search needs
+part-rest-end : tie.Need-part-rest-end Inv-loop μ-loop
+part-rest-end c = search needs
 
 long-from-requires : tie.Need-long-from-requires Inv-loop μ-loop
 long-from-requires c κs =
     let r = c .before in
     let b = r .before in
-    rest-has (form-of b) _ (b .loop .i) (recs-of b) (b .before .length-by .ensures) (left r)
+    let l = b .loop in
+    let s = start-of b in
+    lent-there (form-of b) (recs-of b) (l .i) (l .at) (l .inv .1) (s .args .n) (r .loop-test .taken) (s .pre .5)
+
+length-from-requires : tie.Need-length-from-requires Inv-loop μ-loop
+length-from-requires c κs = search needs
+
+add-at : tie.Need-add-at Inv-loop μ-loop
+add-at c =
+    let r = c .before .before .before in
+    let b = r .before in
+    let l = b .loop in
+    omega (
+      arith,
+      start-most (form-of b) (recs-of b) (l .i),
+      few-bytes (form-of b) (recs-of b) (l .i) (l .at) (l .inv .1) (c .length-from .result) (c .length-from .ensures),
+      l .inv .1,
+      r .loop-test .taken,
+      start-of b .pre .4,
+    )
 
 slice-aggregate-take-next : tie.Need-slice-aggregate-take-next Inv-loop μ-loop
 slice-aggregate-take-next c = search needs
 
 take-next-requires : tie.Need-take-next-requires Inv-loop μ-loop
 take-next-requires c κs =
-    let r = c .before .before .before .before .before .before .before .before .before .before in
+    let r = c .before .before .before .before .before .before .before .before .before .before .before in
     let b = r .before in
     let s = start-of b in
     let l = b .loop in
-    let rec = lent-is (form-of b) _ (l .i) (recs-of b) (b .before .length-by .ensures) _
-    (c .before .before .before .before .before .before .before .before .long-from .ensures) in (
-      going-sound (s .args .empty .sites) (given-of b) (s .pre .3) (l .i) _ (l .inv .1),
-      going-faithful (s .args .empty .sites) (given-of b) (s .pre .3) (l .i) _ (l .inv .1) .kept .wide,
-      l .inv .2,
+    let rec = lent-is (form-of b) (recs-of b) (l .i) (l .at) (l .inv .1) _
+    (c .before .before .before .before .before .before .before .before .before .long-from .ensures) in (
+      going-sound (s .args .empty .sites) (given-of b) (s .pre .3) (l .i) _ (l .inv .2),
+      going-faithful (s .args .empty .sites) (given-of b) (s .pre .3) (l .i) _ (l .inv .2) .kept .wide,
+      l .inv .3,
       rw rec
           (next-room (s .args .empty .sites) (given-of b) (s .pre .3) (l .i) (s .args .n) (r .loop-test .taken)
-          (tables-of b) (l .inv .1) (l .places) (l .inv .3)),
+          (tables-of b) (l .inv .2) (l .places) (l .inv .4)),
     )
 
 number-requires : tie.Need-number-requires Inv-loop μ-loop
@@ -199,25 +214,25 @@ same-length-4 : tie.Need-same-length-4 Inv-loop μ-loop
 same-length-4 c =
     let b = round-of (call-of (c .before)) .before in
     let known = c .before .before .before .before .before .before .before .before .before .slice-known11 .given in
-    search (needs, known, b .loop .inv .2 .places-long, start-of b .pre .1 .places-long)
+    search (needs, known, b .loop .inv .3 .places-long, start-of b .pre .1 .places-long)
 
 same-length-5 : tie.Need-same-length-5 Inv-loop μ-loop
 same-length-5 c =
     let b = round-of (call-of (c .before)) .before in
     let known = c .before .before .before .before .before .before .before .slice-known12 .given in
-    search (needs, known, b .loop .inv .2 .numbers-long, start-of b .pre .1 .numbers-long)
+    search (needs, known, b .loop .inv .3 .numbers-long, start-of b .pre .1 .numbers-long)
 
 same-length-6 : tie.Need-same-length-6 Inv-loop μ-loop
 same-length-6 c =
     let b = round-of (call-of (c .before)) .before in
     let known = c .before .before .before .before .before .slice-known13 .given in
-    search (needs, known, b .loop .inv .2 .counts-long, start-of b .pre .1 .counts-long)
+    search (needs, known, b .loop .inv .3 .counts-long, start-of b .pre .1 .counts-long)
 
 same-length-7 : tie.Need-same-length-7 Inv-loop μ-loop
 same-length-7 c =
     let b = round-of (call-of (c .before)) .before in
     let known = c .before .before .before .slice-known14 .given in
-    search (needs, known, b .loop .inv .2 .members-long, start-of b .pre .1 .members-long)
+    search (needs, known, b .loop .inv .3 .members-long, start-of b .pre .1 .members-long)
 
 returns : tie.Need-returns Inv-loop μ-loop
 returns c =
@@ -225,7 +240,7 @@ returns c =
     let b = round-of m .before in
     let s = start-of b in
     let l = b .loop in
-    going-ends (s .args .empty .sites) (given-of b) (s .pre .3) (l .i) _ (l .inv .1)
+    going-ends (s .args .empty .sites) (given-of b) (s .pre .3) (l .i) _ (l .inv .2)
     (numberOf (m .take-next .result .answer)) _
     (m .take-next .ensures .0 ∙ ap (acceptanceOf (tables-of b)) (taken-is m))
     (λ z. c .if1 .taken (c .before .number .ensures ∙ z))
@@ -246,14 +261,18 @@ loop-again c =
     let b = round-of m .before in
     let s = start-of b in
     let l = b .loop in
+    let w = m .before .before .before .before .before .before .before .before .before in
     let z : numberOf (m .take-next .result .answer) ≡ 0 = sym (c .before .number .ensures) ∙ c .if1 .left in (
       omega (arith, round-of m .loop-test .taken),
       rw (add-one (l .i))
-          (going-on (s .args .empty .sites) (given-of b) (s .pre .3) (l .i) _ (l .inv .1) _
+          (next-start (form-of b) (recs-of b) (l .i) (l .at) (l .inv .1) (w .length-from .result)
+          (w .length-from .ensures)),
+      rw (add-one (l .i))
+          (going-on (s .args .empty .sites) (given-of b) (s .pre .3) (l .i) _ (l .inv .2) _
           (rw z at (m .take-next .ensures .0 ∙ ap (acceptanceOf (tables-of b)) (taken-is m)))),
       m .take-next .ensures .1 z .0,
       spaced-same (counted-in (form-of b) (recs-of b) (s .args .n)) _ _ (m .take-next .ensures .1 z .1)
-          (m .take-next .ensures .1 z .0 .places-long) (l .inv .3),
+          (m .take-next .ensures .1 z .0 .places-long) (l .inv .4),
     )
 
 same-length-8 : tie.Need-same-length-8 Inv-loop μ-loop
@@ -266,22 +285,22 @@ same-length-10 : tie.Need-same-length-10 Inv-loop μ-loop
 same-length-10 c = loop-long (c .before) .2
 
 same-length-11 : tie.Need-same-length-11 Inv-loop μ-loop
-same-length-11 c = c .before .loop .inv .2 .places-long ∙ sym (start-of (c .before) .pre .1 .places-long)
+same-length-11 c = c .before .loop .inv .3 .places-long ∙ sym (start-of (c .before) .pre .1 .places-long)
 
 same-length-12 : tie.Need-same-length-12 Inv-loop μ-loop
-same-length-12 c = c .before .loop .inv .2 .numbers-long ∙ sym (start-of (c .before) .pre .1 .numbers-long)
+same-length-12 c = c .before .loop .inv .3 .numbers-long ∙ sym (start-of (c .before) .pre .1 .numbers-long)
 
 same-length-13 : tie.Need-same-length-13 Inv-loop μ-loop
-same-length-13 c = c .before .loop .inv .2 .counts-long ∙ sym (start-of (c .before) .pre .1 .counts-long)
+same-length-13 c = c .before .loop .inv .3 .counts-long ∙ sym (start-of (c .before) .pre .1 .counts-long)
 
 same-length-14 : tie.Need-same-length-14 Inv-loop μ-loop
-same-length-14 c = c .before .loop .inv .2 .members-long ∙ sym (start-of (c .before) .pre .1 .members-long)
+same-length-14 c = c .before .loop .inv .3 .members-long ∙ sym (start-of (c .before) .pre .1 .members-long)
 
 returns-2 : tie.Need-returns-2 Inv-loop μ-loop
 returns-2 c =
     let l = c .before .loop in
     let k : l .i ≡ start-of (c .before) .args .n = omega arith in
-    rw k at (l .inv .1)
+    rw k at (l .inv .2)
 
 pub take-records-spec : {M : Type 1} → statement M
 take-records-spec =
@@ -289,13 +308,13 @@ take-records-spec =
     (tie.spec
     Inv-loop
     μ-loop
-    length-by-requires
     loop-holds
-    mul-at
-    sub-long-from
-    part-long-from-start
-    part-long-from-end
+    sub-rest
+    part-rest-start
+    part-rest-end
     long-from-requires
+    length-from-requires
+    add-at
     slice-aggregate-take-next
     take-next-requires
     number-requires

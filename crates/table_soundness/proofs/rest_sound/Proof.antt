@@ -16,11 +16,8 @@ cast-m c = search needs
 counts-agree-requires : tie.Need-counts-agree-requires
 counts-agree-requires c κs = search needs
 
-mul-sum-words : tie.Need-mul-sum-words
-mul-sum-words c = search needs
-
-sum-words-requires : tie.Need-sum-words-requires
-sum-words-requires c κs =
+sum-records-requires : tie.Need-sum-records-requires
+sum-records-requires c κs =
     let s = c .before .before .before .before .before .before .before .before in
     let (n, _) = few (s .args .c) (s .pre .limits) in
     let a = s .args in
@@ -47,7 +44,7 @@ returns c =
     rw (
       c .unused-zero .ensures,
       c .before .drawing-sound .ensures,
-      c .before .before .sum-words .ensures,
+      c .before .before .sum-records .ensures,
       c .before .before .before .counts-agree .ensures,
     )
     (rest-is t (a .held) (now (a .places)) (s .pre))
@@ -59,8 +56,7 @@ rest-sound-spec =
     cast-n
     cast-m
     counts-agree-requires
-    mul-sum-words
-    sum-words-requires
+    sum-records-requires
     drawing-sound-requires
     unused-zero-requires
     returns)

@@ -1,0 +1,7 @@
+pub mod MaskFromBits
+pub mod MeetingRows
+pub mod MetByRows
+pub mod ReachedByRows
+pub mod NextByRows
+pub mod RowsOfArrival
+pub mod BoxOfRows

@@ -1,0 +1,52 @@
+-- Where cs has the contexts of the first n Sets of a box, the members of a set and those that have one in their
+-- context are those whose reach has one. Assumes nothing.
+use mathlib.Core.Path.{_≡_, refl, sym, _∙_, ap}
+use mathlib.Core.Bool.{Bool, true, false, not, _&&_}
+use mathlib.Core.List.{List}
+use Prim.Native.Nat.{ℕ, _-_, _^_, _<_}
+use native.Mathlib.Omega.{arith}
+use lib.Bits.{bitAnd, or-lt}
+use lib.ListN.{getD, take}
+use lib.Seq.{getD-take}
+use Rattle.math_lists.specs.NumbersBelow.{mask}
+use Rattle.math_maximal.specs.Groups.{bit}
+use Rattle.math_maximal.specs.Step.{compatible}
+use Rattle.math_maximal.proofs.Bits.{bit-or, bit-minus}
+use Rattle.math_lists.proofs.NumbersBelow.{mask-below}
+use Rattle.math_maximal.proofs.Masks.{mask-bit}
+use Rattle.math_contexts.specs.Box.{Box}
+use Rattle.math_contexts.specs.Contexts.{contexts}
+use Rattle.math_contexts.specs.MaskForms.{reachMask}
+use Rattle.math_contexts.proofs.ContextMembers.{contexts-hold, context-below}
+use Rattle.group_context.specs.RowForms.{meeting, reaching, apart}
+use Rattle.group_context.proofs.MaskFromBits.{is-mask, compatible-with}
+use Rattle.group_context.proofs.MetByRows.{bit-meeting, meeting-below}
+
+module _ (b : Box) (n : ℕ) (cs : List ℕ) (before : take n cs ≡ contexts b n) (u : ℕ) (small : u < 2 ^ n) where
+  -- the reach of j has no member of u
+  abbrev clear : ℕ → Bool
+  clear j = compatible u (reachMask (contexts b n) j)
+
+  reaches : (j : ℕ) → j < n → bit (reaching cs n u) j ≡ not (clear j)
+  reaches j l =
+      let g = getD (contexts b n) j 0 in
+      let held : getD cs j 0 ≡ g = sym (getD-take n cs j 0 l) ∙ ap (λ (t : List ℕ). getD t j 0) before in
+      bit-or u (meeting cs n u) j
+      ∙ rw (bit-meeting cs n u j l, held)
+      (sym (compatible-with u g j (rw (contexts-hold b n j l) (context-below b j))))
+
+  pub reaching-is : reaching cs n u ≡ mask n (λ j. not (clear j))
+  reaching-is =
+      is-mask n (reaching cs n u) (λ j. not (clear j))
+      (or-lt n u (meeting cs n u) small (meeting-below cs n u)) reaches
+
+  pub apart-is : (S : ℕ → Bool) → apart cs n (mask n S) u ≡ mask n (λ j. S j && clear j)
+  apart-is S =
+      let v = mask n S in
+      is-mask n (v - bitAnd v (reaching cs n u)) (λ j. S j && clear j) (omega (arith, mask-below n S))
+      (λ j l. bit-minus v (reaching cs n u) j
+      ∙ rw (mask-bit n S j l, reaches j l) (ap (λ (t : Bool). S j && t) (twice (clear j))))
+    where
+      twice : (t : Bool) → not (not t) ≡ t
+      twice true = refl
+      twice false = refl

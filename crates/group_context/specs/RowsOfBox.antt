@@ -1,0 +1,33 @@
+-- Numbers that tell what a box says of its first Sets. The contracts hold for every box that the numbers tell of, so
+-- that a caller takes the box of its edits. Assumes nothing.
+use mathlib.Core.Path.{_≡_}
+use mathlib.Core.Bool.{Bool}
+use mathlib.Core.List.{List}
+use Prim.Native.Nat.{ℕ, _<_}
+use lib.ListN.{take, getD}
+use Rattle.math_lists.specs.NumbersBelow.{mask}
+use Rattle.math_maximal.specs.Groups.{bit}
+use Rattle.math_contexts.specs.Box.{Box}
+use Rattle.math_contexts.specs.Contexts.{contexts}
+
+-- of the first n Sets of b, two conflict by document 01's rule whichever is asked, and `plains` has a number for each:
+-- those that it conflicts with; what its bits past the first n are does not matter
+pub record PlainRows (b : Box) (n : ℕ) (plains : List ℕ) : Type 0 where
+  pub symmetric : (i j : ℕ) → i < n → j < n → b .plain i j ≡ b .plain j i
+  pub conflicts : (i j : ℕ) → i < n → j < n → bit (getD plains i 0) j ≡ b .plain i j
+
+-- `seens` and `nameds` have a number for each as well: those before it that it has seen, and those that it lists; and
+-- bit i of `limited` says whether i is limited
+pub record RowsOf (b : Box) (n : ℕ) (plains seens nameds : List ℕ) (limited : ℕ) : Type 0 where
+  pub plainly : PlainRows b n plains
+  pub seen : (i : ℕ) → i < n → getD seens i 0 ≡ mask i (b .seen i)
+  pub named : (i : ℕ) → i < n → getD nameds i 0 ≡ mask i (b .named i)
+  pub limits : (i : ℕ) → i < n → bit limited i ≡ b .limited i
+
+-- Set n of b, by its own numbers, with the conflicts and the contexts of those before it
+pub record NextOf (b : Box) (n : ℕ) (plains cs : List ℕ) (v w : ℕ) (limited : Bool) : Type 0 where
+  pub plainly : PlainRows b n plains
+  pub before : take n cs ≡ contexts b n
+  pub seen : v ≡ mask n (b .seen n)
+  pub named : w ≡ mask n (b .named n)
+  pub limits : limited ≡ b .limited n

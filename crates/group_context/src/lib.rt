@@ -1,0 +1,158 @@
+// The contexts of the Sets of an object (document 02, Req 06), the conflicts that they bring, and answer 16, from
+// numbers alone, whose bits are the Sets in the order of their arrival. Bit j of `plain[i]` says that Sets i and j
+// conflict by document 01's rule; for j before i, bit j of `seen[i]` says that the author of i had seen j, and bit j
+// of `named[i]` that i lists j; bit i of `limited` says that i is of kind 3; and `ctx[i]` is the context of i. An
+// arriving Set, number n, is given by its own numbers; it may come after as many Sets as an object has at most.
+ghost use mathlib.Core.Path.{_≡_};
+ghost use Prim.Native.Nat.{_≤_};
+ghost use lib.ListN.{length, take};
+ghost use Rattle.math_lists.specs.NumbersBelow.{mask};
+ghost use Rattle.math_contexts.specs.Box.{Box};
+ghost use Rattle.math_contexts.specs.Contexts.{contexts};
+ghost use Rattle.math_contexts.specs.MaskForms.{maskConflicts, maskNames};
+ghost use Rattle.group_step.specs.GroupRows.{mostSets};
+ghost use Rattle.group_context.specs.RowForms.{
+  meeting,
+  disputedIn,
+  reaching,
+  apart,
+  contextOf,
+  conflictsOf,
+  namesOf,
+};
+ghost use Rattle.group_context.specs.RowsOfBox.{RowsOf, NextOf};
+
+// Those of the first n Sets whose number has a member of m.
+fn meeting_rows(rows: &[u64], n: usize, m: u64) -> u64
+    requires { ⌜ (n ≤ mostSets) × (n ≤ length (now rows)) ⌝ }
+    ensures { λ r. ⌜ r ≡ meeting (now (rows .entry)) n m ⌝ }
+{
+    let mut found: u64 = 0;
+    let mut j: usize = 0;
+    while j < n {
+        if rows[j] & m != 0 {
+            found = found | group_step::only(j);
+        }
+        j += 1;
+    }
+    found
+}
+
+// The members of v, all of the first n Sets, that conflict with a member of v.
+fn disputed_in(plain: &[u64], n: usize, v: u64) -> u64
+    requires { ⌜ (n ≤ mostSets) × (n ≤ length (now plain)) ⌝ }
+    ensures { λ r. ⌜ r ≡ disputedIn (now (plain .entry)) n v ⌝ }
+{
+    v & meeting_rows(plain, n, v)
+}
+
+// The members of m, and those of the first n Sets that have one in their context.
+fn reaching_any(ctx: &[u64], n: usize, m: u64) -> u64
+    requires { ⌜ (n ≤ mostSets) × (n ≤ length (now ctx)) ⌝ }
+    ensures { λ r. ⌜ r ≡ reaching (now (ctx .entry)) n m ⌝ }
+{
+    m | meeting_rows(ctx, n, m)
+}
+
+// The members of v from which no member of m is reached.
+fn apart_from(ctx: &[u64], n: usize, v: u64, m: u64) -> u64
+    requires { ⌜ (n ≤ mostSets) × (n ≤ length (now ctx)) ⌝ }
+    ensures { λ r. ⌜ r ≡ apart (now (ctx .entry)) n v m ⌝ }
+{
+    group_step::without(v, reaching_any(ctx, n, m))
+}
+
+// The context of Set n, from the contexts of those before it.
+fn context_of(plain: &[u64], ctx: &[u64], n: usize, seen: u64, named: u64, limited: bool) -> u64
+    requires { ⌜ (n ≤ mostSets) × (n ≤ length (now plain)) × (n ≤ length (now ctx)) ⌝ }
+    ensures { λ r. ⌜ r ≡ contextOf (now (plain .entry)) (now (ctx .entry)) n seen named limited ⌝ }
+{
+    if !limited {
+        return 0;
+    }
+    let d = disputed_in(plain, n, seen);
+    apart_from(ctx, n, seen, group_step::without(d, named))
+}
+
+// Puts the contexts of the first n Sets into ctx, each worked out from those before it.
+pub fn put_contexts(
+    ctx: &mut [u64],
+    plain: &[u64],
+    seen: &[u64],
+    named: &[u64],
+    limited: u64,
+    n: usize,
+)
+    requires { ⌜ (n ≤ mostSets)
+        × (n ≤ length (now ctx))
+        × (n ≤ length (now plain))
+        × (n ≤ length (now seen))
+        × (n ≤ length (now named)) ⌝ }
+    ensures { λ r.
+        ⌜ ((b : Box) → RowsOf b n (now (plain .entry)) (now (seen .entry)) (now (named .entry)) limited →
+        take n (now (ctx .exit)) ≡ contexts b n) ⌝ }
+{
+    let mut i: usize = 0;
+    while i < n {
+        let l = group_step::has(limited, i);
+        ctx[i] = context_of(plain, ctx, i, seen[i], named[i], l);
+        i += 1;
+    }
+}
+
+// Those of the first n Sets that reach one of `row`, or one that a member of c conflicts with.
+fn conflicts_by(plain: &[u64], ctx: &[u64], n: usize, row: u64, c: u64) -> u64
+    requires { ⌜ (n ≤ mostSets) × (n ≤ length (now plain)) × (n ≤ length (now ctx)) ⌝ }
+    ensures { λ r. ⌜ r ≡ conflictsOf (now (plain .entry)) (now (ctx .entry)) n row c ⌝ }
+{
+    reaching_any(ctx, n, row | meeting_rows(plain, n, c))
+}
+
+// The Sets before Set n that conflict with it: the number that the step takes. The bits of `row` are those before it
+// that it conflicts with by document 01's rule.
+pub fn conflicts_of(
+    plain: &[u64],
+    ctx: &[u64],
+    n: usize,
+    row: u64,
+    seen: u64,
+    named: u64,
+    limited: bool,
+) -> u64
+    requires { ⌜ (n ≤ mostSets) × (n ≤ length (now plain)) × (n ≤ length (now ctx)) ⌝ }
+    ensures { λ r.
+        ⌜ ((b : Box) → NextOf b n (now (plain .entry)) (now (ctx .entry)) seen named limited →
+        row ≡ mask n (b .plain n) → r ≡ maskConflicts b n) ⌝ }
+{
+    let c = context_of(plain, ctx, n, seen, named, limited);
+    conflicts_by(plain, ctx, n, row, c)
+}
+
+// Whether Set n, whose context is c, lists the disputed members of c, and c is all that it has seen from which nothing
+// is reached that conflicts with what it lists.
+fn names_by(plain: &[u64], ctx: &[u64], n: usize, seen: u64, named: u64, c: u64) -> bool
+    requires { ⌜ (n ≤ mostSets) × (n ≤ length (now plain)) × (n ≤ length (now ctx)) ⌝ }
+    ensures { λ r. ⌜ r ≡ namesOf (now (plain .entry)) (now (ctx .entry)) n seen named c ⌝ }
+{
+    let d = disputed_in(plain, n, seen);
+    let foes = meeting_rows(plain, n, named);
+    let left = apart_from(ctx, n, seen, foes);
+    (named == c & d) & (c == left)
+}
+
+// Whether answer 16 does not apply to Set n: it is a plain Set, or what it lists is a version of what it has seen.
+pub fn names_version(
+    plain: &[u64],
+    ctx: &[u64],
+    n: usize,
+    seen: u64,
+    named: u64,
+    limited: bool,
+) -> bool
+    requires { ⌜ (n ≤ mostSets) × (n ≤ length (now plain)) × (n ≤ length (now ctx)) ⌝ }
+    ensures { λ r.
+        ⌜ ((b : Box) → NextOf b n (now (plain .entry)) (now (ctx .entry)) seen named limited → r ≡ maskNames b n) ⌝ }
+{
+    let c = context_of(plain, ctx, n, seen, named, limited);
+    !limited | names_by(plain, ctx, n, seen, named, c)
+}

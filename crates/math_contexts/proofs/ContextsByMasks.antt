@@ -1,0 +1,119 @@
+-- Contexts and conflicts by the operations of a 64-bit number are those of the definition. Assumes nothing.
+use mathlib.Core.Path.{_≡_, _∙_, ap, fun-ext}
+use mathlib.Core.Logic.{inl, inr}
+use mathlib.Core.Bool.{Bool, true, false, not, _&&_, cond}
+use mathlib.Core.List.{List}
+use Prim.Native.Nat.{ℕ, suc, _^_, _<_}
+use native.Mathlib.Omega.{arith}
+use lib.Pow.{pow-lt}
+use lib.Bits.{bitOr, or-lt}
+use borrow.Author.Tests.{not-true}
+use Rattle.math_lists.specs.NumbersBelow.{some, mask}
+use Rattle.math_lists.proofs.Booleans.{clash, decide, off, same-test, both, and-on}
+use Rattle.math_lists.proofs.NumbersBelow.{some-on, some-at, mask-same}
+use Rattle.math_maximal.specs.MaximalSets.{_∈_, with}
+use Rattle.math_maximal.specs.Groups.{bit}
+use Rattle.math_maximal.specs.Step.{compatible}
+use Rattle.math_maximal.proofs.Bits.{bit-or, bit-power, compatible-on, compatible-at}
+use Rattle.math_maximal.proofs.Masks.{mask-at, mask-on}
+use Rattle.math_contexts.specs.Box.{Box}
+use Rattle.math_contexts.specs.Contexts.{unnamed, suits, contextIn, contexts, context, reach, conflicts}
+use Rattle.math_contexts.specs.MaskForms.{reachMask, foes, maskContext, maskConflicts}
+use Rattle.math_contexts.proofs.ContextMembers.{contexts-hold, suits-at, suits-on, reach-in}
+use Rattle.math_contexts.proofs.ContextMembers.{context-below, reach-below}
+use Rattle.math_contexts.proofs.ConflictByReach.{conflicts-at, conflicts-on}
+
+-- ---- the reach of j as a number
+
+module _ (b : Box) (n j : ℕ) (l : j < n) where
+  reach-number : reachMask (contexts b n) j ≡ bitOr (context b j) (2 ^ j)
+  reach-number = ap (λ (g : ℕ). bitOr g (2 ^ j)) (contexts-hold b n j l)
+
+  bit-reach : bit (reachMask (contexts b n) j) ≡ reach b j
+  unfolding with
+  bit-reach = ap bit reach-number ∙ fun-ext (λ a. bit-or (context b j) (2 ^ j) a ∙ rw (bit-power j a))
+
+  pub reach-small : reachMask (contexts b n) j < 2 ^ n
+  reach-small =
+      rw reach-number
+      (or-lt n (context b j) (2 ^ j) (omega (arith, context-below b j, pow-lt l)) (pow-lt l))
+
+  -- the reach has no bit in common with m
+  pub apart-at :
+      (m : ℕ) → compatible m (reachMask (contexts b n) j) ≡ true → (a : ℕ) → a ∈ reach b j → bit m a ≡ false
+  apart-at m h a r = compatible-at m (reachMask (contexts b n) j) h a (rw bit-reach r)
+
+  pub apart-on :
+      (m : ℕ) → ((a : ℕ) → a ∈ reach b j → bit m a ≡ false) → compatible m (reachMask (contexts b n) j) ≡ true
+  apart-on m h = compatible-on m (reachMask (contexts b n) j) n reach-small (λ a p. h a (rw bit-reach at p))
+
+-- ---- contexts
+
+pub context-by-masks : (b : Box) (i : ℕ) → context b i ≡ maskContext b i
+unfolding context contextIn maskContext
+context-by-masks b i =
+    ap (λ (g : ℕ). cond (b .limited i) g 0)
+    (mask-same i (λ j. b .seen i j && suits b cs i j) (λ j. b .seen i j && compatible u (reachMask cs j))
+    (λ j l. ap (λ (t : Bool). b .seen i j && t) (same j l)))
+  where
+    cs : List ℕ
+    cs = contexts b i
+
+    u : ℕ
+    u = mask i (unnamed b i)
+
+    same : (j : ℕ) → j < i → suits b cs i j ≡ compatible u (reachMask cs j)
+    same j l =
+        same-test (suits b cs i j) (compatible u (reachMask cs j))
+        (λ h. apart-on b i j l u (λ a r. off (bit u a) (λ p.
+        let (k, t) = mask-at i (unnamed b i) a p in
+        clash t (suits-at b cs i j h a k (rw (reach-in b i j l) r)))))
+        (λ h. suits-on b cs i j (λ a k r. off (unnamed b i a) (λ t.
+        clash (mask-on i (unnamed b i) a k t) (apart-at b i j l u h a (rw (reach-in b i j l) at r)))))
+
+-- ---- those that conflict with a member of P
+
+module _ (b : Box) (n : ℕ) (P : ℕ → Bool) (y : ℕ) where
+  pub foes-at : y ∈ bit (foes b n P) → (x : ℕ) × (x < n) × (x ∈ P) × (b .plain x y ≡ true)
+  foes-at h =
+      let (_, p) = mask-at n (λ y. some n (λ x. P x && b .plain x y)) y h in
+      let (x, l, e) = some-at n (λ x. P x && b .plain x y) p in
+      let (q, c) = both (P x) (b .plain x y) e in
+      (x, l, q, c)
+
+  pub foes-on : y < n → (x : ℕ) → x < n → x ∈ P → b .plain x y ≡ true → y ∈ bit (foes b n P)
+  foes-on k x l p c =
+      mask-on n (λ y. some n (λ x. P x && b .plain x y)) y k
+      (some-on n (λ x. P x && b .plain x y) x l (and-on (P x) (b .plain x y) p c))
+
+-- ---- conflicts
+
+pub conflicts-by-masks : (b : Box) (k : ℕ) → mask k (conflicts b k) ≡ maskConflicts b k
+unfolding maskConflicts
+conflicts-by-masks b k =
+    mask-same k (conflicts b k) (λ j. not (compatible u (reachMask cs j)))
+    (λ j l. same-test (conflicts b k j) (not (compatible u (reachMask cs j))) (meets j l) (conflict j l))
+  where
+    cs : List ℕ
+    cs = contexts b k
+
+    u : ℕ
+    u = foes b (suc k) (reach b k)
+
+    meets : (j : ℕ) → j < k → conflicts b k j ≡ true → not (compatible u (reachMask cs j)) ≡ true
+    meets j l h =
+        let (x, y, r, s, e) = conflicts-at b k j h in
+        rw (off (compatible u (reachMask cs j)) (λ t.
+        clash
+        (foes-on b (suc k) (reach b k) y (omega (arith, reach-below b j y s)) x (reach-below b k x r) r e)
+        (apart-at b k j l u t y s)))
+
+    conflict : (j : ℕ) → j < k → not (compatible u (reachMask cs j)) ≡ true → conflicts b k j ≡ true
+    conflict j l h = elim (decide (conflicts b k j)) [
+      | inl t ↦ t
+      | inr t ↦ clash
+          (apart-on b k j l u (λ y s. off (bit u y) (λ p.
+          let (x, _, r, e) = foes-at b (suc k) (reach b k) y p in
+          clash (conflicts-on b k j x y r s e) t)))
+          (not-true (compatible u (reachMask cs j)) h)
+    ]
