@@ -11,16 +11,16 @@ use borrow.Author.Tests.{eq-eqb, not-false}
 use Rattle.math_lists.specs.SortedLists.{any}
 use Rattle.math_lists.proofs.Booleans.{decide, then-off}
 use Rattle.edit_record.specs.declared.Edit.{Edit}
-use Rattle.edit_record.specs.Layout.{recordLength}
-use Rattle.edit_record.specs.RecordBytes.{decodeOf}
+use Rattle.edit_record.specs.RecordBytes.{decodeOf, spanOf}
 use Rattle.edit_record.specs.Answer1.{isSet, isAimed, unfit, malformed}
 use Rattle.edit_record.proofs.WellFormed.{set-aimed}
+use Rattle.edit_causal.proofs.ConflictsAmongSets.{none-itself}
 use Rattle.edit_history.specs.EditsHeld.{recordAt, editsOf, isTarget, objectOf}
 use Rattle.edit_history.specs.Answers2to5.{isRepeated, isEarly, isTorn, isAstray}
 use Rattle.edit_history.proofs.EditsHeld.{edits-length}
 use Rattle.group_step.specs.GroupRows.{mostGroups}
 use Rattle.table_drawing.specs.Tables.{Tables, heldBy, placeAt}
-use Rattle.table_arrival.specs.Answers6and7.{isFull, isCrowded, firstOf, answerTo}
+use Rattle.table_arrival.specs.Answers6and7.{matesOf, isFull, isCrowded, firstOf, answerTo}
 use Rattle.table_arrival.specs.Arrival.{taken}
 use Rattle.table_arrival.proofs.Admitted.{accepted, taken-records}
 use Rattle.table_arrival.proofs.UntouchedSound.{held-after}
@@ -53,7 +53,7 @@ module _ (t : Tables) (f : Faithful t) where
         let aim = not-false held? (then-off (isAimed e) (not held?) (set-aimed e k) h) in
         let s = f .kept .isSound in
         let c = recordAt (t .records) (placeAt (t .objects) (objectOf e (heldBy t))) in
-        crowded-exactly t f e k aim
+        crowded-exactly t f e k aim (none-itself (matesOf t e ++ (e ∷ [])))
         ∙ ap (λ (gs : List ℕ). ltb mostGroups (length gs))
         (one-object (heldBy t ++ (e ∷ [])) c (named e) (target-site t s e aim) (target-seq t s e aim))
         ∙ (unfold crowdedOver in rw k))
@@ -61,7 +61,7 @@ module _ (t : Tables) (f : Faithful t) where
   ]
 
   pub answer-over-list :
-      (b : List ℕ) → length b ≡ recordLength → answerTo t b ≡ listAnswer (t .counters .sites) (heldBy t) (decodeOf b)
+      (b : List ℕ) → length b ≡ spanOf b → answerTo t b ≡ listAnswer (t .counters .sites) (heldBy t) (decodeOf b)
   unfolding answerTo listAnswer
   answer-over-list b w =
       let e = decodeOf b in
@@ -69,7 +69,7 @@ module _ (t : Tables) (f : Faithful t) where
       let n = t .counters .sites in
       first-same (malformed n b) (isRepeated es e) (isEarly es e) (isTorn es e) (isAstray es e) (isFull t e)
       (isCrowded t e) (unfit n e) (fullOver es e) (crowdedOver es e)
-      (unfold malformed in rw (eq-eqb (length b) recordLength w)) (full-over e) (crowded-over e)
+      (unfold malformed in rw (eq-eqb (length b) (spanOf b) w)) (full-over e) (crowded-over e)
 
   -- ---- after an accepted edit
 

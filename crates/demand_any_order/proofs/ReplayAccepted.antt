@@ -20,9 +20,8 @@ use lib.ListN.{length, length-append}
 use lib.Dec.{eqb}
 use borrow.Author.Tests.{eqb-true, eqb-false}
 use Rattle.edit_record.specs.declared.Edit.{Edit}
-use Rattle.edit_record.specs.Layout.{mostSites, recordLength}
-use Rattle.edit_record.proofs.RecordSpans.{one-span}
-use Rattle.edit_record.specs.RecordBytes.{decodeOf}
+use Rattle.edit_record.specs.Layout.{mostSites}
+use Rattle.edit_record.specs.RecordBytes.{decodeOf, spanOf}
 use Rattle.edit_history.specs.EditsHeld.{editsOf}
 use Rattle.table_drawing.specs.Tables.{Tables, heldBy, emptyDrawing}
 use Rattle.table_drawing.specs.AnswerNumbers.{Outcome, outcomeOf}
@@ -114,7 +113,7 @@ module _ (sites : ℕ) (some : 1 ≤ sites) (few : sites ≤ mostSites) (rs : �
 
   -- the next record's answer is the answer over the list
   pub next-answer :
-      (n : ℕ) → replayOf sites rs n .answer ≡ 0 → length (rs n) ≡ recordLength →
+      (n : ℕ) → replayOf sites rs n .answer ≡ 0 → length (rs n) ≡ spanOf (rs n) →
       answerTo (replayOf sites rs n .after) (rs n) ≡ listAnswer sites (editsIn rs n) (decodeOf (rs n))
   next-answer n z w =
       let t = replayOf sites rs n .after in
@@ -131,7 +130,7 @@ module _ (sites : ℕ) (some : 1 ≤ sites) (few : sites ≤ mostSites) (rs : �
       let t = replayOf sites rs n .after in
       let (z, a) = refuses-none-before sites rs n h in
       let (whole, all) = refuses-none-at n z in
-      let w : length (rs n) ≡ recordLength = accepted t (rs n) a .admitted .whole ∙ one-span (rs n) in (
+      let w = accepted t (rs n) a .admitted .whole in (
         (λ b m. elim (List·Memᴰ·append-cases (recordsOf rs n) m)
             [ inl k ↦ whole b k | inr k ↦ rw (List·Memᴰ·eq-of-singleton k) w ]),
         accepted-more sites (editsIn rs n) (decodeOf (rs n)) all (sym (next-answer n z w) ∙ a),

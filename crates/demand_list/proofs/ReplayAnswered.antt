@@ -12,8 +12,8 @@ use Rattle.math_lists.proofs.LastBelow.{last}
 use lib.Dec.{eqb}
 use borrow.Author.Tests.{eqb-true}
 use Rattle.edit_record.specs.declared.Edit.{Edit}
-use Rattle.edit_record.specs.Layout.{mostSites, recordLength}
-use Rattle.edit_record.specs.RecordBytes.{decodeOf}
+use Rattle.edit_record.specs.Layout.{mostSites}
+use Rattle.edit_record.specs.RecordBytes.{decodeOf, spanOf}
 use Rattle.table_drawing.specs.Tables.{Tables}
 use Rattle.edit_record.specs.RecordBytes.{noEdit}
 use Rattle.table_arrival.specs.Answers6and7.{answerTo}
@@ -90,7 +90,7 @@ edits-in-at rs (suc n) k l = elim (last l) [
 ]
 
 module _ (sites : ℕ) (some : 1 ≤ sites) (few : sites ≤ mostSites) (rs : ℕ → List ℕ) (n : ℕ)
-    (whole : (k : ℕ) → k < n → length (rs k) ≡ recordLength) (es : List Edit) (are : editsIn rs n ≡ es) where
+    (whole : (k : ℕ) → k < n → length (rs k) ≡ spanOf (rs k)) (es : List Edit) (are : editsIn rs n ≡ es) where
   edit-at : (k : ℕ) → k < n → decodeOf (rs k) ≡ getD es k noEdit
   edit-at k l = sym (edits-in-at rs n k l) ∙ ap (λ (l : List Edit). getD l k noEdit) are
 

@@ -3,19 +3,16 @@
 use mathlib.Core.Path.{_≡_, refl, sym, ap, _∙_}
 use mathlib.Core.Bool.{false}
 use mathlib.Core.List.{List, [], _∷_, _++_, map, flatMap}
-use Prim.Native.Nat.{ℕ, suc, _-_, _*_, _^_, _≤_, _<_}
+use Prim.Native.Nat.{ℕ, suc, _-_, _^_, _≤_, _<_}
 use native.Mathlib.Omega.{arith}
 use lib.Dec.{eqb}
 use lib.ListN.{length, length-map, drop}
 use Rattle.math_lists.specs.NumbersBelow.{some, all, sum, keep}
 use Rattle.math_lists.specs.SortedLists.{any, filter, insertBy, gatherBy, insert, gather}
 use Rattle.edit_record.specs.declared.Edit.{Edit}
-use Rattle.edit_record.specs.Layout.{recordLength}
 use Rattle.edit_form.specs.OldForm.{longForm, longFrom, startOf, storedIn}
-use Rattle.edit_form.proofs.OneLength.{start-by-number}
 use Rattle.edit_form.proofs.Stretches.{stored-whole}
 use Rattle.edit_record.specs.RecordBytes.{counts, countBytes, spanOf}
-use Rattle.edit_record.proofs.RecordSpans.{one-span}
 use Rattle.edit_record.specs.Answer1.{nonzeroPast, unfit}
 use Rattle.edit_causal.specs.Conflict.{conflictsIn}
 use Rattle.edit_causal.specs.TotalOrder.{vectorSum}
@@ -77,7 +74,7 @@ abbrev Computed : Case → Type 0
 Computed c =
     let es = c .arrivals in
     (length es ≡ suc (length es - 1))
-    × (length (recordBytes es) ≡ length es * recordLength)
+    × (startOf longForm (recordBytes es) (length es) ≡ length (recordBytes es))
     × (editsIn (storedIn longForm (recordBytes es)) (length es) ≡ es)
     × Gives es (length es - 1) (c .expected)
 
@@ -94,11 +91,9 @@ by-computing c (some-edit, long, are, gives) = go (c .expected) gives
     rs : ℕ → List ℕ
     rs = storedIn longForm (recordBytes es)
 
-    records-whole : (k : ℕ) → k < length es → length (rs k) ≡ recordLength
+    records-whole : (k : ℕ) → k < length es → length (rs k) ≡ spanOf (rs k)
     records-whole k l =
-        let bs = recordBytes es in
-        stored-whole longForm bs (length es) (omega (arith, start-by-number longForm bs (length es), long)) k l
-        ∙ one-span (rs k)
+        stored-whole longForm (recordBytes es) (length es) (omega (arith, long)) k l
 
     n : ℕ
     n = length es

@@ -11,6 +11,7 @@ use Rattle.math_lists.proofs.NumbersBelow.{mask-same, mask-more, mask-below}
 use Rattle.edit_record.specs.declared.Edit.{Edit}
 use Rattle.edit_record.specs.RecordBytes.{noEdit}
 use Rattle.edit_causal.specs.Conflict.{doConflict, conflictsIn, conflictsWith}
+use Rattle.edit_causal.specs.ConflictForms.{NoneItself}
 use Rattle.edit_causal.proofs.CausalLaws.{conflict-symmetric, conflict-irreflexive}
 
 -- ---- whichever is asked, and of one and the same
@@ -20,9 +21,6 @@ unfolding conflictsIn
 conflicts-turned ms i j = conflict-symmetric (getD ms i noEdit) (getD ms j noEdit)
 
 -- no Set conflicts with itself
-abbrev pub NoneItself : List Edit → Type 0
-NoneItself ms = (i : ℕ) → conflictsIn ms i i ≡ false
-
 pub none-itself : (ms : List Edit) → NoneItself ms
 unfolding conflictsIn
 none-itself ms i = conflict-irreflexive (getD ms i noEdit)

@@ -11,6 +11,7 @@ use lib.ListN.{length, getD, take, drop, replicate, length-append, length-drop, 
 use lib.Seq.{length-take-le, drop-at, drop-append-le, drop-drop, getD-drop, getD-append-add}
 use Rattle.math_lists.specs.NumbersBelow.{some}
 use Rattle.math_lists.proofs.NumbersBelow.{some-same}
+use Rattle.math_lists.proofs.Booleans.{or-right}
 use Rattle.math_lists.proofs.ByPlaces.{zero-anywhere}
 use Rattle.edit_record.specs.declared.Edit.{Edit}
 use Rattle.edit_record.specs.Layout.{mostSites, kindAt, siteAt, seqAt, vectorAt, targetAt, keyAt, targetSeqAt, valueAt}
@@ -29,7 +30,8 @@ use Rattle.edit_form.proofs.CopiedParts.{oldEnd, drop-take, widened-bef
 pub no-old-form-is-1 :
     (b : List ℕ) → hasOldForm (getD b kindAt 0) ≡ false → (n : ℕ) → malformed n (longOf b) ≡ true
 unfolding malformed unfit
-no-old-form-is-1 b h n = rw h
+no-old-form-is-1 b h n =
+    or-right (not (eqb (length (longOf b)) (spanOf (longOf b)))) (unfit n (decodeOf (longOf b))) (rw h)
 
 -- ---- how long records are
 

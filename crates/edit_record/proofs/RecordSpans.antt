@@ -1,6 +1,5 @@
 -- How many bytes a record has: a record's own bytes alone decide, there are a whole record's fields among them, and a
--- place has room for them. Nothing else is to be known of the number but at its end, where one length is all there is.
--- Assumes nothing.
+-- place has room for them. Nothing else is to be known of the number. Assumes nothing.
 use mathlib.Core.Path.{_≡_, refl, sym, _∙_}
 use mathlib.Core.List.{List, _++_}
 use Prim.Native.Nat.{ℕ, _≤_}
@@ -31,8 +30,3 @@ span-front b rest whole = span-agree b (b ++ rest) (agree-append (spanOf b) b re
 -- and where it is taken by itself
 pub span-own : (s : List ℕ) → spanOf (take (spanOf s) s) ≡ spanOf s
 span-own s = span-agree s (take (spanOf s) s) (λ i l. getD-take (spanOf s) s i 0 l)
-
--- every kind has the same
-pub one-span : (s : List ℕ) → spanOf s ≡ recordLength
-unfolding spanOf
-one-span s = refl

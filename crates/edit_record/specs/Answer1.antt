@@ -9,8 +9,8 @@ use Rattle.math_lists.specs.NumbersBelow.{some}
 use Rattle.edit_record.specs.declared.Site.{Site}
 use Rattle.edit_record.specs.declared.Seq.{Seq}
 use Rattle.edit_record.specs.declared.Edit.{Edit}
-use Rattle.edit_record.specs.Layout.{mostSites, keys, createKind, setKind, topKind, bottomKind, recordLength}
-use Rattle.edit_record.specs.RecordBytes.{decodeOf}
+use Rattle.edit_record.specs.Layout.{mostSites, keys, createKind, setKind, topKind, bottomKind}
+use Rattle.edit_record.specs.RecordBytes.{decodeOf, spanOf}
 
 abbrev pub isCreate : Edit → Bool
 isCreate e = eqb (e .kind) createKind
@@ -56,5 +56,6 @@ unfit n e =
     || isCreate e && not (lastEightZero e)
     || isLayer e && not (eqb (e .key) 0 && eqb (e .value) 0)
 
+-- bytes of another number than the record has, or an edit that is unfit
 unfoldable pub malformed : ℕ → List ℕ → Bool
-malformed n s = not (eqb (length s) recordLength) || unfit n (decodeOf s)
+malformed n s = not (eqb (length s) (spanOf s)) || unfit n (decodeOf s)

@@ -273,5 +273,6 @@ pub fn is_malformed(n: u8, rec: &[u8]) -> bool
     ensures { λ r. ⌜ r ≡ malformed n (now (rec .entry)) ⌝ }
 {
     let e = decode(rec);
-    (rec.len() != RECORD) | is_unfit(n, e)
+    let span = span_of(rec);
+    (rec.len() != span) | is_unfit(n, e)
 }

@@ -18,7 +18,7 @@ use Rattle.math_contexts.specs.Box.{Box, disputed}
 use Rattle.math_contexts.specs.MaskForms.{foes}
 use Rattle.group_context.specs.RowForms.{meeting, disputedIn}
 use Rattle.group_context.specs.RowsOfBox.{PlainRows}
-use Rattle.group_context.proofs.MaskFromBits.{is-mask}
+use Rattle.group_context.proofs.MaskFromBits.{is-mask, own-mask}
 
 pub bit-meeting :
     (rows : List ℕ) (n m j : ℕ) → j < n → bit (meeting rows n m) j ≡ not (compatible m (getD rows j 0))
@@ -53,3 +53,10 @@ module _ (b : Box) (n : ℕ) (plains : List ℕ) (rows : PlainRows b n plains) (
       (omega (arith, and-le-l v (meeting plains n v), mask-below n P))
       (λ j l. bit-and v (meeting plains n v) j
       ∙ rw (mask-bit n P j l, bit-meeting plains n v j l, meets j l, lt-ltb j n l))
+
+-- the set given by its number
+pub foes-of :
+    (b : Box) (n : ℕ) (plains : List ℕ) → PlainRows b n plains → (c : ℕ) → c < 2 ^ n →
+    meeting plains n c ≡ foes b n (bit c)
+foes-of b n plains rows c small =
+    ap (meeting plains n) (sym (own-mask n c small)) ∙ foes-met b n plains rows (bit c)

@@ -24,7 +24,7 @@ use Rattle.math_contexts.proofs.ContextsByMasks.{context-by-masks, reach-small}
 use Rattle.group_context.specs.RowForms.{meeting, disputedIn, apart, contextOf, conflictsOf, namesOf}
 use Rattle.group_context.specs.RowsOfBox.{NextOf}
 use Rattle.group_context.proofs.MaskFromBits.{is-mask, own-mask, same-masks, compatible-same}
-use Rattle.group_context.proofs.MetByRows.{meeting-below, foes-met, disputed-met}
+use Rattle.group_context.proofs.MetByRows.{meeting-below, foes-met, disputed-met, foes-of}
 use Rattle.group_context.proofs.ReachedByRows.{reaching-is, apart-is}
 
 module _ {b : Box} {n : ℕ} {plains cs : List ℕ} {v w : ℕ} {limited : Bool}
@@ -60,10 +60,6 @@ module _ {b : Box} {n : ℕ} {plains cs : List ℕ} {v w : ℕ} {limited : Bool}
 
   -- ---- the conflicts
 
-  foes-of : (c : ℕ) → c < 2 ^ n → meeting plains n c ≡ foes b n (bit c)
-  foes-of c small =
-      ap (meeting plains n) (sym (own-mask n c small)) ∙ foes-met b n plains (next .plainly) (bit c)
-
   module _ (row : ℕ) (its-row : row ≡ mask n (b .plain n)) where
     -- below n, the foes of the context and those of Set n itself are the foes of its reach
     foe-bits :
@@ -74,7 +70,7 @@ module _ {b : Box} {n : ℕ} {plains cs : List ℕ} {v w : ℕ} {limited : Bool}
         let c = context b n in
         let hits : ℕ → Bool = λ x. bit c x && b .plain x y in
         bit-or row (meeting plains n c) y
-        ∙ rw (its-row, foes-of c (context-below b n), mask-bit n (b .plain n) y l)
+        ∙ rw (its-row, foes-of b n plains (next .plainly) c (context-below b n), mask-bit n (b .plain n) y l)
         (ap (λ (t : Bool). b .plain n y || t) (mask-bit n (λ y. some n (λ x. bit c x && b .plain x y)) y l)
         ∙ or-comm (b .plain n y) (some n hits)
         ∙ sym (mask-bit (suc n) (λ y. some (suc n) (λ x. reach b n x && b .plain x y)) y (omega arith)

@@ -1,7 +1,7 @@
 -- Where cs has the contexts of the first n Sets of a box, the members of a set and those that have one in their
 -- context are those whose reach has one. Assumes nothing.
-use mathlib.Core.Path.{_≡_, refl, sym, _∙_, ap}
-use mathlib.Core.Bool.{Bool, true, false, not, _&&_}
+use mathlib.Core.Path.{_≡_, sym, _∙_, ap}
+use mathlib.Core.Bool.{Bool, not, _&&_, Bool·not-not}
 use mathlib.Core.List.{List}
 use Prim.Native.Nat.{ℕ, _-_, _^_, _<_}
 use native.Mathlib.Omega.{arith}
@@ -22,6 +22,11 @@ use Rattle.group_context.specs.RowForms.{meeting, reaching, apart}
 use Rattle.group_context.proofs.MaskFromBits.{is-mask, compatible-with}
 use Rattle.group_context.proofs.MetByRows.{bit-meeting, meeting-below}
 
+pub held-at :
+    (b : Box) (n : ℕ) (cs : List ℕ) → take n cs ≡ contexts b n →
+    (j : ℕ) → j < n → getD cs j 0 ≡ getD (contexts b n) j 0
+held-at b n cs before j l = sym (getD-take n cs j 0 l) ∙ ap (λ (t : List ℕ). getD t j 0) before
+
 module _ (b : Box) (n : ℕ) (cs : List ℕ) (before : take n cs ≡ contexts b n) (u : ℕ) (small : u < 2 ^ n) where
   -- the reach of j has no member of u
   abbrev clear : ℕ → Bool
@@ -30,9 +35,8 @@ module _ (b : Box) (n : ℕ) (cs : List ℕ) (before : take n cs ≡ contexts b 
   reaches : (j : ℕ) → j < n → bit (reaching cs n u) j ≡ not (clear j)
   reaches j l =
       let g = getD (contexts b n) j 0 in
-      let held : getD cs j 0 ≡ g = sym (getD-take n cs j 0 l) ∙ ap (λ (t : List ℕ). getD t j 0) before in
       bit-or u (meeting cs n u) j
-      ∙ rw (bit-meeting cs n u j l, held)
+      ∙ rw (bit-meeting cs n u j l, held-at b n cs before j l)
       (sym (compatible-with u g j (rw (contexts-hold b n j l) (context-below b j))))
 
   pub reaching-is : reaching cs n u ≡ mask n (λ j. not (clear j))
@@ -45,8 +49,4 @@ module _ (b : Box) (n : ℕ) (cs : List ℕ) (before : take n cs ≡ contexts b 
       let v = mask n S in
       is-mask n (v - bitAnd v (reaching cs n u)) (λ j. S j && clear j) (omega (arith, mask-below n S))
       (λ j l. bit-minus v (reaching cs n u) j
-      ∙ rw (mask-bit n S j l, reaches j l) (ap (λ (t : Bool). S j && t) (twice (clear j))))
-    where
-      twice : (t : Bool) → not (not t) ≡ t
-      twice true = refl
-      twice false = refl
+      ∙ rw (mask-bit n S j l, reaches j l) (ap (λ (t : Bool). S j && t) (Bool·not-not (clear j))))

@@ -21,7 +21,7 @@ use Rattle.group_context.specs.RowsOfBox.{RowsOf, NextOf}
 
 -- ---- the contexts of fewer Sets stand in front
 
-pub contexts-front : (b : Box) (i n : ℕ) → i ≤ n → take i (contexts b n) ≡ contexts b i
+contexts-front : (b : Box) (i n : ℕ) → i ≤ n → take i (contexts b n) ≡ contexts b i
 contexts-front b i n l =
     let long : length (take i (contexts b n)) ≡ i =
     length-take-le i (contexts b n) (omega (arith, contexts-long b n)) in

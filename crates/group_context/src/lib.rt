@@ -4,11 +4,11 @@
 // of `named[i]` that i lists j; bit i of `limited` says that i is of kind 3; and `ctx[i]` is the context of i. An
 // arriving Set, number n, is given by its own numbers; it may come after as many Sets as an object has at most.
 ghost use mathlib.Core.Path.{_≡_};
-ghost use Prim.Native.Nat.{_≤_};
-ghost use lib.ListN.{length, take};
+ghost use Prim.Native.Nat.{ℕ, _≤_, _<_};
+ghost use lib.ListN.{length, take, getD};
 ghost use Rattle.math_lists.specs.NumbersBelow.{mask};
 ghost use Rattle.math_contexts.specs.Box.{Box};
-ghost use Rattle.math_contexts.specs.Contexts.{contexts};
+ghost use Rattle.math_contexts.specs.Contexts.{contexts, conflicts};
 ghost use Rattle.math_contexts.specs.MaskForms.{maskConflicts, maskNames};
 ghost use Rattle.group_step.specs.GroupRows.{mostSets};
 ghost use Rattle.group_context.specs.RowForms.{
@@ -20,7 +20,7 @@ ghost use Rattle.group_context.specs.RowForms.{
   conflictsOf,
   namesOf,
 };
-ghost use Rattle.group_context.specs.RowsOfBox.{RowsOf, NextOf};
+ghost use Rattle.group_context.specs.RowsOfBox.{PlainRows, RowsOf, NextOf};
 
 // Those of the first n Sets whose number has a member of m.
 fn meeting_rows(rows: &[u64], n: usize, m: u64) -> u64
@@ -126,6 +126,24 @@ pub fn conflicts_of(
 {
     let c = context_of(plain, ctx, n, seen, named, limited);
     conflicts_by(plain, ctx, n, row, c)
+}
+
+// Puts, for each of the first n Sets, those of them that conflict with it into out, be they earlier, later or itself.
+pub fn put_conflicts(out: &mut [u64], plain: &[u64], ctx: &[u64], n: usize)
+    requires { ⌜ (n ≤ mostSets)
+        × (n ≤ length (now out))
+        × (n ≤ length (now plain))
+        × (n ≤ length (now ctx)) ⌝ }
+    ensures { λ r.
+        ⌜ ((b : Box) → PlainRows b n (now (plain .entry)) → take n (now (ctx .entry)) ≡ contexts b n →
+        (i : ℕ) → i < n → getD (now (out .exit)) i 0 ≡ mask n (conflicts b i)) ⌝ }
+{
+    let mut i: usize = 0;
+    while i < n {
+        let reach = ctx[i] | group_step::only(i);
+        out[i] = conflicts_by(plain, ctx, n, 0, reach);
+        i += 1;
+    }
 }
 
 // Whether Set n, whose context is c, lists the disputed members of c, and c is all that it has seen from which nothing

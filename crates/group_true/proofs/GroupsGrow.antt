@@ -11,7 +11,8 @@ use Rattle.math_lists.specs.SortedLists.{elem}
 use Rattle.edit_record.specs.declared.Edit.{Edit}
 use Rattle.edit_record.specs.RecordBytes.{noEdit}
 use Rattle.edit_causal.specs.Conflict.{doConflict, conflictsIn, conflictsWith}
-use Rattle.edit_causal.proofs.ConflictsAmongSets.{NoneItself, conflicts-turned, conflicts-kept, free-plainly}
+use Rattle.edit_causal.specs.ConflictForms.{NoneItself}
+use Rattle.edit_causal.proofs.ConflictsAmongSets.{conflicts-turned, conflicts-kept, free-plainly}
 use Rattle.math_maximal.specs.MaximalSets.{_∈_, _⊆_, Maximal}
 use Rattle.math_maximal.specs.Groups.{bit, below, every, groups}
 use Rattle.math_maximal.specs.Step.{step}

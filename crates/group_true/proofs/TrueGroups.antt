@@ -15,7 +15,7 @@ use Rattle.edit_record.specs.declared.Edit.{Edit}
 use Rattle.edit_record.specs.Answer1.{isSet}
 use Rattle.edit_causal.specs.Conflict.{conflictsIn, conflictsWith}
 use Rattle.edit_causal.proofs.CausalLaws.{same-reflexive}
-use Rattle.edit_causal.proofs.ConflictsAmongSets.{NoneItself}
+use Rattle.edit_causal.specs.ConflictForms.{NoneItself}
 use Rattle.math_maximal.specs.Groups.{every}
 use Rattle.math_maximal.specs.Step.{step}
 use Rattle.math_maximal.proofs.Groups.{no-elements}

@@ -10,12 +10,14 @@ use lib.ListN.{length, length-append}
 use Rattle.math_lists.proofs.LastBelow.{last}
 use Rattle.math_maximal.specs.Groups.{bit}
 use Rattle.math_maximal.specs.Step.{step}
+use Rattle.math_maximal.proofs.Masks.{mask-bit}
 use Rattle.math_contexts.specs.Box.{Box, Lawful, Ends}
 use Rattle.math_contexts.specs.Contexts.{conflicts}
 use Rattle.math_contexts.specs.Versions.{namesVersion, Valid}
 use Rattle.math_contexts.specs.BoxByArrival.{boxOf, groupsOver}
 use Rattle.math_contexts.specs.MaskForms.{maskConflicts}
-use Rattle.math_contexts.proofs.VersionsGrow.{step-makes-groups, step-by-masks}
+use Rattle.math_contexts.proofs.ContextsByMasks.{conflicts-by-masks}
+use Rattle.math_contexts.proofs.VersionsGrow.{step-makes-groups}
 use Rattle.math_contexts.proofs.BoxGrows.{names-keep, earlier-groups-over}
 
 module _ {E : Type 0} (d : E) (conf saw lists : E → E → Bool) (lim : E → Bool) (xs : List E) (x : E) where
@@ -51,7 +53,7 @@ module _ {E : Type 0} (d : E) (conf saw lists : E → E → Bool) (lim : E → B
 
     -- with that number as the code works it out
     pub arrives-by-masks : step (maskConflicts (B ys) (length xs)) (length xs) (W xs) ≡ W ys
-    unfolding groupsOver
     arrives-by-masks =
-        rw (earlier-groups-over d conf saw lists lim xs (x ∷ []), one-more)
-        (step-by-masks (B ys) (length ys) law valid ends (length xs))
+        let k = length xs in
+        arrives-over (maskConflicts (B ys) k)
+        (λ i l. rw (← conflicts-by-masks (B ys) k) (mask-bit k (conflicts (B ys) k) i l))

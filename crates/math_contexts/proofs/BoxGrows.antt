@@ -1,6 +1,6 @@
--- Sets in the order of their arrival, xs, and more that arrive after them: of the first nothing is changed, neither
--- their contexts nor their conflicts nor their answers; each group lies in a later one, two groups are never found in
--- one later group, and the groups never become fewer. What is assumed stands at the head of each part.
+-- Sets in the order of their arrival, xs, and more that arrive after them: what is known of the first, their contexts
+-- and their answers stay as they were; each group lies in a later one, two groups are never found in one later group,
+-- and the groups never become fewer. What is assumed stands at the head of each part.
 use mathlib.Core.Path.{_≡_, sym, _∙_}
 use mathlib.Core.Bool.{Bool, true}
 use mathlib.Core.List.{List, _++_}
@@ -12,13 +12,12 @@ use Rattle.math_maximal.specs.MaximalSets.{_∈_, _⊆_}
 use Rattle.math_maximal.specs.Groups.{bit, every, groups}
 use Rattle.math_maximal.proofs.Groups.{below-at, groups-at}
 use Rattle.math_contexts.specs.Box.{Box, disputed, Lawful, Ends}
-use Rattle.math_contexts.specs.Contexts.{contexts, context, conflicts}
+use Rattle.math_contexts.specs.Contexts.{contexts, conflicts}
 use Rattle.math_contexts.specs.Versions.{namesVersion, Valid}
 use Rattle.math_contexts.specs.SameSets.{SameBelow}
 use Rattle.math_contexts.specs.BoxByArrival.{rel, boxOf, groupsOver}
 use Rattle.math_contexts.proofs.ContextMembers.{disputed-at}
-use Rattle.math_contexts.proofs.LaterSets.{context-later, contexts-later, conflicts-later, names-later}
-use Rattle.math_contexts.proofs.LaterSets.{disputed-later, groups-later}
+use Rattle.math_contexts.proofs.LaterSets.{contexts-later, names-later, disputed-later, groups-later}
 use Rattle.math_contexts.proofs.VersionsGrow.{disputed-never-in-one, lies-in-more, no-fewer-groups}
 
 module _ {E : Type 0} (d : E) (conf saw lists : E → E → Bool) (lim : E → Bool) (xs more : List E) where
@@ -45,16 +44,9 @@ module _ {E : Type 0} (d : E) (conf saw lists : E → E → Bool) (lim : E → B
       old : (i : ℕ) → i < length xs → getD ys i d ≡ getD xs i d
       old i l = List·getD-append xs more d i l
 
-  pub context-keeps : (i : ℕ) → i < length xs → context (B ys) i ≡ context (B xs) i
-  context-keeps = context-later first-keep
-
   -- the table of the contexts
   pub contexts-keep : contexts (B ys) (length xs) ≡ contexts (B xs) (length xs)
   contexts-keep = contexts-later first-keep
-
-  pub conflicts-keep :
-      (i j : ℕ) → i < length xs → j < length xs → conflicts (B ys) i j ≡ conflicts (B xs) i j
-  conflicts-keep = conflicts-later first-keep
 
   pub names-keep : (i : ℕ) → i < length xs → namesVersion (B ys) i ≡ namesVersion (B xs) i
   names-keep = names-later first-keep

@@ -3,7 +3,7 @@ use mathlib.Core.Path.{_≡_, _∙_, ap, fun-ext}
 use mathlib.Core.Logic.{inl, inr}
 use mathlib.Core.Bool.{Bool, true, false, not, _&&_, cond}
 use mathlib.Core.List.{List}
-use Prim.Native.Nat.{ℕ, suc, _^_, _<_}
+use Prim.Native.Nat.{ℕ, suc, _^_, _≤_, _<_}
 use native.Mathlib.Omega.{arith}
 use lib.Pow.{pow-lt}
 use lib.Bits.{bitOr, or-lt}
@@ -29,7 +29,7 @@ module _ (b : Box) (n j : ℕ) (l : j < n) where
   reach-number : reachMask (contexts b n) j ≡ bitOr (context b j) (2 ^ j)
   reach-number = ap (λ (g : ℕ). bitOr g (2 ^ j)) (contexts-hold b n j l)
 
-  bit-reach : bit (reachMask (contexts b n) j) ≡ reach b j
+  pub bit-reach : bit (reachMask (contexts b n) j) ≡ reach b j
   unfolding with
   bit-reach = ap bit reach-number ∙ fun-ext (λ a. bit-or (context b j) (2 ^ j) a ∙ rw (bit-power j a))
 
@@ -88,32 +88,46 @@ module _ (b : Box) (n : ℕ) (P : ℕ → Bool) (y : ℕ) where
 
 -- ---- conflicts
 
+-- where m Sets have all that j and k reach, they conflict exactly if the reach of j has a foe of the reach of k
+module _ (b : Box) (m n k j : ℕ) (few : n ≤ m) (h : k < m) (l : j < n) where
+  abbrev clear : Bool
+  clear = compatible (foes b m (reach b k)) (reachMask (contexts b n) j)
+
+  meets : conflicts b k j ≡ true → not clear ≡ true
+  meets c =
+      let (x, y, r, s, e) = conflicts-at b k j c in
+      rw (off clear (λ t.
+      clash
+      (foes-on b m (reach b k) y (omega (arith, reach-below b j y s)) x (omega (arith, reach-below b k x r)) r e)
+      (apart-at b n j l (foes b m (reach b k)) t y s)))
+
+  conflict : not clear ≡ true → conflicts b k j ≡ true
+  conflict c = elim (decide (conflicts b k j)) [
+    | inl t ↦ t
+    | inr t ↦ clash
+        (apart-on b n j l (foes b m (reach b k)) (λ y s. off (bit (foes b m (reach b k)) y) (λ p.
+        let (x, _, r, e) = foes-at b m (reach b k) y p in
+        clash (conflicts-on b k j x y r s e) t)))
+        (not-true clear c)
+  ]
+
+  conflict-by-masks : conflicts b k j ≡ not clear
+  conflict-by-masks = same-test (conflicts b k j) (not clear) meets conflict
+
+-- the conflicts of one Set with all of them
+pub conflicts-with-all :
+    (b : Box) (n k : ℕ) → k < n →
+    mask n (conflicts b k)
+    ≡ (let u = foes b n (reach b k) in mask n (λ j. not (compatible u (reachMask (contexts b n) j))))
+conflicts-with-all b n k l =
+    let u = foes b n (reach b k) in
+    mask-same n (conflicts b k) (λ j. not (compatible u (reachMask (contexts b n) j)))
+    (λ j m. conflict-by-masks b n n k j (omega arith) l m)
+
+-- with those before it
 pub conflicts-by-masks : (b : Box) (k : ℕ) → mask k (conflicts b k) ≡ maskConflicts b k
 unfolding maskConflicts
 conflicts-by-masks b k =
-    mask-same k (conflicts b k) (λ j. not (compatible u (reachMask cs j)))
-    (λ j l. same-test (conflicts b k j) (not (compatible u (reachMask cs j))) (meets j l) (conflict j l))
-  where
-    cs : List ℕ
-    cs = contexts b k
-
-    u : ℕ
-    u = foes b (suc k) (reach b k)
-
-    meets : (j : ℕ) → j < k → conflicts b k j ≡ true → not (compatible u (reachMask cs j)) ≡ true
-    meets j l h =
-        let (x, y, r, s, e) = conflicts-at b k j h in
-        rw (off (compatible u (reachMask cs j)) (λ t.
-        clash
-        (foes-on b (suc k) (reach b k) y (omega (arith, reach-below b j y s)) x (reach-below b k x r) r e)
-        (apart-at b k j l u t y s)))
-
-    conflict : (j : ℕ) → j < k → not (compatible u (reachMask cs j)) ≡ true → conflicts b k j ≡ true
-    conflict j l h = elim (decide (conflicts b k j)) [
-      | inl t ↦ t
-      | inr t ↦ clash
-          (apart-on b k j l u (λ y s. off (bit u y) (λ p.
-          let (x, _, r, e) = foes-at b (suc k) (reach b k) y p in
-          clash (conflicts-on b k j x y r s e) t)))
-          (not-true (compatible u (reachMask cs j)) h)
-    ]
+    let u = foes b (suc k) (reach b k) in
+    mask-same k (conflicts b k) (λ j. not (compatible u (reachMask (contexts b k) j)))
+    (λ j m. conflict-by-masks b (suc k) k k j (omega arith) (omega arith) m)

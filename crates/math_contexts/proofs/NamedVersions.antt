@@ -35,7 +35,7 @@ use Rattle.math_contexts.proofs.KnownByDisputed.{names-some, version-is
 
 -- ---- by the contexts that are worked out
 
-pub conflicts-worked-out :
+conflicts-worked-out :
     (b : Box) (n i j : ℕ) → i < n → j < n → conflictsBy b (contexts b n) i j ≡ conflicts b i j
 unfolding conflictsBy conflicts
 conflicts-worked-out b n i j l m =
@@ -192,6 +192,7 @@ module _ (b : Box) where
   pub valid-named : (n : ℕ) → Lawful b n → Valid b n → AllNamed b n
   valid-named zero law valid i l = absurd (omega arith)
   valid-named (suc n) law valid i l =
+      let fewer = fewer-lawful b n (suc n) (omega arith) law in
       unnamed-is (suc n) law i l
-      (λ j m. valid-named n (fewer-lawful b n (suc n) (omega arith) law) (λ k q. valid k (omega arith)) j (omega arith))
+      (λ j m. valid-named n fewer (λ k q. valid k (omega arith)) j (omega arith))
       ∙ ap not (valid i l)

@@ -1,6 +1,6 @@
--- More Sets never lose a version: what is disputed stays so, two groups are never found in one later group, not even
--- by their disputed members alone, and the groups never become fewer. And the step makes the groups of one Set more.
--- What is assumed stands at the head of each part.
+-- More Sets never lose a version: two groups are never found in one later group, not even by their disputed members
+-- alone, and the groups never become fewer. And the step makes the groups of one Set more. What is assumed stands at
+-- the head of each part.
 use mathlib.Core.Path.{_≡_, _∙_}
 use mathlib.Core.Bool.{Bool, true, false}
 use Prim.Native.Nat.{ℕ, suc, _≤_, _<_}
@@ -13,26 +13,16 @@ use Rattle.math_maximal.specs.Groups.{bit, every, groups}
 use Rattle.math_maximal.specs.Step.{step}
 use Rattle.math_maximal.proofs.MaximalSets.{same-set}
 use Rattle.math_maximal.proofs.Bits.{same-bits}
-use Rattle.math_maximal.proofs.Masks.{mask-bit}
 use Rattle.math_maximal.proofs.Groups.{first-among, groups-at}
 use Rattle.math_maximal.proofs.StepKeepsMaximal.{step-keeps-maximal}
 use Rattle.math_maximal.proofs.MoreElements.{kept, no-more-groups}
 use Rattle.math_contexts.specs.Box.{Box, disputed, Lawful, Ends}
 use Rattle.math_contexts.specs.Contexts.{conflicts}
 use Rattle.math_contexts.specs.Versions.{Valid}
-use Rattle.math_contexts.specs.MaskForms.{maskConflicts}
-use Rattle.math_contexts.proofs.ContextMembers.{disputed-at, disputed-on}
+use Rattle.math_contexts.proofs.ContextMembers.{disputed-on}
 use Rattle.math_contexts.proofs.ConflictByReach.{conflicts-at, plain-conflicts, conflicts-symmetric}
 use Rattle.math_contexts.proofs.ReachFree.{conflicts-irreflexive}
 use Rattle.math_contexts.proofs.GroupsHoldContexts.{all-closed, group-holds-reach}
-use Rattle.math_contexts.proofs.ContextsByMasks.{conflicts-by-masks}
-
--- ---- nothing is assumed
-
-pub disputed-stays : (b : Box) (n m : ℕ) → n ≤ m → disputed b n every ⊆ disputed b m every
-disputed-stays b n m few j d =
-    let (s, k, t, e) = disputed-at b n every j d in
-    disputed-on b m every j (first-among n m few j s) k (first-among n m few k t) e
 
 -- ---- the first n Sets are lawful; that they are valid is not asked
 
@@ -89,9 +79,3 @@ module _ (b : Box) (m : ℕ) (law : Lawful b m) (valid : Valid b m) (ends : Ends
       (k g : ℕ) → ((i : ℕ) → i < k → bit g i ≡ conflicts b k i) →
       step g k (groups (conflicts b) k every) ≡ groups (conflicts b) (suc k) every
   step-makes-groups = step-keeps-maximal (conflicts b) both-ways not-itself
-
-  -- with that number as the code works it out
-  pub step-by-masks :
-      (k : ℕ) → step (maskConflicts b k) k (groups (conflicts b) k every) ≡ groups (conflicts b) (suc k) every
-  step-by-masks k =
-      step-makes-groups k (maskConflicts b k) (λ i l. rw (← conflicts-by-masks b k) (mask-bit k (conflicts b k) i l))

@@ -10,9 +10,7 @@ use lib.Dec.{eqb, leb}
 use borrow.Author.Tests.{eqb-true, eqb-false, leb-false, ltb-false, not-false}
 use Rattle.math_lists.specs.SortedLists.{any}
 use Rattle.math_lists.proofs.Booleans.{neither, then-off}
-use Rattle.edit_record.specs.Layout.{recordLength}
 use Rattle.edit_record.specs.RecordBytes.{decodeOf, spanOf}
-use Rattle.edit_record.proofs.RecordSpans.{one-span}
 use Rattle.edit_record.specs.Answer1.{isCreate, isSet, isLayer, isAimed, malformed, unfit}
 use Rattle.edit_record.proofs.WellFormed.{WellFormed, well-formed, set-not-create, layer-aimed, set-or-layer}
 use Rattle.edit_record.proofs.WellFormed.{aimed-not-create, layer-not-set}
@@ -61,14 +59,14 @@ unfolding sixth malformed isFull
 admitted t b h =
     let e = decodeOf b in
     let no : (i : ℕ) → getD (six t b) i false ≡ false = none-present 0 (six t b) h in
-    let (w, f) = neither (not (eqb (length b) recordLength)) (unfit (t .counters .sites) e) (no 0) in
+    let (w, f) = neither (not (eqb (length b) (spanOf b))) (unfit (t .counters .sites) e) (no 0) in
     let records? = leb mostRecords (t .counters .records) in
     let objects? = isCreate e && leb mostObjects (t .counters .objects) in
     let sets? = isSet e && leb mostSets (length (matesOf t e)) in
     let (rc, s) = neither (records? || objects?) sets? (no 5) in
     let (r, c) = neither records? objects? rc in
     record {
-      whole = eqb-true (length b) recordLength (not-false (eqb (length b) recordLength) w) ∙ sym (one-span b);
+      whole = eqb-true (length b) (spanOf b) (not-false (eqb (length b) (spanOf b)) w);
       fit = f;
       formed = well-formed (t .counters .sites) e f;
       fresh = no 1;

@@ -52,7 +52,7 @@ module _ (t : Tables) (h : sound t ≡ true) where
   module _ (b : List ℕ) (e : Edit) (de : e ≡ decodeOf b) where
     -- the code's 1 to 6 are the definition's
     pub sixth-is :
-        (v : Surveyed) → v ≡ surveyOf (heldBy t) e → firstOf 1 (sixBy (t .counters) (length b) e v) ≡ sixth t b
+        (v : Surveyed) → v ≡ surveyOf (heldBy t) e → firstOf 1 (sixBy (t .counters) b e v) ≡ sixth t b
     sixth-is v dv = rw (dv, de) (six-are t (sound-at t h) b)
 
     module _ (z : sixth t b ≡ 0) where

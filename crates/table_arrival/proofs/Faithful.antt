@@ -20,7 +20,8 @@ use Rattle.edit_record.specs.Answer1.{isCreate, isSet, isLayer}
 use Rattle.math_maximal.specs.Groups.{groups}
 use Rattle.math_maximal.specs.Step.{step}
 use Rattle.edit_causal.specs.Conflict.{conflictsWith}
-use Rattle.edit_causal.proofs.ConflictsAmongSets.{NoneItself, none-itself}
+use Rattle.edit_causal.specs.ConflictForms.{NoneItself}
+use Rattle.edit_causal.proofs.ConflictsAmongSets.{none-itself}
 use Rattle.edit_history.specs.EditsHeld.{recordAt, editsOf, isSetOn, isTarget, objectOf}
 use Rattle.group_step.specs.GroupRows.{mostGroups, row, putRow}
 use Rattle.table_drawing.specs.Tables.{Tables, heldBy, placeAt, groupsAt, emptyDrawing, entryLength}

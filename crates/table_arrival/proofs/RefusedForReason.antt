@@ -1,6 +1,6 @@
 -- Demand 2, refusals: an edit is refused only for a listed reason that is present, and always when one is; 7 is given
 -- exactly when more than 32 maximal sets would exist; and of 6 and 7 a layer edit has only that 256 records are held.
--- Assumes nothing.
+-- Assumes, of 7, that no Set of the object conflicts with itself.
 use mathlib.Core.Path.{_≡_, ap}
 use mathlib.Core.Logic.{_⊎_}
 use mathlib.Core.Bool.{true, false, or-false}
@@ -12,7 +12,7 @@ use Rattle.math_lists.specs.SortedLists.{any}
 use Rattle.edit_record.specs.declared.Edit.{Edit}
 use Rattle.edit_record.specs.Answer1.{isSet, isLayer}
 use Rattle.edit_record.proofs.WellFormed.{layer-aimed, aimed-not-create, layer-not-set}
-use Rattle.edit_causal.proofs.ConflictsAmongSets.{none-itself}
+use Rattle.edit_causal.specs.ConflictForms.{NoneItself}
 use Rattle.edit_history.specs.EditsHeld.{mostRecords, recordAt, isTarget, objectOf}
 use Rattle.group_step.specs.GroupRows.{mostGroups}
 use Rattle.table_drawing.specs.Tables.{Tables, heldBy, placeAt}
@@ -32,16 +32,17 @@ pub reason-refuses : (t : Tables) (b : List ℕ) (i : ℕ) → First (reasons t 
 unfolding answerTo
 reason-refuses t b i f = first-present 1 (reasons t b) i f
 
--- in a faithful drawing 7's reason is that the object's Sets with the new one have more than 32 maximal sets
+-- in a faithful drawing 7's reason is that the object's Sets with the new one, if none of them conflicts with itself,
+-- have more than 32 maximal sets
 pub crowded-exactly :
     (t : Tables) → Faithful t → (e : Edit) → isSet e ≡ true → any (isTarget e) (heldBy t) ≡ true →
+    NoneItself (matesOf t e ++ (e ∷ [])) →
     isCrowded t e
     ≡ ltb mostGroups
     (length
     (trueGroups (heldBy t ++ (e ∷ [])) (recordAt (t .records) (placeAt (t .objects) (objectOf e (heldBy t))))))
 unfolding isCrowded
-crowded-exactly t f e k aim =
-    let irr = none-itself (matesOf t e ++ (e ∷ [])) in
+crowded-exactly t f e k aim irr =
     rw k (ap (λ (l : List ℕ). ltb mostGroups (length l)) (after-true t f e k aim irr))
 
 -- ---- the layer edits

@@ -9,8 +9,8 @@ use lib.ListN.{length}
 use lib.Dec.{eqb}
 use Rattle.math_lists.specs.SortedLists.{any}
 use Rattle.math_lists.proofs.Booleans.{neither}
-use Rattle.edit_record.specs.Layout.{mostSites, recordLength}
-use Rattle.edit_record.specs.RecordBytes.{decodeOf}
+use Rattle.edit_record.specs.Layout.{mostSites}
+use Rattle.edit_record.specs.RecordBytes.{decodeOf, spanOf}
 use Rattle.edit_record.specs.Answer1.{isAimed, unfit, malformed}
 use Rattle.edit_record.proofs.WellFormed.{well-formed}
 use Rattle.edit_history.specs.EditsHeld.{isTarget}
@@ -34,15 +34,15 @@ first-same false b c b′ c′ d e f p q = rw (p refl, q refl)
 
 pub six-are :
     (t : Tables) → Sound t → (b : List ℕ) →
-    firstOf 1 (sixBy (t .counters) (length b) (decodeOf b) (surveyOf (heldBy t) (decodeOf b))) ≡ sixth t b
+    firstOf 1 (sixBy (t .counters) b (decodeOf b) (surveyOf (heldBy t) (decodeOf b))) ≡ sixth t b
 unfolding sixth surveyOf malformed isAstray isFull
 six-are t s b =
     let e = decodeOf b in
     let c = t .counters in
-    let one = not (eqb (length b) recordLength) || unfit (c .sites) e in
+    let one = not (eqb (length b) (spanOf b)) || unfit (c .sites) e in
     let low : one ≡ false → e .site .0 < mostSites
     = λ h.
-    let (_, fit) = neither (not (eqb (length b) recordLength)) (unfit (c .sites) e) h in
+    let (_, fit) = neither (not (eqb (length b) (spanOf b))) (unfit (c .sites) e) h in
     omega (arith, well-formed (c .sites) e fit .site, s .few-sites) in
     first-same one (repeatedAgainst (c .held) e) (earlyAgainst (c .held) e) (isRepeated (heldBy t) e)
     (isEarly (heldBy t) e) (isTorn (heldBy t) e) (isAimed e && not (any (isTarget e) (heldBy t)))

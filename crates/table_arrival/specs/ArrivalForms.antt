@@ -5,9 +5,9 @@ use mathlib.Core.List.{List, [], _∷_}
 use mathlib.Core.Path.{_≡_}
 use mathlib.Core.Bool.{Bool, true, not, _&&_, _||_}
 use lib.Dec.{eqb, leb}
+use lib.ListN.{length}
 use Rattle.edit_record.specs.declared.Edit.{Edit}
-use Rattle.edit_record.specs.Layout.{recordLength}
-use Rattle.edit_record.specs.RecordBytes.{decodeOf}
+use Rattle.edit_record.specs.RecordBytes.{decodeOf, spanOf}
 use Rattle.edit_record.specs.Answer1.{isCreate, isSet, isAimed, unfit, malformed}
 use Rattle.edit_history.specs.declared.Surveyed.{Surveyed}
 use Rattle.edit_history.specs.EditsHeld.{mostRecords}
@@ -24,10 +24,10 @@ abbrev pub fullWith : Counters → Edit → ℕ → Bool
 fullWith c e k =
     leb mostRecords (c .records) || isCreate e && leb mostObjects (c .objects) || isSet e && leb mostSets k
 
--- 1 to 6 of an edit of so many bytes
-abbrev pub sixBy : Counters → ℕ → Edit → Surveyed → List Bool
-sixBy c bytes e v =
-    (not (eqb bytes recordLength) || unfit (c .sites) e)
+-- 1 to 6 of a record with its edit
+abbrev pub sixBy : Counters → List ℕ → Edit → Surveyed → List Bool
+sixBy c b e v =
+    (not (eqb (length b) (spanOf b)) || unfit (c .sites) e)
     ∷ repeatedAgainst (c .held) e
     ∷ earlyAgainst (c .held) e
     ∷ v .torn

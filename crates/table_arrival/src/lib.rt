@@ -4,7 +4,6 @@ use edit_history::Surveyed;
 use edit_record::CREATE;
 use edit_record::Edit;
 use edit_record::PLACE;
-use edit_record::RECORD;
 use edit_record::SET;
 use edit_record::Site;
 use group_step::OBJECTS;
@@ -132,12 +131,13 @@ fn first_reason(one: bool, two: bool, three: bool, four: bool, five: bool, six: 
     Answer::Done
 }
 
-// 1 to 6, the first that applies to an edit e of so many bytes, from the counters and the survey of the records.
-fn refusal(c: Counters, bytes: usize, e: Edit, v: Surveyed) -> Answer
-    ensures { λ r. ⌜ numberOf r ≡ firstOf 1 (sixBy c bytes e v) ⌝ }
+// 1 to 6, the first that applies to a record with its edit e, from the counters and the survey of the records.
+fn refusal(c: Counters, rec: &[u8], e: Edit, v: Surveyed) -> Answer
+    ensures { λ r. ⌜ numberOf r ≡ firstOf 1 (sixBy c (now (rec .entry)) e v) ⌝ }
 {
     let held = c.held;
-    let one = (bytes != RECORD) | edit_record::is_unfit(c.sites, e);
+    let span = edit_record::span_of(rec);
+    let one = (rec.len() != span) | edit_record::is_unfit(c.sites, e);
     let two = edit_history::is_repeated(held, e);
     let three = edit_history::is_early(held, e);
     let five = edit_record::is_aimed(e) & !v.found;
@@ -262,7 +262,7 @@ pub fn accept(
         ≡ acceptanceOf (tablesOf c (now (records .entry)) (now (objects .entry)) (now (groups .entry)))
         (now (rec .entry)) ⌝ }
 {
-    let answer = refusal(c, rec.len(), e, v);
+    let answer = refusal(c, rec, e, v);
     if table_drawing::number(answer) != 0 {
         return Arrived {
             answer,

@@ -24,11 +24,11 @@ use Rattle.math_lists.specs.SortedLists.{any}
 use Rattle.math_lists.proofs.Booleans.{neither, or-off, off-where}
 use Rattle.math_lists.proofs.NumbersBelow.{all-at}
 use Rattle.edit_record.specs.declared.Edit.{Edit}
-use Rattle.edit_record.proofs.RecordSpans.{one-span}
 use Rattle.edit_record.specs.Answer1.{isCreate, isSet, unfit}
 use Rattle.edit_record.proofs.WellFormed.{set-aimed}
 use Rattle.edit_causal.proofs.CausalLaws.{same-reflexive}
-use Rattle.edit_causal.proofs.ConflictsAmongSets.{NoneItself, none-itself}
+use Rattle.edit_causal.specs.ConflictForms.{NoneItself}
+use Rattle.edit_causal.proofs.ConflictsAmongSets.{none-itself}
 use Rattle.edit_history.specs.EditsHeld.{bytesAt, recordAt, editsOf, creates, isSetOn, setsOn, isTarget, objectOf}
 use Rattle.edit_history.proofs.FieldsInPlace.{bytes-whole}
 use Rattle.edit_history.specs.EditsHeld.{mostRecords}
@@ -177,7 +177,7 @@ module _ (t : Tables) (s : Sound t) (rows : RowsTrue t) where
     | inl i ↦ all-whole k (omega arith) b i
     | inr i ↦
         rw (List·Memᴰ·eq-of-singleton i)
-        (bytes-whole rs k (omega (arith, s .records-long, s .few-records)) ∙ one-span (bytesAt rs k))
+        (bytes-whole rs k (omega (arith, s .records-long, s .few-records)))
   ]
 
   pub all-taken : replayOf sites (bytesAt rs) n .answer ≡ 0

@@ -1,5 +1,5 @@
 -- How one row is worked out: the places of an object's Sets among those of all records, and the groups of those Sets by
--- one step after another. Assumes nothing.
+-- one step after another. Assumes, where it is said, that no Set conflicts with itself.
 use mathlib.Core.Path.{_≡_, refl, sym, ap, subst, _∙_}
 use mathlib.Core.Bool.{Bool, true, false, _&&_, cond}
 use mathlib.Core.List.{List, [], _∷_, _++_, map, map-append, append-nil}
@@ -17,7 +17,7 @@ use Rattle.math_lists.proofs.NumbersBelow.{keep-same, keep-more, keep-grow}
 use Rattle.edit_record.specs.declared.Edit.{Edit}
 use Rattle.edit_record.specs.Answer1.{isSet}
 use Rattle.edit_causal.specs.Conflict.{conflictsIn, conflictsWith}
-use Rattle.edit_causal.proofs.ConflictsAmongSets.{none-itself}
+use Rattle.edit_causal.specs.ConflictForms.{NoneItself}
 use Rattle.edit_history.specs.EditsHeld.{recordAt, mostRecords}
 use Rattle.edit_history.proofs.EditsInPlaces.{sets-length}
 use Rattle.edit_walk.specs.WalkForms.{placeOf, Indexed}
@@ -92,24 +92,24 @@ module _ (rs ms : List ℕ) where
   groups-none = no-elements (conflictsIn []) every
 
   groups-next :
-      (i : ℕ) → i < length ms →
+      (i : ℕ) → i < length ms → NoneItself (setsIn (i + 1)) →
       step (conflictsWith (recordAt rs (getD ms i 0)) (setsIn i)) i (groupsIn rs ms i) ≡ groupsIn rs ms (i + 1)
   unfolding groupsIn
-  groups-next i l =
+  groups-next i l irr =
       let e = recordAt rs (getD ms i 0) in
       let more : setsIn (i + 1) ≡ setsIn i ++ (e ∷ [])
       = rw (add-one, take-suc ms i 0 l) (map-append (recordAt rs) (take i ms) (getD ms i 0 ∷ [])) in
       ap (λ (k : ℕ). step (conflictsWith e (setsIn i)) k (groupsOf (setsIn i)))
       (sym (sets-length rs ms i (omega arith)))
-      ∙ sets-step (setsIn i) e (none-itself (setsIn i ++ (e ∷ [])))
+      ∙ sets-step (setsIn i) e (rw more at irr)
       ∙ ap groupsOf (sym more)
 
   -- the step for the Set e in the i-th place, whose conflicts are m, on a row that has the groups of those before it
   pub stepped :
-      (i n : ℕ) (gs : List ℕ) → i < length ms → take n gs ≡ groupsIn rs ms i →
+      (i n : ℕ) (gs : List ℕ) → i < length ms → NoneItself (setsIn (i + 1)) → take n gs ≡ groupsIn rs ms i →
       (e : Edit) → e ≡ recordAt rs (getD ms i 0) → (m : ℕ) → m ≡ conflictsWith e (setsIn i) →
       step m i (take n gs) ≡ groupsIn rs ms (i + 1)
-  stepped i n gs l h e q m d = rw (h, d, q) (groups-next i l)
+  stepped i n gs l irr h e q m d = rw (h, d, q) (groups-next i l irr)
 
   pub in-ascending : (i : ℕ) → Ascending (groupsIn rs ms i)
   unfolding groupsIn groupsOf
@@ -119,20 +119,21 @@ module _ (rs ms : List ℕ) where
   unfolding groupsIn
   in-below i l x h = rw (sets-length rs ms i l) at (is-maximal (setsIn i) x h .0)
 
-  in-longer : (i j : ℕ) → length (groupsIn rs ms i) ≤ length (groupsIn rs ms (i + j))
+  in-longer :
+      (i j : ℕ) → NoneItself (setsIn (i + j)) → length (groupsIn rs ms i) ≤ length (groupsIn rs ms (i + j))
   unfolding groupsIn
-  in-longer i j =
+  in-longer i j irr =
       let rest = take j (drop i ms) in
       let parts : setsIn (i + j) ≡ setsIn i ++ map (recordAt rs) rest
       = rw (take-add i j ms) (map-append (recordAt rs) (take i ms) rest) in
-      rw parts
-      (never-fewer-groups (setsIn i) (map (recordAt rs) rest) (none-itself (setsIn i ++ map (recordAt rs) rest)))
+      rw parts (never-fewer-groups (setsIn i) (map (recordAt rs) rest) (rw parts at irr))
 
   -- once they are many they stay so
-  pub in-more : (i k : ℕ) → i ≤ k → length (groupsIn rs ms i) ≤ length (groupsIn rs ms k)
-  in-more i k l =
+  pub in-more : (i k : ℕ) → i ≤ k → NoneItself (setsIn k) → length (groupsIn rs ms i) ≤ length (groupsIn rs ms k)
+  in-more i k l irr =
       let e : i + (k - i) ≡ k = omega arith in
-      subst (λ (x : ℕ). length (groupsIn rs ms i) ≤ length (groupsIn rs ms x)) e (in-longer i (k - i))
+      subst (λ (x : ℕ). length (groupsIn rs ms i) ≤ length (groupsIn rs ms x)) e
+      (in-longer i (k - i) (subst (λ (x : ℕ). NoneItself (setsIn x)) (sym e) irr))
 
 -- what a step leaves in a row that holds it
 pub settled-front :

@@ -10,6 +10,7 @@ use lib.Dec.{eqb}
 use Rattle.math_lists.specs.NumbersBelow.{all, keep, sameList}
 use Rattle.edit_record.specs.declared.Edit.{Edit}
 use Rattle.edit_record.specs.Answer1.{isSet}
+use Rattle.edit_causal.specs.ConflictForms.{NoneItself}
 use Rattle.edit_history.specs.EditsHeld.{recordAt, mostRecords}
 use Rattle.edit_walk.specs.WalkForms.{placeOf}
 use Rattle.group_step.specs.GroupRows.{mostGroups}
@@ -50,6 +51,10 @@ placesAimed ts n p = keep n (λ q. eqb (getD ts q 0) p)
 -- those of the Sets in the first k of the places ms
 unfoldable pub groupsIn : List ℕ → List ℕ → ℕ → List ℕ
 groupsIn rs ms k = groupsOf (map (recordAt rs) (take k ms))
+
+-- for each i up to k, none of the Sets in the first i of the places ms conflicts with itself
+abbrev pub NoneItselfIn : List ℕ → List ℕ → ℕ → Type 0
+NoneItselfIn rs ms k = (i : ℕ) → i ≤ k → NoneItself (map (recordAt rs) (take i ms))
 
 -- the groups l stand at the front of the row gs, and are r; or r says that they are too many for a row
 pub record WorkedOut (l gs : List ℕ) (r : ℕ) : Type 0 where

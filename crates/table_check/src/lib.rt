@@ -24,7 +24,7 @@ ghost use Rattle.table_drawing.specs.AnswerNumbers.{numberOf};
 ghost use Rattle.table_soundness.specs.Sound.{sound};
 ghost use Rattle.table_check.specs.Check.{checkOf};
 ghost use Rattle.table_check.specs.CheckForms.{rowTrue, rowsTrue, aimOf, Aims, TellsSets, placesAimed};
-ghost use Rattle.table_check.specs.CheckForms.{groupsIn, WorkedOut};
+ghost use Rattle.table_check.specs.CheckForms.{groupsIn, NoneItselfIn, WorkedOut};
 
 // Whether two rows of groups are the same.
 fn is_same(a: &[u64], b: &[u64]) -> bool
@@ -102,7 +102,10 @@ fn gather(aims: &[u16], n: usize, p: u16, members: &mut [u16]) -> usize
 // Puts the groups of the Sets in the first k places at the front of gs, by the step for one Set after another from the
 // empty group; says how many they are. Once they are more than a row holds, they stay so, and the rest is left.
 fn work_out(recs: &[u8], places: &[u16], k: usize, gs: &mut [u64]) -> usize
-    requires { ⌜ (k ≤ length (now places)) × (k ≤ mostSets) × (length (now gs) ≡ mostGroups) ⌝ }
+    requires { ⌜ (k ≤ length (now places))
+        × (k ≤ mostSets)
+        × (length (now gs) ≡ mostGroups)
+        × NoneItselfIn (now recs) (now places) k ⌝ }
     ensures { λ r. ⌜ WorkedOut (groupsIn (now (recs .entry)) (now (places .entry)) k) (now (gs .exit)) r ⌝ }
 {
     gs[0] = 0;

@@ -1,4 +1,5 @@
--- The masks of a box's Sets, and the groups that they give. Assumes nothing.
+-- The masks of a box's Sets, and the groups that they give. Assumes, where it is said, that no Set conflicts with
+-- itself.
 use mathlib.Core.Path.{_≡_, sym, ap, _∙_}
 use mathlib.Core.List.{List}
 use Prim.Native.Nat.{ℕ, _+_, _≤_, _<_}
@@ -9,13 +10,14 @@ use borrow.Author.Count.{below-more}
 use Rattle.math_lists.specs.NumbersBelow.{mask}
 use Rattle.edit_record.specs.declared.Edit.{Edit}
 use Rattle.edit_causal.specs.Conflict.{conflictsIn, conflictsWith}
-use Rattle.edit_causal.proofs.ConflictsAmongSets.{conflicts-turned, none-itself, marked-again}
+use Rattle.edit_causal.proofs.ConflictsAmongSets.{conflicts-turned, marked-again}
 use Rattle.edit_history.specs.EditsHeld.{recordAt}
 use Rattle.edit_history.proofs.EditsInPlaces.{sets-length, set-place}
 use Rattle.math_maximal.proofs.Masks.{mask-bit}
 use Rattle.group_true.specs.TrueGroups.{groupsOf}
 use Rattle.group_engine.specs.SearchForms.{conflict, byMasks, Conflicts}
 use Rattle.group_engine.proofs.MasksOfElements.{groups-of-elements, conflicts-of-elements}
+use Rattle.edit_causal.specs.ConflictForms.{NoneItself}
 use Rattle.table_engine.specs.EngineForms.{setsIn, groupsIn, MaskedTo}
 
 module _ (rs ps : List ℕ) (k : ℕ) (fits : k ≤ length ps) where
@@ -43,10 +45,9 @@ module _ (rs ps : List ℕ) (k : ℕ) (fits : k ≤ length ps) where
     told : (i j : ℕ) → i < length xs → j < length xs → conflict ms i j ≡ conflictsIn xs i j
     told i j a b = rw (h i (omega (arith, long))) (mask-bit (length xs) (conflictsIn xs i) j b)
 
-    pub masks-fit : Conflicts ms k
-    masks-fit =
-        rw long at
-        (conflicts-of-elements (conflictsIn xs) (length xs) ms told (conflicts-turned xs) (none-itself xs))
+    pub masks-fit : NoneItself xs → Conflicts ms k
+    masks-fit irr =
+        rw long at (conflicts-of-elements (conflictsIn xs) (length xs) ms told (conflicts-turned xs) irr)
 
     pub masks-groups : byMasks ms k ≡ groupsIn rs ps k
     unfolding groupsIn groupsOf

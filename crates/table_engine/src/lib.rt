@@ -9,6 +9,7 @@ use table_drawing::Counters;
 ghost use mathlib.Core.Path.{_≡_};
 ghost use Prim.Native.Nat.{_≤_};
 ghost use lib.ListN.{length};
+ghost use Rattle.edit_causal.specs.ConflictForms.{NoneItself};
 ghost use Rattle.edit_history.specs.EditsHeld.{mostRecords, editsOf, setsOn};
 ghost use Rattle.group_step.specs.GroupRows.{mostGroups, mostSets, settled};
 ghost use Rattle.group_engine.specs.SearchForms.{countTold};
@@ -42,7 +43,10 @@ fn put_masks(recs: &[u8], places: &[u16], k: usize, masks: &mut [u64])
 // Puts the groups of the Sets in the k first places into out, ascending, and 0 behind them; says how many they are.
 // Where they are more than out holds, it says one more than that, and nothing is changed.
 fn put_groups(recs: &[u8], places: &[u16], k: usize, out: &mut [u64]) -> usize
-    requires { ⌜ (k ≤ length (now places)) × (k ≤ mostDecided) × (length (now out) ≡ mostGroups) ⌝ }
+    requires { ⌜ (k ≤ length (now places))
+        × (k ≤ mostDecided)
+        × (length (now out) ≡ mostGroups)
+        × NoneItself (setsIn (now recs) (now places) k) ⌝ }
     ensures { λ r. ⌜ (r ≡ countTold (groupsIn (now (recs .entry)) (now (places .entry)) k))
         × (now (out .exit)
         ≡ settled (groupsIn (now (recs .entry)) (now (places .entry)) k) (now (out .entry))) ⌝ }
@@ -57,7 +61,8 @@ fn put_groups(recs: &[u8], places: &[u16], k: usize, out: &mut [u64]) -> usize
 fn enumerate_held(recs: &[u8], n: usize, s: Site, q: Seq, out: &mut [u64]) -> Enumerated
     requires { ⌜ (n ≤ mostRecords)
         × (length (setsOn s q (editsOf (now recs) n)) ≤ mostSets)
-        × (length (now out) ≡ mostGroups) ⌝ }
+        × (length (now out) ≡ mostGroups)
+        × NoneItself (setsOn s q (editsOf (now recs) n)) ⌝ }
     ensures { λ r. ⌜ enumeration (numberOf (r .answer)) (r .count) (now (out .exit))
         ≡ enumerationIn (editsOf (now (recs .entry)) n) s q (now (out .entry)) ⌝ }
 {

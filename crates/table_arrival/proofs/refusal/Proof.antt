@@ -3,6 +3,9 @@ use borrow.Author.Needs.{needs}
 use Rattle.table_arrival.proofs.refusal.Statement.{statement}
 use Rattle.table_arrival.proofs.refusal.Tie as tie
 
+span-of-requires : tie.Need-span-of-requires
+span-of-requires c κs = search needs
+
 is-unfit-requires : tie.Need-is-unfit-requires
 is-unfit-requires c κs = search needs
 
@@ -31,6 +34,7 @@ returns c =
       e .is-early .ensures,
       e .before .is-repeated .ensures,
       e .before .before .is-unfit .ensures,
+      e .before .before .before .span-of .ensures,
     ) at
     (c .first-reason .ensures)
 
@@ -38,6 +42,7 @@ pub refusal-spec : {M : Type 1} → statement M
 refusal-spec =
     tie.close
     (tie.spec
+    span-of-requires
     is-unfit-requires
     is-repeated-requires
     is-early-requires

@@ -1,6 +1,7 @@
--- `table_check::is_row_true` meets its contract. Assumes nothing.
+-- `table_check::is_row_true` meets its contract; no Set conflicts with itself, as `work_out` asks. Assumes nothing.
 use native.Mathlib.Omega.{arith}
 use denote.Ref.{now}
+use Rattle.edit_causal.proofs.ConflictsAmongSets.{none-itself}
 use Rattle.table_drawing.specs.Tables.{tablesOf}
 use Rattle.table_soundness.proofs.SoundFacts.{sound-at}
 use Rattle.table_check.proofs.RowWorkedOut.{few-aimed, row-fits-in, too-many, row-decides}
@@ -43,7 +44,7 @@ slice-aggregate-work-out-2 : tie.Need-slice-aggregate-work-out-2
 slice-aggregate-work-out-2 c = search needs
 
 work-out-requires : tie.Need-work-out-requires
-work-out-requires c κs = search needs
+work-out-requires c κs = (search needs, search needs, search needs, λ i l. none-itself _)
 
 returns : tie.Need-returns
 returns c =

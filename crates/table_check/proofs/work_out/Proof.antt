@@ -71,8 +71,8 @@ returns c =
     let r = c .before .before .before .step-row in
     let e = b .before .decode-at in
     let m = b .conflicts-in in
-    let next = stepped (now (a .recs)) (now (a .places)) (l .i) (l .n) (l .gs) (omega arith) (l .inv .3) (e .result)
-    (e .ensures) (m .result) (m .ensures) in
+    let next = stepped (now (a .recs)) (now (a .places)) (l .i) (l .n) (l .gs) (omega arith)
+    (s .pre .3 (l .i + 1) (omega arith)) (l .inv .3) (e .result) (e .ensures) (m .result) (m .ensures) in
     record {
       few = λ h. absurd (omega arith);
       many =
@@ -80,7 +80,8 @@ returns c =
             arith,
             r .ensures .0,
             ap length next,
-            in-more (now (a .recs)) (now (a .places)) (l .i + 1) (a .k) (omega arith),
+            in-more (now (a .recs)) (now (a .places)) (l .i + 1) (a .k) (omega arith)
+                (s .pre .3 (a .k) (omega arith)),
           );
     }
 
@@ -99,8 +100,8 @@ loop-again c =
     let r = c .before .before .before .step-row in
     let e = b .before .decode-at in
     let m = b .conflicts-in in
-    let next = stepped (now (a .recs)) (now (a .places)) (l .i) (l .n) (l .gs) (omega arith) (l .inv .3) (e .result)
-    (e .ensures) (m .result) (m .ensures) in (
+    let next = stepped (now (a .recs)) (now (a .places)) (l .i) (l .n) (l .gs) (omega arith)
+    (s .pre .3 (l .i + 1) (omega arith)) (l .inv .3) (e .result) (e .ensures) (m .result) (m .ensures) in (
       omega arith,
       r .kept .0 ∙ l .inv .1,
       omega arith,

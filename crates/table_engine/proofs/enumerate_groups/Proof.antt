@@ -1,10 +1,12 @@
--- `table_engine::enumerate_groups` meets its contract: in sound tables no Create has more Sets than an object may have.
--- Assumes nothing.
+-- `table_engine::enumerate_groups` meets its contract: in sound tables no Create has more Sets than an object may have,
+-- and none of them conflicts with itself. Assumes nothing.
 use mathlib.Core.Path.{sym, _∙_}
 use native.Mathlib.Omega.{arith}
 use denote.Ref.{now}
 use borrow.Author.Tests.{not-true, not-false}
-use Rattle.table_drawing.specs.Tables.{tablesOf}
+use Rattle.edit_causal.proofs.ConflictsAmongSets.{none-itself}
+use Rattle.edit_history.specs.EditsHeld.{setsOn}
+use Rattle.table_drawing.specs.Tables.{tablesOf, heldBy}
 use Rattle.table_soundness.proofs.SoundFacts.{sound-at}
 use Rattle.table_arrival.proofs.ObjectsByNumber.{sets-few}
 use Rattle.table_engine.proofs.EnumerationOutcomes.{not-sound, wrong-length, right-length}
@@ -37,8 +39,13 @@ enumerate-held-requires c κs =
     let b = c .before .before .before in
     let a = b .before .before .before .before .before .before .args in
     let t = tablesOf (a .c) (now (a .records)) (now (a .objects)) (now (a .groups)) in
-    let s = sound-at t (sym (b .before .is-sound .ensures) ∙ not-false (b .before .is-sound .result) (b .if1 .left)) in
-    (s .few-records, sets-few t s (a .site) (a .seq), omega arith)
+    let tested = b .before .is-sound in
+    let s = sound-at t (sym (tested .ensures) ∙ not-false (tested .result) (b .if1 .left)) in (
+      s .few-records,
+      sets-few t s (a .site) (a .seq),
+      omega arith,
+      none-itself (setsOn (a .site) (a .seq) (heldBy t)),
+    )
 
 same-length : tie.Need-same-length
 same-length c = search needs

@@ -40,8 +40,12 @@ slice-aggregate-put-groups c = search needs
 put-groups-requires : tie.Need-put-groups-requires
 put-groups-requires c κs =
     let p = c .before .before .before .before .put-places in
-    let s = c .before .before .before .before .before .before .before .before .before .before in
-    (omega (arith, p .ensures .1, p .kept .0, s .pre .1), omega arith, s .pre .2)
+    let s = c .before .before .before .before .before .before .before .before .before .before in (
+      omega (arith, p .ensures .1, p .kept .0, s .pre .1),
+      omega arith,
+      s .pre .2,
+      rw (p .ensures .0) (s .pre .3),
+    )
 
 same-length : tie.Need-same-length
 same-length c = search needs

@@ -29,7 +29,7 @@ enumerate-requires c κs =
       omega arith,
       omega (arith, m .kept .1 .1 .1 .0),
       s .pre .2,
-      masks-fit (now (a .recs)) (now (a .places)) (a .k) (s .pre .0) (m .last .1 .1 .1 .0) (m .ensures),
+      masks-fit (now (a .recs)) (now (a .places)) (a .k) (s .pre .0) (m .last .1 .1 .1 .0) (m .ensures) (s .pre .3),
     )
 
 same-length : tie.Need-same-length
