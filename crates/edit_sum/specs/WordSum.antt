@@ -26,11 +26,12 @@ wrapped n = n % 2 ^ 32
 unfoldable pub sumOf : ℕ → List ℕ → ℕ
 sumOf n s = wrapped (sum n (wordAt s))
 
--- the words of the records in the first n places of a table added up, wrapped
+-- the words of the record in place p of a table added up
 abbrev pub wordsAt : List ℕ → ℕ → ℕ
 wordsAt rs p =
     let place = drop (p * placeLength) rs in
     sum (recordWords place) (wordAt place)
 
+-- those of the records in the first n places, wrapped
 unfoldable pub sumHeld : ℕ → List ℕ → ℕ
 sumHeld n rs = wrapped (sum n (wordsAt rs))

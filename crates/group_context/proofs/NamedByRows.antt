@@ -12,9 +12,9 @@ use Rattle.math_lists.proofs.NumbersBelow.{mask-same}
 use Rattle.math_contexts.specs.Box.{Box, Lawful}
 use Rattle.math_contexts.specs.Contexts.{contexts, conflicts}
 use Rattle.math_contexts.specs.Versions.{namesVersion}
-use Rattle.math_contexts.specs.NamedVersions.{conflictsBy, contextsNamed, isUnnamed}
+use Rattle.math_contexts.specs.NamedVersions.{conflictsBy, contextsNamed, namesNone}
 use Rattle.math_contexts.specs.MaskForms.{maskConflicts, maskNames}
-use Rattle.math_contexts.proofs.NamedVersions.{AllNamed, contexts-are, unnamed-is, conflicts-are}
+use Rattle.math_contexts.proofs.NamedVersions.{AllNamed, contexts-are, names-none-is, conflicts-are}
 use Rattle.math_contexts.proofs.ContextsByMasks.{conflicts-by-masks}
 use Rattle.math_contexts.proofs.NamesByMasks.{names-by-masks}
 
@@ -37,11 +37,11 @@ module _ (b : Box) (n : ℕ) where
 
   module _ (law : Lawful b (suc n)) where
     -- what `names_version` returns
-    pub names-unless-unnamed : AllNamed b n → maskNames b n ≡ not (isUnnamed b n)
-    names-unless-unnamed named =
+    pub names-unless-none : AllNamed b n → maskNames b n ≡ not (namesNone b n)
+    names-unless-none named =
         let l : n < suc n = omega arith in
         sym (names-by-masks b (suc n) n law l)
-        ∙ sym (ap not (unnamed-is b (suc n) law n l named) ∙ Bool·not-not (namesVersion b n))
+        ∙ sym (ap not (names-none-is b (suc n) law n l named) ∙ Bool·not-not (namesVersion b n))
 
     -- what `conflicts_of` returns, where Set n names its version as well
     pub conflicts-named :

@@ -23,11 +23,11 @@ use Rattle.math_contexts.specs.Contexts.{contextIn, contexts, context, c
 use Rattle.math_contexts.specs.Versions.{namesVersion, Valid, Version}
 use Rattle.math_contexts.specs.NamedVersions.{
   conflictsBy,
-  lists,
+  hasList,
   versionsNamed,
   contextBy,
   contextsNamed,
-  isUnnamed,
+  namesNone,
 }
 use Rattle.math_contexts.proofs.ContextMembers.{context-below, reach-in}
 use Rattle.math_contexts.proofs.NamesTest.{names-at, names-on}
@@ -55,9 +55,9 @@ module _ (b : Box) (i : ℕ) where
 
   -- what is named is a version, and each version with that identifier is named
   named-at : (g : ℕ) → elem g named ≡ true → Version b i (b .seen i) (b .named i) (bit g)
-  unfolding versionsNamed lists
+  unfolding versionsNamed hasList
   named-at g e =
-      let (k, h) = filter-at (lists b i) (groups (conflictsBy b (contexts b i)) i (b .seen i)) g e in
+      let (k, h) = filter-at (hasList b i) (groups (conflictsBy b (contexts b i)) i (b .seen i)) g e in
       let (l, m) = groups-at (conflicts b) i (b .seen i) g (rw seen-groups at k) in
       record {
         group = m;
@@ -66,10 +66,10 @@ module _ (b : Box) (i : ℕ) where
             (all-at i (λ j. Bool·beq (b .named i j) (bit g j && disputedBy b i j)) h j n);
       }
 
-  named-on : (g : ℕ) → elem g (groups (conflicts b) i (b .seen i)) ≡ true → lists b i g ≡ true → elem g named ≡ true
+  named-on : (g : ℕ) → elem g (groups (conflicts b) i (b .seen i)) ≡ true → hasList b i g ≡ true → elem g named ≡ true
   unfolding versionsNamed
   named-on g e h =
-      filter-on (lists b i) (groups (conflictsBy b (contexts b i)) i (b .seen i)) g (rw seen-groups e) h
+      filter-on (hasList b i) (groups (conflictsBy b (contexts b i)) i (b .seen i)) g (rw seen-groups e) h
 
 -- ---- a list that has an element has a first one
 
@@ -107,7 +107,7 @@ module _ (b : Box) (n i : ℕ) (law : Lawful b n) (l : i < n) (t : b .limited i 
       names-some b n i law l t .1 (bit g, named-at b i g (first-in (named b i) h))
 
   named-none : length (named b i) ≡ 0 → namesVersion b i ≡ true → ⊥
-  unfolding lists
+  unfolding hasList
   named-none h p =
       let v = names-at b i p t in
       in-none (named b i) (context b i) h
@@ -127,20 +127,20 @@ module _ (b : Box) (n i : ℕ) (law : Lawful b n) (l : i < n) (t : b .limited i 
       named-below : (g : ℕ) → elem g (named b i) ≡ true → g < 2 ^ i
       named-below g e = unfold versionsNamed in
           groups-at (conflictsBy b (contexts b i)) i (b .seen i) g
-          (filter-at (lists b i) (groups (conflictsBy b (contexts b i)) i (b .seen i)) g e .0) .0
+          (filter-at (hasList b i) (groups (conflictsBy b (contexts b i)) i (b .seen i)) g e .0) .0
 
 -- ---- all of them
 
 -- each of the first n Sets that is limited names a version
 abbrev pub AllNamed : Box → ℕ → Type 0
-AllNamed b n = (i : ℕ) → i < n → isUnnamed b i ≡ false
+AllNamed b n = (i : ℕ) → i < n → namesNone b i ≡ false
 
 module _ (b : Box) where
   -- answer 16 in the paper's words is the test that is worked out, where the contexts are
-  unnamed-exactly :
-      (n i : ℕ) → Lawful b n → i < n → contextsNamed b i ≡ contexts b i → isUnnamed b i ≡ not (namesVersion b i)
-  unfolding isUnnamed
-  unnamed-exactly n i law l same = go (b .limited i) refl (decide (eqb (length (named b i)) 0))
+  names-none-exactly :
+      (n i : ℕ) → Lawful b n → i < n → contextsNamed b i ≡ contexts b i → namesNone b i ≡ not (namesVersion b i)
+  unfolding namesNone
+  names-none-exactly n i law l same = go (b .limited i) refl (decide (eqb (length (named b i)) 0))
     where
       go : (t : Bool) → b .limited i ≡ t →
           (eqb (length (named b i)) 0 ≡ true) ⊎ (eqb (length (named b i)) 0 ≡ false) →
@@ -151,9 +151,9 @@ module _ (b : Box) where
       go false t d = ap not (sym (names-on b i (λ s. absurd (clash s t))))
 
   named-is-context :
-      (n i : ℕ) → Lawful b n → i < n → contextsNamed b i ≡ contexts b i → isUnnamed b i ≡ false →
+      (n i : ℕ) → Lawful b n → i < n → contextsNamed b i ≡ contexts b i → namesNone b i ≡ false →
       contextBy b (contextsNamed b i) i ≡ context b i
-  unfolding isUnnamed contextBy
+  unfolding namesNone contextBy
   named-is-context n i law l same h = go (b .limited i) refl
     where
       go : (t : Bool) → b .limited i ≡ t →
@@ -175,9 +175,9 @@ module _ (b : Box) where
 
   module _ (n : ℕ) (law : Lawful b n) where
     -- answer 16 to the i-th, where those before it name theirs
-    pub unnamed-is : (i : ℕ) → i < n → AllNamed b i → isUnnamed b i ≡ not (namesVersion b i)
-    unnamed-is i l all =
-        unnamed-exactly n i law l (contexts-are i (fewer-lawful b i n (omega arith) law) all)
+    pub names-none-is : (i : ℕ) → i < n → AllNamed b i → namesNone b i ≡ not (namesVersion b i)
+    names-none-is i l all =
+        names-none-exactly n i law l (contexts-are i (fewer-lawful b i n (omega arith) law) all)
 
     pub conflicts-are :
         AllNamed b n → (i j : ℕ) → i < n → j < n → conflictsBy b (contextsNamed b n) i j ≡ conflicts b i j
@@ -186,13 +186,13 @@ module _ (b : Box) where
 
     pub named-valid : AllNamed b n → Valid b n
     named-valid all i l =
-        not-false (namesVersion b i) (sym (unnamed-is i l (λ j m. all j (omega arith))) ∙ all i l)
+        not-false (namesVersion b i) (sym (names-none-is i l (λ j m. all j (omega arith))) ∙ all i l)
 
   -- and the other way round
   pub valid-named : (n : ℕ) → Lawful b n → Valid b n → AllNamed b n
   valid-named zero law valid i l = absurd (omega arith)
   valid-named (suc n) law valid i l =
       let fewer = fewer-lawful b n (suc n) (omega arith) law in
-      unnamed-is (suc n) law i l
+      names-none-is (suc n) law i l
       (λ j m. valid-named n fewer (λ k q. valid k (omega arith)) j (omega arith))
       ∙ ap not (valid i l)

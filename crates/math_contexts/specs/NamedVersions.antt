@@ -19,12 +19,12 @@ conflictsBy b cs i j = some (suc i) (λ x. reachIn cs i x && some (suc j) (λ y.
 
 -- the disputed members of the group g, no conflicts counted but those among Sets that i has seen, are those that i
 -- lists
-unfoldable pub lists : Box → ℕ → ℕ → Bool
-lists b i g = all i (λ j. Bool·beq (b .named i j) (bit g j && disputedBy b i j))
+unfoldable pub hasList : Box → ℕ → ℕ → Bool
+hasList b i g = all i (λ j. Bool·beq (b .named i j) (bit g j && disputedBy b i j))
 
 -- the versions that i names, among the Sets that i has seen, where cs are the contexts of those before i
 unfoldable pub versionsNamed : Box → List ℕ → ℕ → List ℕ
-versionsNamed b cs i = filter (lists b i) (groups (conflictsBy b cs) i (b .seen i))
+versionsNamed b cs i = filter (hasList b i) (groups (conflictsBy b cs) i (b .seen i))
 
 -- the context of i: the version that i names; empty if i is a plain Set
 unfoldable pub contextBy : Box → List ℕ → ℕ → ℕ
@@ -36,5 +36,5 @@ contextsNamed b zero = []
 contextsNamed b (suc n) = contextsNamed b n ++ (contextBy b (contextsNamed b n) n ∷ [])
 
 -- 16: i is limited, and there is no such version
-unfoldable pub isUnnamed : Box → ℕ → Bool
-isUnnamed b i = b .limited i && eqb (length (versionsNamed b (contextsNamed b i) i)) 0
+unfoldable pub namesNone : Box → ℕ → Bool
+namesNone b i = b .limited i && eqb (length (versionsNamed b (contextsNamed b i) i)) 0
