@@ -7,8 +7,8 @@ use mathlib.Core.List.{List, _∷_, _++_}
 use Prim.Native.Nat.{ℕ, zero, suc, _+_, _*_, _≤_, _<_}
 use native.Mathlib.Omega.{arith}
 use lib.Dec.{lit<}
-use lib.ListN.{length, getD, drop, List·getD-append}
-use lib.Seq.{getD-drop}
+use lib.ListN.{length, getD, take, drop, List·getD-append}
+use lib.Seq.{getD-drop, getD-take}
 use borrow.Author.Tests.{eq-eqb, ne-eqb}
 use Rattle.math_lists.proofs.Booleans.{decide}
 use Rattle.edit_record.specs.Layout.{mostSites, vectorAt, targetAt, valueAt, recordLength, countAt, membersAt}
@@ -117,3 +117,7 @@ decode-agree s t h =
       g (valueAt + 2) (lit< tt),
       g (valueAt + 3) (lit< tt),
     )
+
+-- as where a record is taken by itself
+pub decode-own : (s : List ℕ) → decodeOf (take (spanOf s) s) ≡ decodeOf s
+decode-own s = sym (decode-agree s (take (spanOf s) s) (λ i l. sym (getD-take (spanOf s) s i 0 l)))
