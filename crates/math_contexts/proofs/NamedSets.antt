@@ -13,7 +13,8 @@ use Rattle.math_contexts.specs.Contexts.{conflicts}
 use Rattle.math_contexts.specs.SameSets.{SameSets}
 use Rattle.math_contexts.specs.NamedVersions.{conflictsBy, contextsNamed}
 use Rattle.math_contexts.proofs.ReachFree.{not-with-itself}
-use Rattle.math_contexts.proofs.NamedVersions.{AllNamed, conflicts-are, named-valid, valid-named}
+use Rattle.math_contexts.specs.Versions.{AllNamed}
+use Rattle.math_contexts.proofs.NamedVersions.{conflicts-are, named-valid, valid-named}
 use Rattle.math_contexts.proofs.ConflictsNamed.{named-alone, none-past}
 use Rattle.math_contexts.proofs.ContextsAnyOrder.{conflicts-any-order, valid-any-order}
 
