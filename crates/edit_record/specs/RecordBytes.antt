@@ -1,13 +1,13 @@
 -- The bytes of an edit record, little-endian, as an edit and back. A byte past the end counts as 0. Assumes nothing.
-use Prim.Native.Nat.{ℕ, zero, suc, _+_, _*_, _/_, _%_}
+use Prim.Native.Nat.{ℕ, zero, suc, _+_, _*_, _-_, _/_, _%_}
 use mathlib.Core.List.{List, [], _∷_, _++_}
 use mathlib.Core.Bool.{Bool, cond}
-use lib.ListN.{getD, drop, take}
+use lib.ListN.{getD, drop, take, replicate}
 use lib.Dec.{eqb}
 use Rattle.edit_record.specs.declared.Edit.{Edit}
 use Rattle.edit_record.specs.Layout.{mostSites, kindAt, siteAt, seqAt, vectorAt, targetAt, keyAt, targetSeqAt}
 use Rattle.edit_record.specs.Layout.{valueAt, recordLength, limitedKind, countAt, membersAt, memberLength}
-use Rattle.edit_record.specs.Layout.{mostMembers}
+use Rattle.edit_record.specs.Layout.{mostMembers, placeLength}
 
 -- ---- numbers in bytes
 
@@ -60,11 +60,21 @@ decodeOf s =
       members = firstFours mostMembers (cond (limits s) (two s countAt) 0) (drop membersAt s);
     }
 
-abbrev pub encodeOf : Edit → List ℕ
-encodeOf e =
+-- the bytes that a record of any kind has
+abbrev pub fieldBytes : Edit → List ℕ
+fieldBytes e =
     (e .kind ∷ e .site .0 ∷ countBytes (e .seq .0 ∷ e .vector))
     ++ (e .tsite .0 ∷ e .key ∷ countBytes (e .tseq .0 ∷ e .value % 65536 ∷ e .value / 65536 ∷ []))
-    ++ cond (eqb (e .kind) limitedKind) (fourBytes (e .count ∷ take (e .count) (e .members))) []
+
+abbrev pub encodeOf : Edit → List ℕ
+encodeOf e =
+    fieldBytes e ++ cond (eqb (e .kind) limitedKind) (fourBytes (e .count ∷ take (e .count) (e .members))) []
+
+-- the bytes of a place that holds the edit: the members that a limited Set does not have are zeros like all the rest
+abbrev pub placed : Edit → List ℕ
+placed e =
+    fieldBytes e
+    ++ cond (eqb (e .kind) limitedKind) (fourBytes (e .count ∷ e .members)) (replicate (placeLength - recordLength) 0)
 
 -- how many bytes the record at the front of s has: a limited Set by the count that is stored
 unfoldable pub spanOf : List ℕ → ℕ
