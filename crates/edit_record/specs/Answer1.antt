@@ -52,8 +52,11 @@ nonzeroPast n v = some mostSites (λ i. leb n i && not (eqb (getD v i 0) 0))
 abbrev pub lastEightZero : Edit → Bool
 lastEightZero e = eqb (e .tsite .0) 0 && eqb (e .key) 0 && eqb (e .tseq .0) 0 && eqb (e .value) 0
 
--- the name of a member by its four bytes, site, zero and sequence number (2): site and sequence number as one number,
--- so that names go by site, then by sequence number
+-- a name is a site and a sequence number as one number, so that names go by site, then by sequence number: the name of
+-- an edit, and of a member by its four bytes, which are site, zero and sequence number (2)
+abbrev pub nameOf : Edit → ℕ
+nameOf e = e .site .0 * twoBytes + e .seq .0
+
 abbrev pub nameIn : ℕ → ℕ
 nameIn m = m % 256 * twoBytes + m / twoBytes
 

@@ -11,10 +11,10 @@ use Rattle.math_lists.specs.NumbersBelow.{mask}
 use Rattle.math_lists.proofs.NumbersBelow.{mask-same}
 use Rattle.math_contexts.specs.Box.{Box, Lawful}
 use Rattle.math_contexts.specs.Contexts.{contexts, conflicts}
-use Rattle.math_contexts.specs.Versions.{namesVersion}
+use Rattle.math_contexts.specs.Versions.{namesVersion, AllNamed}
 use Rattle.math_contexts.specs.NamedVersions.{conflictsBy, contextsNamed, namesNone}
 use Rattle.math_contexts.specs.MaskForms.{maskConflicts, maskNames}
-use Rattle.math_contexts.proofs.NamedVersions.{AllNamed, contexts-are, names-none-is, conflicts-are}
+use Rattle.math_contexts.proofs.NamedVersions.{contexts-are, names-none-is, conflicts-are}
 use Rattle.math_contexts.proofs.ContextsByMasks.{conflicts-by-masks}
 use Rattle.math_contexts.proofs.NamesByMasks.{names-by-masks}
 

@@ -9,7 +9,7 @@ use native.Mathlib.Omega.{arith}
 use lib.ListN.{length, getD, length-append, List·getD-append}
 use Rattle.math_lists.specs.SortedLists.{elem}
 use Rattle.math_maximal.specs.MaximalSets.{_∈_, _⊆_}
-use Rattle.math_maximal.specs.Groups.{bit, every, groups}
+use Rattle.math_maximal.specs.Groups.{bit, below, every, groups}
 use Rattle.math_maximal.proofs.Groups.{below-at, groups-at}
 use Rattle.math_contexts.specs.Box.{Box, disputed, Lawful, Ends}
 use Rattle.math_contexts.specs.Contexts.{contexts, conflicts}
@@ -17,6 +17,7 @@ use Rattle.math_contexts.specs.Versions.{namesVersion, Valid}
 use Rattle.math_contexts.specs.SameSets.{SameBelow}
 use Rattle.math_contexts.specs.BoxByArrival.{rel, boxOf, groupsOver}
 use Rattle.math_contexts.proofs.ContextMembers.{disputed-at}
+use Rattle.math_contexts.proofs.ConflictByReach.{free-plainly}
 use Rattle.math_contexts.proofs.LaterSets.{contexts-later, names-later, disputed-later, groups-later}
 use Rattle.math_contexts.proofs.VersionsGrow.{disputed-never-in-one, lies-in-more, no-fewer-groups}
 
@@ -69,7 +70,8 @@ module _ {E : Type 0} (d : E) (conf saw lists : E → E → Bool) (lim : E → B
   unfolding groupsOver
   never-in-one-over law g h k e f l into into′ =
       disputed-never-in-one (B ys) (length xs) law g h (rw (sym (groups-later first-keep)) at e)
-      (rw (sym (groups-later first-keep)) at f) (groups-at (conflicts (B ys)) (length ys) every k l .1 .isFree)
+      (rw (sym (groups-later first-keep)) at f) (free-plainly (B ys) (below (length ys) every) (bit k)
+      (groups-at (conflicts (B ys)) (length ys) every k l .1 .isFree))
       (λ i p t. into i p (earlier i t)) (λ i p t. into′ i p (earlier i t))
     where
       earlier : disputed (B ys) (length xs) every ⊆ disputed (B xs) (length xs) every

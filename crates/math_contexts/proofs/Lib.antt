@@ -5,6 +5,8 @@ pub mod ReachFree
 pub mod GroupsHoldContexts
 pub mod KnownByDisputed
 pub mod NamedVersions
+pub mod ConflictsNamed
+pub mod NamedSets
 pub mod ConflictsWithSeen
 pub mod SameSetsTurned
 pub mod ContextsAnyOrder

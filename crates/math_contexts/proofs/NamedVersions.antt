@@ -20,7 +20,7 @@ use Rattle.math_maximal.proofs.Bits.{same-bits}
 use Rattle.math_maximal.proofs.Groups.{below-at, groups-at, groups-on, groups-agree}
 use Rattle.math_contexts.specs.Box.{Box, disputedBy, Lawful}
 use Rattle.math_contexts.specs.Contexts.{contextIn, contexts, context, conflicts}
-use Rattle.math_contexts.specs.Versions.{namesVersion, Valid, Version}
+use Rattle.math_contexts.specs.Versions.{namesVersion, Valid, AllNamed, Version}
 use Rattle.math_contexts.specs.NamedVersions.{
   conflictsBy,
   hasList,
@@ -130,10 +130,6 @@ module _ (b : Box) (n i : ℕ) (law : Lawful b n) (l : i < n) (t : b .limited i 
           (filter-at (hasList b i) (groups (conflictsBy b (contexts b i)) i (b .seen i)) g e .0) .0
 
 -- ---- all of them
-
--- each of the first n Sets that is limited names a version
-abbrev pub AllNamed : Box → ℕ → Type 0
-AllNamed b n = (i : ℕ) → i < n → namesNone b i ≡ false
 
 module _ (b : Box) where
   -- answer 16 in the paper's words is the test that is worked out, where the contexts are

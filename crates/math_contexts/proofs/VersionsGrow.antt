@@ -20,16 +20,16 @@ use Rattle.math_contexts.specs.Box.{Box, disputed, Lawful, Ends}
 use Rattle.math_contexts.specs.Contexts.{conflicts}
 use Rattle.math_contexts.specs.Versions.{Valid}
 use Rattle.math_contexts.proofs.ContextMembers.{disputed-on}
-use Rattle.math_contexts.proofs.ConflictByReach.{conflicts-at, plain-conflicts, conflicts-symmetric}
+use Rattle.math_contexts.proofs.ConflictByReach.{conflicts-at, conflicts-symmetric}
 use Rattle.math_contexts.proofs.ReachFree.{conflicts-irreflexive}
 use Rattle.math_contexts.proofs.GroupsHoldContexts.{all-closed, group-holds-reach}
 
 -- ---- the first n Sets are lawful; that they are valid is not asked
 
--- groups whose disputed members all lie in one conflict-free set are one
+-- groups whose disputed members all lie in one set without conflict by document 01's rule are one
 pub disputed-never-in-one :
     (b : Box) (n : ℕ) → Lawful b n → (g h : ℕ) → elem g (groups (conflicts b) n every) ≡ true →
-    elem h (groups (conflicts b) n every) ≡ true → {U Q : ℕ → Bool} → Free (conflicts b) U Q →
+    elem h (groups (conflicts b) n every) ≡ true → {U Q : ℕ → Bool} → Free (b .plain) U Q →
     ((i : ℕ) → i ∈ bit g → i ∈ disputed b n every → i ∈ Q) →
     ((i : ℕ) → i ∈ bit h → i ∈ disputed b n every → i ∈ Q) → g ≡ h
 disputed-never-in-one b n law g h e f {Q = Q} free into into′ =
@@ -49,7 +49,7 @@ disputed-never-in-one b n law g h e f {Q = Q} free into into′ =
         let hy = group-holds-reach b n law n every (bit h) (omega arith) (all-closed b n) w j q y s in
         let sx = v .isFree .within x gx in
         let sy = w .isFree .within y hy in
-        clash (plain-conflicts b x y t)
+        clash t
         (free .free x (into x gx (disputed-on b n every x sx y sy t)) y
         (into′ y hy (disputed-on b n every y sy x sx (law .symmetric y x ∙ t))))))
 

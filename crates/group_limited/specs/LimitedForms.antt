@@ -1,0 +1,53 @@
+-- Forms that the code uses: the Sets in some places of the records, what the rows of numbers tell of them, and what is
+-- told of a Set by those before it. No one need believe them: laws in proofs/ tie them to `Conflict` of `edit_causal`
+-- and to `Answer16` of `edit_history`. Assumes nothing.
+use mathlib.Core.Path.{_≡_}
+use mathlib.Core.Bool.{Bool, false, not}
+use mathlib.Core.List.{List, [], _∷_, _++_, map}
+use Prim.Native.Nat.{ℕ, suc}
+use lib.ListN.{length, getD, take}
+use Rattle.math_lists.specs.NumbersBelow.{all}
+use Rattle.math_contexts.specs.Box.{Lawful}
+use Rattle.math_contexts.specs.Contexts.{contexts, context}
+use Rattle.math_contexts.specs.Versions.{AllNamed}
+use Rattle.edit_record.specs.declared.Edit.{Edit}
+use Rattle.edit_record.specs.RecordBytes.{noEdit}
+use Rattle.edit_causal.specs.Conflict.{boxOn, conflictsWith}
+use Rattle.edit_causal.specs.ConflictForms.{Proper, plainMarks}
+use Rattle.edit_history.specs.EditsHeld.{recordAt}
+use Rattle.edit_history.specs.Answer16.{namelessAmong}
+use Rattle.group_context.specs.RowsOfBox.{PlainRows}
+use Rattle.group_limited.specs.declared.Told.{Told}
+
+-- the Sets in the first k of the places ps
+abbrev pub setsIn : List ℕ → List ℕ → ℕ → List Edit
+setsIn rs ps k = map (recordAt rs) (take k ps)
+
+-- the rows tell the conflicts of the Sets ms by document 01's rule, and their contexts
+pub record RowsTell (ms : List Edit) (plains cs : List ℕ) : Type 0 where
+  pub plainly : PlainRows (boxOn ms) (length ms) plains
+  pub held : take (length ms) cs ≡ contexts (boxOn ms) (length ms)
+
+-- what is told of a Set e that comes after the Sets ms, by rows that tell of these; whether it names a version, and its
+-- conflicts, where having seen goes through and those before it name theirs
+pub record ToldOf (ms : List Edit) (e : Edit) (t : Told) : Type 0 where
+  pub row : t .row ≡ plainMarks e ms
+  pub context : t .context ≡ context (boxOn (ms ++ (e ∷ []))) (length ms)
+  pub nameless :
+      Lawful (boxOn (ms ++ (e ∷ []))) (suc (length ms)) → AllNamed (boxOn ms) (length ms) →
+      t .nameless ≡ namelessAmong ms e
+  pub conflicts :
+      Lawful (boxOn (ms ++ (e ∷ []))) (suc (length ms)) → AllNamed (boxOn ms) (length ms) →
+      t .nameless ≡ false → t .conflicts ≡ conflictsWith e ms
+
+-- what is judged of a Set e that comes after the Sets ms, where these are proper and having seen goes through to it
+pub record JudgedOf (ms : List Edit) (e : Edit) (nameless : Bool) (conflicts : ℕ) : Type 0 where
+  pub nameless :
+      Proper ms → Lawful (boxOn (ms ++ (e ∷ []))) (suc (length ms)) → nameless ≡ namelessAmong ms e
+  pub conflicts :
+      Proper ms → Lawful (boxOn (ms ++ (e ∷ []))) (suc (length ms)) → nameless ≡ false →
+      conflicts ≡ conflictsWith e ms
+
+-- 16 is given to none of the Sets ms, each after those before it
+unfoldable pub namedInTurn : List Edit → Bool
+namedInTurn ms = all (length ms) (λ i. not (namelessAmong (take i ms) (getD ms i noEdit)))
