@@ -16,7 +16,7 @@ use Rattle.table_drawing.specs.Tables.{Tables, placeAt, heldBy}
 use Rattle.table_arrival.specs.Answers6and7.{rowOf}
 use Rattle.edit_record.specs.RecordBytes.{noEdit}
 use Rattle.group_true.specs.TrueGroups.{trueGroups}
-use Rattle.table_arrival.proofs.ObjectsByNumber.{object-create}
+use Rattle.table_soundness.proofs.ObjectsByNumber.{object-create}
 use Rattle.table_arrival.proofs.Faithful.{Faithful}
 use Rattle.table_replay.specs.Replay.{replayOf, editsIn}
 use Rattle.table_replay.proofs.ReplayFaithful.{replay-faithful}

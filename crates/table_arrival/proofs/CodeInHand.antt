@@ -24,7 +24,7 @@ use Rattle.table_arrival.specs.Arrival.{acceptanceOf}
 use Rattle.table_arrival.specs.ArrivalForms.{sixBy, sixth, Ready}
 use Rattle.table_arrival.proofs.SixByCounters.{six-are}
 use Rattle.table_arrival.proofs.Admitted.{admitted}
-use Rattle.table_arrival.proofs.ObjectsByNumber.{sets-few}
+use Rattle.table_soundness.proofs.ObjectsByNumber.{sets-few}
 use Rattle.table_arrival.proofs.CodeOutcomes.{create-is, layer-is, count-room}
 
 module _ (t : Tables) (h : sound t ≡ true) where

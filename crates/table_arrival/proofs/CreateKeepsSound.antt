@@ -29,7 +29,7 @@ use Rattle.table_arrival.specs.Arrival.{putEntry, putRecord, withCreate}
 use Rattle.table_arrival.proofs.Admitted.{Admitted}
 use Rattle.table_arrival.proofs.RecordsOneMore.{put-here, put-edits-before}
 use Rattle.edit_causal.proofs.Identities.{same-parts}
-use Rattle.table_arrival.proofs.ObjectsByNumber.{chosen-none}
+use Rattle.table_soundness.proofs.ObjectsByNumber.{chosen-none}
 use Rattle.table_arrival.proofs.EntriesAfterStore.{object-of, entry-long, entry-past, entry-here, entry-other}
 use Rattle.table_arrival.proofs.UntouchedSound.{sets-snoc, room, held-after, entry-kept, sound-after}
 use Rattle.edit_record.proofs.WellFormed.{create-not-set, set-aimed}

@@ -2,7 +2,6 @@ pub mod RecordsOneMore
 pub mod FirstReason
 pub mod SixByCounters
 pub mod Admitted
-pub mod ObjectsByNumber
 pub mod UntouchedSound
 pub mod EntriesAfterStore
 pub mod CreateKeepsSound

@@ -41,7 +41,7 @@ use Rattle.table_soundness.proofs.SoundFacts.{Sound}
 use Rattle.table_arrival.specs.Answers6and7.{firstOf, rowOf}
 use Rattle.group_true.specs.TrueGroups.{trueGroups}
 use Rattle.group_true.proofs.TrueGroups.{groups-grow}
-use Rattle.table_arrival.proofs.ObjectsByNumber.{sets-few}
+use Rattle.table_soundness.proofs.ObjectsByNumber.{sets-few}
 use Rattle.table_arrival.proofs.ObjectOfSet.{object-less, target-site, target-seq, row-few, row-fits}
 use Rattle.table_arrival.proofs.Faithful.{RowsTrue}
 use Rattle.table_replay.specs.Replay.{replayOf}

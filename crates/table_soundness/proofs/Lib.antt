@@ -5,3 +5,4 @@ pub mod SetTallies
 pub mod SoundTests
 pub mod EachObject
 pub mod SoundFacts
+pub mod ObjectsByNumber

@@ -8,7 +8,7 @@ use Rattle.edit_causal.proofs.ConflictsAmongSets.{none-itself}
 use Rattle.edit_history.specs.EditsHeld.{setsOn}
 use Rattle.table_drawing.specs.Tables.{tablesOf, heldBy}
 use Rattle.table_soundness.proofs.SoundFacts.{sound-at}
-use Rattle.table_arrival.proofs.ObjectsByNumber.{sets-few}
+use Rattle.table_soundness.proofs.ObjectsByNumber.{sets-few}
 use Rattle.table_engine.proofs.EnumerationOutcomes.{not-sound, wrong-length, right-length}
 use borrow.Author.Needs.{needs}
 use Rattle.table_engine.proofs.enumerate_groups.Statement.{statement}

@@ -25,7 +25,7 @@ use Rattle.edit_history.proofs.EditsHeld.{Target, target-parts, any-edit-on, an
 use Rattle.edit_history.proofs.RecordsPassed.{target-before}
 use Rattle.group_step.specs.GroupRows.{mostSets}
 use Rattle.table_drawing.specs.Tables.{Tables, placeAt, setsAt, heldBy}
-use Rattle.table_soundness.proofs.SoundFacts.{Sound}
+use Rattle.table_soundness.proofs.SoundFacts.{Sound, Entered, entered}
 
 -- ---- the first that passes
 
@@ -78,40 +78,14 @@ chosen-none f rs (suc n) h =
     let none : _≡_ {A = ℕ} (cond (f (recordAt rs n)) 1 0) 0 = ap (λ (b : Bool). cond b 1 0) (h n (omega arith)) in
     omega (arith, chosen-more f rs n, chosen-none f rs n (λ p l. h p (omega arith)))
 
--- ---- the object that an edit names
+-- ---- every Create held is an object
 
-module _ (t : Tables) (s : Sound t) where
-  -- the Create of object o
-  pub object-create :
-      (d : Edit) (o : ℕ) → o < t .counters .objects →
-      getD (creates (heldBy t)) o d ≡ recordAt (t .records) (placeAt (t .objects) o)
-  object-create d o l =
-      let x = s .object o l .entry in
-      ap (λ (i : ℕ). getD (creates (heldBy t)) i d) (sym (x .number))
-      ∙ create-at d (t .records) (t .counters .records) (placeAt (t .objects) o) (x .place) (x .create)
-
-  pub target-object :
-      (e : Edit) → any (isTarget e) (heldBy t) ≡ true →
-      (objectOf e (heldBy t) < t .counters .objects)
-      × Target e (recordAt (t .records) (placeAt (t .objects) (objectOf e (heldBy t))))
-  target-object e h =
-      let es = heldBy t in
-      let among : any (isTarget e) (creates es) ≡ true
-      = unfold creates in any-filter (isTarget e) isCreate es (λ a q. target-parts e a q .create) ∙ h in
-      let (l, q) = index-at (isTarget e) e (creates es) among in
-      let less : objectOf e es < t .counters .objects = unfold objectOf in omega (arith, s .objects) in
-      let is : getD (creates es) (objectOf e es) e ≡ recordAt (t .records) (placeAt (t .objects) (objectOf e es))
-      = object-create e (objectOf e es) less in
-      let hit : isTarget e (getD (creates es) (objectOf e es) e) ≡ true = unfold objectOf in q in
-      (less, target-parts e (recordAt (t .records) (placeAt (t .objects) (objectOf e es))) (rw is at hit))
-
-  -- ---- every Create held is an object
-
-  pub object-at-place :
+module _ (t : Tables) (s : Entered t) where
+  pub entered-at-place :
       (p : ℕ) → p < t .counters .records → isCreate (recordAt (t .records) p) ≡ true →
       (length (creates (editsOf (t .records) p)) < t .counters .objects)
       × (placeAt (t .objects) (length (creates (editsOf (t .records) p))) ≡ p)
-  object-at-place p l h =
+  entered-at-place p l h =
       let rs = t .records in
       let o = length (creates (editsOf rs p)) in
       let less : o < t .counters .objects = omega (arith, create-less rs p (t .counters .records) l h, s .objects) in
@@ -129,8 +103,8 @@ module _ (t : Tables) (s : Sound t) where
       )
 
   -- no identity has more Sets than an object may have
-  pub sets-few : (x : Site) (y : Seq) → length (setsOn x y (heldBy t)) ≤ mostSets
-  sets-few x y = elim (decide (any (isSetOn x y) (heldBy t))) [ inl h ↦ some h | inr h ↦ none h ]
+  pub entered-sets-few : (x : Site) (y : Seq) → length (setsOn x y (heldBy t)) ≤ mostSets
+  entered-sets-few x y = elim (decide (any (isSetOn x y) (heldBy t))) [ inl h ↦ some h | inr h ↦ none h ]
     where
       rs : List ℕ
       rs = t .records
@@ -154,7 +128,7 @@ module _ (t : Tables) (s : Sound t) where
           let (es, eq′) = same-parts (m .tsite) (m .tseq) x y eq in
           let (c, lc, tgt) = target-before (t .counters .sites) rs n (s .pass) p l (set-aimed m is) in
           let parts = target-parts m (recordAt rs c) tgt in
-          let (less, place) = object-at-place c (omega arith) (parts .create) in
+          let (less, place) = entered-at-place c (omega arith) (parts .create) in
           let entry = s .object (length (creates (editsOf rs c))) less .entry in
           let site : recordAt rs c .site ≡ x = same-site (recordAt rs c .site) (m .tsite) (parts .site) ∙ es in
           let seq : recordAt rs c .seq ≡ y = same-seq (recordAt rs c .seq) (m .tseq) (parts .seq) ∙ eq′ in
@@ -163,3 +137,39 @@ module _ (t : Tables) (s : Sound t) where
           ∙ ap (λ (i : ℕ). length (setsOn (recordAt rs i .site) (recordAt rs i .seq) (heldBy t))) place
           ∙ ap₂ (λ (u : Site) (v : Seq). length (setsOn u v (heldBy t))) site seq in
           omega (arith, entry .few)
+
+-- ---- in sound tables
+
+module _ (t : Tables) (s : Sound t) where
+  pub object-at-place :
+      (p : ℕ) → p < t .counters .records → isCreate (recordAt (t .records) p) ≡ true →
+      (length (creates (editsOf (t .records) p)) < t .counters .objects)
+      × (placeAt (t .objects) (length (creates (editsOf (t .records) p))) ≡ p)
+  object-at-place = entered-at-place t (entered t s)
+
+  pub sets-few : (x : Site) (y : Seq) → length (setsOn x y (heldBy t)) ≤ mostSets
+  sets-few = entered-sets-few t (entered t s)
+
+  -- the Create of object o
+  pub object-create :
+      (d : Edit) (o : ℕ) → o < t .counters .objects →
+      getD (creates (heldBy t)) o d ≡ recordAt (t .records) (placeAt (t .objects) o)
+  object-create d o l =
+      let x = s .object o l .entry in
+      ap (λ (i : ℕ). getD (creates (heldBy t)) i d) (sym (x .number))
+      ∙ create-at d (t .records) (t .counters .records) (placeAt (t .objects) o) (x .place) (x .create)
+
+  pub target-object :
+      (e : Edit) → any (isTarget e) (heldBy t) ≡ true →
+      (objectOf e (heldBy t) < t .counters .objects)
+      × Target e (recordAt (t .records) (placeAt (t .objects) (objectOf e (heldBy t))))
+  target-object e h =
+      let es = heldBy t in
+      let among : any (isTarget e) (creates es) ≡ true
+      = unfold creates in any-filter (isTarget e) isCreate es (λ a q. target-parts e a q .create) ∙ h in
+      let (l, q) = index-at (isTarget e) e (creates es) among in
+      let less : objectOf e es < t .counters .objects = unfold objectOf in omega (arith, s .objects) in
+      let is : getD (creates es) (objectOf e es) e ≡ recordAt (t .records) (placeAt (t .objects) (objectOf e es))
+      = object-create e (objectOf e es) less in
+      let hit : isTarget e (getD (creates es) (objectOf e es) e) ≡ true = unfold objectOf in q in
+      (less, target-parts e (recordAt (t .records) (placeAt (t .objects) (objectOf e es))) (rw is at hit))
