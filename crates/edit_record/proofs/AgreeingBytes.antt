@@ -11,7 +11,7 @@ use lib.ListN.{length, getD, take, drop, List·getD-append}
 use lib.Seq.{getD-drop, getD-take}
 use borrow.Author.Tests.{eq-eqb, ne-eqb}
 use Rattle.math_lists.proofs.Booleans.{decide}
-use Rattle.edit_record.specs.Layout.{mostSites, vectorAt, targetAt, valueAt, recordLength, countAt, membersAt}
+use Rattle.edit_record.specs.Layout.{mostSites, vectorAt, targetAt, valueAt, recordLength, placeLength, countAt, membersAt}
 use Rattle.edit_record.specs.Layout.{memberLength, mostMembers, kindAt, limitedKind}
 use Rattle.edit_record.specs.RecordBytes.{two, four, counts, firstFours, limits, decodeOf, spanOf}
 
@@ -34,16 +34,26 @@ counts-agree (suc n) s t h =
     let rest = counts-agree n (drop 2 s) (drop 2 t) (agree-drop 2 (2 * n) s t (λ i l. h i (omega arith))) in
     rw (a, b, rest)
 
-fours-agree : (n k : ℕ) (s t : List ℕ) → Agree (4 * k) s t → firstFours n k s ≡ firstFours n k t
+-- the elements that are among the first n and among the first m are the same
+abbrev AgreeBoth : ℕ → ℕ → List ℕ → List ℕ → Type 0
+AgreeBoth n m s t = (i : ℕ) → i < n → i < m → getD s i 0 ≡ getD t i 0
+
+agree-both-drop :
+    (k n m : ℕ) (s t : List ℕ) → AgreeBoth (k + n) (k + m) s t → AgreeBoth n m (drop k s) (drop k t)
+agree-both-drop k n m s t h i l o =
+    getD-drop k s i 0 ∙ h (k + i) (omega arith) (omega arith) ∙ sym (getD-drop k t i 0)
+
+fours-agree : (n k : ℕ) (s t : List ℕ) → AgreeBoth (4 * n) (4 * k) s t → firstFours n k s ≡ firstFours n k t
 unfolding firstFours
 fours-agree zero k s t h = refl
-fours-agree (suc n) zero s t h = ap (λ (l : List ℕ). 0 ∷ l) (fours-agree n zero s t (λ i l. absurd (omega arith)))
+fours-agree (suc n) zero s t h = ap (λ (l : List ℕ). 0 ∷ l) (fours-agree n zero s t (λ i l m. absurd (omega arith)))
 fours-agree (suc n) (suc k) s t h =
-    let a = h 0 (omega arith) in
-    let b = h 1 (omega arith) in
-    let c = h 2 (omega arith) in
-    let d = h 3 (omega arith) in
-    let rest = fours-agree n k (drop 4 s) (drop 4 t) (agree-drop 4 (4 * k) s t (λ i l. h i (omega arith))) in
+    let a = h 0 (omega arith) (omega arith) in
+    let b = h 1 (omega arith) (omega arith) in
+    let c = h 2 (omega arith) (omega arith) in
+    let d = h 3 (omega arith) (omega arith) in
+    let rest = fours-agree n k (drop 4 s) (drop 4 t)
+    (agree-both-drop 4 (4 * n) (4 * k) s t (λ i l m. h i (omega arith) (omega arith))) in
     rw (a, b, c, d, rest)
 
 -- ---- the record
@@ -72,30 +82,30 @@ pub span-plain : (s : List ℕ) → limits s ≡ false → spanOf s ≡ recordLe
 unfolding spanOf
 span-plain s h = rw h
 
--- what it lists
+-- what it lists: a member past the last that a place has room for is not read
 listed-agree :
-    (s t : List ℕ) → Agree (spanOf s) s t →
+    (s t : List ℕ) → AgreeBoth (spanOf s) placeLength s t →
     (cond (limits s) (four s countAt) 0 ≡ cond (limits t) (four t countAt) 0)
     × (firstFours mostMembers (cond (limits s) (two s countAt) 0) (drop membersAt s)
     ≡ firstFours mostMembers (cond (limits t) (two t countAt) 0) (drop membersAt t))
-listed-agree s t h = rw (← (h 0 (omega (arith, span-least s)))) (elim (decide (limits s)) [
+listed-agree s t h = rw (← (h 0 (omega (arith, span-least s)) (lit< tt))) (elim (decide (limits s)) [
   | inl on ↦
       let w = span-limited s on in
       let k = two s countAt in
-      let e0 = h countAt (omega arith) in
-      let e1 = h (countAt + 1) (omega arith) in
-      let e2 = h (countAt + 2) (omega arith) in
-      let e3 = h (countAt + 3) (omega arith) in
+      let e0 = h countAt (omega arith) (lit< tt) in
+      let e1 = h (countAt + 1) (omega arith) (lit< tt) in
+      let e2 = h (countAt + 2) (omega arith) (lit< tt) in
+      let e3 = h (countAt + 3) (omega arith) (lit< tt) in
       let m = fours-agree mostMembers k (drop membersAt s) (drop membersAt t)
-      (agree-drop membersAt (4 * k) s t (λ i l. h i (omega arith))) in
+      (agree-both-drop membersAt (4 * mostMembers) (4 * k) s t (λ i l o. h i (omega arith) (omega arith))) in
       rw on (rw (e0, e1, e2, e3), rw (← e0, ← e1) m)
   | inr off ↦
-      rw off (refl, fours-agree mostMembers 0 (drop membersAt s) (drop membersAt t) (λ i l. absurd (omega arith)))
+      rw off (refl, fours-agree mostMembers 0 (drop membersAt s) (drop membersAt t) (λ i l o. absurd (omega arith)))
 ])
 
-pub decode-agree : (s t : List ℕ) → Agree (spanOf s) s t → decodeOf s ≡ decodeOf t
-decode-agree s t h =
-    let g : Agree recordLength s t = λ i l. h i (omega (arith, span-least s)) in
+decode-both : (s t : List ℕ) → AgreeBoth (spanOf s) placeLength s t → decodeOf s ≡ decodeOf t
+decode-both s t h =
+    let g : Agree recordLength s t = λ i l. h i (omega (arith, span-least s)) (omega arith) in
     let v : counts mostSites (drop vectorAt s) ≡ counts mostSites (drop vectorAt t)
     = counts-agree mostSites (drop vectorAt s) (drop vectorAt t)
     (agree-drop vectorAt (2 * mostSites) s t (λ i l. g i (omega arith))) in
@@ -117,6 +127,13 @@ decode-agree s t h =
       g (valueAt + 2) (lit< tt),
       g (valueAt + 3) (lit< tt),
     )
+
+pub decode-agree : (s t : List ℕ) → Agree (spanOf s) s t → decodeOf s ≡ decodeOf t
+decode-agree s t h = decode-both s t (λ i l m. h i l)
+
+-- and nothing past a place is read, whatever stands in it
+pub decode-place : (s t : List ℕ) → Agree placeLength s t → decodeOf s ≡ decodeOf t
+decode-place s t h = decode-both s t (λ i l m. h i m)
 
 -- as where a record is taken by itself
 pub decode-own : (s : List ℕ) → decodeOf (take (spanOf s) s) ≡ decodeOf s

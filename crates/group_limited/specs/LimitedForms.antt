@@ -18,6 +18,7 @@ use Rattle.edit_history.specs.EditsHeld.{recordAt}
 use Rattle.edit_history.specs.Answer16.{namelessAmong}
 use Rattle.group_context.specs.RowsOfBox.{PlainRows}
 use Rattle.group_limited.specs.declared.Told.{Told}
+use Rattle.group_limited.specs.declared.Judged.{Judged}
 
 -- the Sets in the first k of the places ps
 abbrev pub setsIn : List ℕ → List ℕ → ℕ → List Edit
@@ -41,12 +42,12 @@ pub record ToldOf (ms : List Edit) (e : Edit) (t : Told) : Type 0 where
       t .nameless ≡ false → t .conflicts ≡ conflictsWith e ms
 
 -- what is judged of a Set e that comes after the Sets ms, where these are proper and having seen goes through to it
-pub record JudgedOf (ms : List Edit) (e : Edit) (nameless : Bool) (conflicts : ℕ) : Type 0 where
+pub record JudgedOf (ms : List Edit) (e : Edit) (j : Judged) : Type 0 where
   pub nameless :
-      Proper ms → Lawful (boxOn (ms ++ (e ∷ []))) (suc (length ms)) → nameless ≡ namelessAmong ms e
+      Proper ms → Lawful (boxOn (ms ++ (e ∷ []))) (suc (length ms)) → j .nameless ≡ namelessAmong ms e
   pub conflicts :
-      Proper ms → Lawful (boxOn (ms ++ (e ∷ []))) (suc (length ms)) → nameless ≡ false →
-      conflicts ≡ conflictsWith e ms
+      Proper ms → Lawful (boxOn (ms ++ (e ∷ []))) (suc (length ms)) → j .nameless ≡ false →
+      j .conflicts ≡ conflictsWith e ms
 
 -- 16 is given to none of the Sets ms, each after those before it
 unfoldable pub namedInTurn : List Edit → Bool

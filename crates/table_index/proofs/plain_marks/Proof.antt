@@ -1,4 +1,4 @@
--- `table_index::conflicts_in` meets its contract: after i places, the marks are those of the edits in them. Assumes
+-- `table_index::plain_marks` meets its contract: after i places, the marks are those of the edits in them. Assumes
 -- nothing.
 use mathlib.Core.Path.{_≡_, sym}
 use mathlib.Core.List.{map}
@@ -6,16 +6,16 @@ use Prim.Native.Nat.{_≤_, _-_}
 use native.Mathlib.Omega.{arith}
 use lib.ListN.{take}
 use denote.Ref.{now}
-use Rattle.edit_causal.specs.Conflict.{conflictsWith}
-use Rattle.edit_causal.proofs.ConflictsAmongSets.{none-marked}
+use Rattle.edit_causal.specs.ConflictForms.{plainMarks}
+use Rattle.edit_causal.proofs.PlainMarks.{none-marked}
 use Rattle.edit_history.specs.EditsHeld.{recordAt}
-use Rattle.table_index.proofs.ConflictsInPlaces.{marks-below, marks-more}
+use Rattle.table_index.proofs.MarksInPlaces.{marks-below, marks-more}
 use borrow.Author.Needs.{needs}
-use Rattle.table_index.proofs.conflicts_in.Statement.{statement}
-use Rattle.table_index.proofs.conflicts_in.Tie as tie
+use Rattle.table_index.proofs.plain_marks.Statement.{statement}
+use Rattle.table_index.proofs.plain_marks.Tie as tie
 
 abbrev Inv-loop : tie.InvT-loop
-Inv-loop recs places k e marks₀ i₀ marks i = (i ≤ k) × (marks ≡ conflictsWith e (map (recordAt recs) (take i places)))
+Inv-loop recs places k e marks₀ i₀ marks i = (i ≤ k) × (marks ≡ plainMarks e (map (recordAt recs) (take i places)))
 
 abbrev μ-loop : tie.MeasureT-loop
 μ-loop recs places k e marks₀ i₀ marks i = k - i
@@ -62,8 +62,8 @@ returns c =
     let k : c .before .loop .i ≡ c .before .before .before .before .args .k = omega arith in
     rw (← k) (c .before .loop .inv .1)
 
-pub conflicts-in-spec : {M : Type 1} → statement M
-conflicts-in-spec =
+pub plain-marks-spec : {M : Type 1} → statement M
+plain-marks-spec =
     tie.close
     (tie.spec
     Inv-loop
