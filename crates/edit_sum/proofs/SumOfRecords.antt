@@ -20,7 +20,8 @@ use Rattle.edit_record.proofs.FoursInBytes.{fours-at, fours-past}
 use Rattle.edit_record.proofs.AgreeingBytes.{span-limited, span-plain}
 use Rattle.edit_record.proofs.WellFormed.{few-members}
 use Rattle.edit_history.specs.EditsHeld.{recordAt, editsOf}
-use Rattle.edit_history.specs.Answers2to5.{isRepeated, isEarly, isTorn, isAstray, passes, recordsPass}
+use Rattle.edit_history.specs.Answers2to5.{recordsPass}
+use Rattle.edit_history.proofs.RecordsPassed.{few-at}
 use Rattle.edit_sum.specs.WordSum.{wordLength, recordWords, wordAt, wrapped, sumOf, wordsAt, sumHeld, ListsFit}
 use Rattle.edit_sum.specs.SumOfEdits.{fieldWords, wordsIn, wordsOver, sumOver}
 use Rattle.edit_sum.proofs.WordsAdded.{both-early, words-add}
@@ -111,18 +112,4 @@ record-sum b few = ap wrapped (record-words b few ∙ omega arith)
 
 -- records that pass 1 to 5 list no more
 pub passing-fit : (sites : ℕ) (rs : List ℕ) (n : ℕ) → recordsPass sites rs n ≡ true → ListsFit rs n
-unfolding recordsPass passes
-passing-fit sites rs n h p l =
-    let e = recordAt rs p in
-    let es = editsOf rs p in
-    let a = unfit sites e in
-    let b = isRepeated es e in
-    let c = isEarly es e in
-    let d = isTorn es e in
-    let astray = isAstray es e in
-    let on = all-at n (λ q. passes sites (editsOf rs q) (recordAt rs q)) h p l in
-    let (h4, _) = neither (a || b || c || d) astray (not-true (a || b || c || d || astray) on) in
-    let (h3, _) = neither (a || b || c) d h4 in
-    let (h2, _) = neither (a || b) c h3 in
-    let (fit, _) = neither a b h2 in
-    few-members sites (drop (p * placeLength) rs) fit
+passing-fit = few-at

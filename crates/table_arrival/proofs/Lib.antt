@@ -10,6 +10,7 @@ pub mod ObjectOfSet
 pub mod SetKeepsSound
 pub mod LayerKeepsSound
 pub mod ArrivalKeepsSound
+pub mod ProperWith
 pub mod Faithful
 pub mod RefusedForReason
 pub mod VersionValues
