@@ -43,7 +43,7 @@ use Rattle.edit_history.proofs.RecordsPassed.{Passed, passed}
 -- ---- one of some edits has been seen by another
 
 -- no Set conflicts with one that it has seen
-seen-agrees : (x y : Edit) → saw x y ≡ true → doConflict x y ≡ false
+pub seen-agrees : (x y : Edit) → saw x y ≡ true → doConflict x y ≡ false
 seen-agrees x y h = rw h (simp and-false)
 
 -- an edit held: its site has an entry, and its sequence number is counted
