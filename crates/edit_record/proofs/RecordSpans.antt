@@ -1,12 +1,12 @@
 -- How many bytes a record has: a record's own bytes alone decide, a whole record's fields are among them, and a place
 -- has room for them where the members are no more than a list may have. Assumes nothing.
 use mathlib.Core.Path.{_≡_, sym, _∙_}
-use mathlib.Core.Bool.{Bool, true, false, cond}
+use mathlib.Core.Bool.{false}
 use mathlib.Core.Logic.{_⊎_, inl, inr}
 use mathlib.Core.List.{List, _++_}
 use Prim.Native.Nat.{ℕ, _+_, _*_, _≤_, _<_}
 use native.Mathlib.Omega.{arith}
-use lib.ListN.{length, getD, take}
+use lib.ListN.{length, take}
 use lib.Seq.{getD-take}
 use Rattle.math_lists.proofs.Booleans.{decide}
 use Rattle.edit_record.specs.Layout.{countAt, membersAt, memberLength, mostMembers, placeLength, twoBytes}

@@ -1,5 +1,5 @@
 -- `edit_record::encode` meets its contract: the fields, then the list of a limited Set or zeros. Assumes nothing.
-use mathlib.Core.Path.{_≡_, _∙_}
+use mathlib.Core.Path.{_∙_}
 use borrow.Author.Needs.{needs}
 use borrow.Author.Tests.{eq-eqb, ne-eqb}
 use Rattle.edit_record.specs.Layout.{limitedKind}

@@ -1,7 +1,7 @@
 -- `edit_record::is_order_wrong` meets its contract: `found` is what the definition says of the first i members, and
 -- past the last but one none counts. Assumes nothing.
 use mathlib.Core.Path.{_≡_, _∙_}
-use Prim.Native.Nat.{_+_, _≤_, _<_, _-_}
+use Prim.Native.Nat.{_+_, _≤_, _-_}
 use native.Mathlib.Numerals.{add-one}
 use native.Mathlib.Omega.{arith}
 use borrow.Author.Needs.{needs}

@@ -1,6 +1,6 @@
 -- `edit_record::members_of` meets its contract: the test is the definition's, and of more members than there are
 -- places those that have one are read. Assumes nothing.
-use mathlib.Core.Path.{_≡_, sym, _∙_}
+use mathlib.Core.Path.{sym, _∙_}
 use native.Mathlib.Omega.{arith}
 use lib.ListN.{drop}
 use denote.Ref.{now}

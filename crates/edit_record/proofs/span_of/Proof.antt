@@ -1,5 +1,5 @@
 -- `edit_record::span_of` meets its contract: the test is the definition's, and so are both numbers. Assumes nothing.
-use mathlib.Core.Path.{sym, _∙_}
+use mathlib.Core.Path.{sym}
 use denote.Ref.{now}
 use borrow.Author.Needs.{needs}
 use Rattle.edit_record.proofs.AgreeingBytes.{limits-on, limits-off, span-limited, span-plain}
