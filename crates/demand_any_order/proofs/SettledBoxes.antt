@@ -118,8 +118,8 @@ module _ (n : ℕ) (few : n ≤ mostSites) (es : List Edit) (o : Ordered n es) (
         elim (decLt j i) [
           | yes m ↦ m
           | no m ↦ elim (decLt i j) [
-            | yes m ↦ clash h (pairs-at MayPrecede noEdit (filter (isSetOn s q) es) before i j m k)
-            | no m ↦
+            | yes b ↦ clash h (pairs-at MayPrecede noEdit (filter (isSetOn s q) es) before i j b k)
+            | no b ↦
                 (let same : j ≡ i = omega arith in
                 clash (rw same at h) (before-irreflexive (getD (filter (isSetOn s q) es) i noEdit)))
           ]
