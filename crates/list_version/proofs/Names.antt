@@ -8,7 +8,8 @@ use borrow.Author.Tests.{lt-ltb, le-ltb, eq-eqb, ne-eqb}
 use lib.Dec.{eqb, ltb}
 use lib.Arith.{digits-lt}
 use Rattle.edit_record.specs.declared.Edit.{Edit}
-use Rattle.list_version.specs.Identifier.{siteNumbers, seqNumbers, nameOf, siteIn, seqIn}
+use Rattle.edit_record.specs.Answer1.{nameOf}
+use Rattle.list_version.specs.Identifier.{siteNumbers, seqNumbers, siteIn, seqIn}
 
 pub name-holds :
     (e : Edit) → e .site .0 < siteNumbers → e .seq .0 < seqNumbers →

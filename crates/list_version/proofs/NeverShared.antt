@@ -15,7 +15,9 @@ use Rattle.edit_history.specs.EditsHeld.{recordAt, isSetOn, setsOn}
 use Rattle.edit_history.proofs.EditsHeld.{count-few}
 use Rattle.edit_history.proofs.RecordsPassed.{next-at, one-place}
 use Rattle.table_drawing.specs.Tables.{Tables, heldBy}
+use Rattle.edit_causal.specs.ConflictForms.{Proper}
 use Rattle.table_soundness.proofs.SoundFacts.{Sound}
+use Rattle.table_arrival.proofs.ProperWith.{proper-held}
 use Rattle.edit_record.specs.RecordBytes.{noEdit}
 use Rattle.group_true.specs.TrueGroups.{groupsOf, trueGroups}
 use Rattle.math_lists.specs.Rearranged.{Mem}
@@ -25,14 +27,14 @@ use Rattle.demand_any_order.proofs.Identities.{same-on, same-at, one-edit, sets
 use Rattle.list_version.specs.Identifier.{seqNumbers, identifierOf}
 use Rattle.list_version.proofs.IdentifiersGrow.{NamesDiffer, identifiers-never-in-one}
 
-module _ (ms : List Edit) (differ : NamesDiffer ms) where
+module _ (ms : List Edit) (proper : Proper ms) (differ : NamesDiffer ms) where
   -- else both would be found in one, with no Set more
   pub never-shared :
       (g h : ℕ) → elem g (groupsOf ms) ≡ true → elem h (groupsOf ms) ≡ true →
       identifierOf ms g ≡ identifierOf ms h → g ≡ h
   never-shared g h eg eh same =
       let whole : ms ++ [] ≡ ms = append-nil ms in
-      identifiers-never-in-one ms [] (rw whole differ) g h h eg eh (rw whole eh)
+      identifiers-never-in-one ms [] (rw whole differ) g h h eg eh (rw whole eh) proper
       (λ x e. rw (whole, ← same) e) (λ x e. rw whole e)
 
 -- where no identity stands twice and every sequence number fits two bytes, the Sets of an object have different names
@@ -94,4 +96,5 @@ pub versions-never-share :
     identifierOf (setsOn (c .site) (c .seq) (heldBy t)) g ≡ identifierOf (setsOn (c .site) (c .seq) (heldBy t)) h →
     g ≡ h
 unfolding trueGroups
-versions-never-share t s c g h = never-shared (setsOn (c .site) (c .seq) (heldBy t)) (held-names-differ t s c) g h
+versions-never-share t s c g h =
+    never-shared (setsOn (c .site) (c .seq) (heldBy t)) (proper-held t s (c .site) (c .seq)) (held-names-differ t s c) g h

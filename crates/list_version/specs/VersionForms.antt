@@ -16,7 +16,8 @@ use Rattle.math_maximal.specs.Groups.{bit}
 use Rattle.group_step.specs.GroupRows.{mostSets}
 use Rattle.edit_record.specs.RecordBytes.{noEdit}
 use Rattle.group_true.specs.Disputed.{isDisputed}
-use Rattle.list_version.specs.Identifier.{siteNumbers, seqNumbers, nameOf}
+use Rattle.edit_record.specs.Answer1.{nameOf}
+use Rattle.list_version.specs.Identifier.{siteNumbers, seqNumbers}
 use Rattle.list_version.specs.VersionOrder.{lex}
 
 -- the edits in some places of a table of records
