@@ -7,3 +7,4 @@ pub mod BottomsLeftOut
 pub mod OtherBoxes
 pub mod ReplayAnswered
 pub mod WorkedCases
+pub mod WorkedStory
