@@ -1,6 +1,6 @@
--- The Sets of an object, among edits that pass 1 to 5 and 16 in their order, are a box as the laws of contexts ask for
--- it: having seen goes through, and each that is limited names a version. By one edit more, so that it holds of the
--- edits of a table and of an arriving one after them. Assumes at most 16 sites.
+-- The Sets of an object, among edits that pass 1 to 5 in their order, are a lawful box: having seen goes through. Where
+-- they pass 16 as well, they are a box as the laws of contexts ask for it: each that is limited names a version. By one
+-- edit more, so that it holds of the edits of a table and of an arriving one after them. Assumes at most 16 sites.
 use mathlib.Core.Path.{_≡_, refl, sym, ap, ap₂, subst, _∙_}
 use mathlib.Core.Logic.{_⊎_, inl, inr}
 use mathlib.Core.Bool.{Bool, true, false, not, _&&_, _||_, cond, and-false}
@@ -120,11 +120,7 @@ module _ (ms : List Edit) (e : Edit) where
     | inr q ↦ rw q h
   ]
 
--- ---- edits that are orderly
-
-pub record Orderly (es : List Edit) : Type 0 where
-  pub held : (i : ℕ) → i < length es → Held es (getD es i noEdit)
-  pub boxes : (s : Site) (q : Seq) → Proper (setsOn s q es)
+-- ---- 16, to one edit
 
 -- 16 is not given to an edit that is not limited
 pub plain-named : (ms : List Edit) (e : Edit) → isLimited e ≡ false → namelessAmong ms e ≡ false
@@ -132,7 +128,7 @@ unfolding namelessAmong
 plain-named ms e h = rw h
 
 -- what 16 leaves: a limited edit lists no strange name, and names a version; one that is not limited names one anyway
-named-version :
+pub named-version :
     (ms : List Edit) (e : Edit) → namelessAmong ms e ≡ false → namesNone (boxOn (ms ++ (e ∷ []))) (length ms) ≡ false
 unfolding namelessAmong namesNone rel
 named-version ms e h = go (isLimited e) refl
@@ -142,32 +138,41 @@ named-version ms e h = go (isLimited e) refl
         (rw t at h) .1
     go false t = rw (getD-append-seam ms e [] noEdit, t)
 
-pub orderly-none : Orderly []
+-- ---- edits that pass 1 to 5 in their order
+
+pub record InOrder (es : List Edit) : Type 0 where
+  pub held : (i : ℕ) → i < length es → Held es (getD es i noEdit)
+  pub lawful : (s : Site) (q : Seq) → Lawful (boxOn (setsOn s q es)) (length (setsOn s q es))
+
+in-order-none : InOrder []
 unfolding setsOn filter
-orderly-none = record {
+in-order-none = record {
   held = λ i l. absurd (omega arith);
-  boxes = λ s q. record {
-    lawful = record {
-      symmetric = λ i j. unfold rel in conflict-symmetric (getD [] i noEdit) (getD [] j noEdit);
-      irreflexive = λ i. unfold rel in conflict-irreflexive (getD [] i noEdit);
-      transitive = λ i j k l. absurd (omega arith);
-      compatible = λ i j l. absurd (omega arith);
-    };
-    named = λ i l. absurd (omega arith);
+  lawful = λ s q. record {
+    symmetric = λ i j. unfold rel in conflict-symmetric (getD [] i noEdit) (getD [] j noEdit);
+    irreflexive = λ i. unfold rel in conflict-irreflexive (getD [] i noEdit);
+    transitive = λ i j k l. absurd (omega arith);
+    compatible = λ i j l. absurd (omega arith);
   };
 }
 
-module _ (sites : ℕ) (few : sites ≤ mostSites) (es : List Edit) (e : Edit) (o : Orderly es)
+-- with one more, the Sets of an object have it as well, if it is one of them
+sets-more :
+    (es : List Edit) (e : Edit) (s : Site) (q : Seq) →
+    setsOn s q (es ++ (e ∷ [])) ≡ setsOn s q es ++ cond (isSetOn s q e) (e ∷ []) []
+unfolding setsOn
+sets-more es e s q = filter-snoc (isSetOn s q) es e
+
+module _ (sites : ℕ) (few : sites ≤ mostSites) (es : List Edit) (e : Edit) (o : InOrder es)
     (pass : passes sites es e ≡ true) where
   p : Passed sites es e
   p = passed sites es e pass
 
-  -- the Sets of any object with the edit, if it is one of them, are lawful
-  pub lawful-after : (s : Site) (q : Seq) → Lawful (boxOn (setsOn s q es ++ (e ∷ []))) (length (setsOn s q es ++ (e ∷ [])))
+  lawful-with : (s : Site) (q : Seq) → Lawful (boxOn (setsOn s q es ++ (e ∷ []))) (length (setsOn s q es ++ (e ∷ [])))
   unfolding setsOn
-  lawful-after s q =
+  lawful-with s q =
       let f = isSetOn s q in
-      lawful-snoc (filter f es) e (o .boxes s q .lawful) (λ j k l m h g.
+      lawful-snoc (filter f es) e (o .lawful s q) (λ j k l m h g.
       let (x, lx, ex, _) = filter-place f noEdit es j l in
       let (y, ly, ey, _) = filter-place f noEdit es k (omega arith) in
       rw (← ey) (through sites few es e p x lx (getD es y noEdit) (o .held y ly) (rw (← ex) at h) (rw (← ex, ← ey) at g)))
@@ -186,14 +191,44 @@ module _ (sites : ℕ) (few : sites ≤ mostSites) (es : List Edit) (e : Edit) (
             (omega (arith, p .inTurn .formed .site), omega (arith, p .inTurn .next, rw own at (more (e .site .0)))))
       ]
 
-  sets-more : (s : Site) (q : Seq) → setsOn s q (es ++ (e ∷ [])) ≡ setsOn s q es ++ cond (isSetOn s q e) (e ∷ []) []
-  unfolding setsOn
-  sets-more s q = filter-snoc (isSetOn s q) es e
+  in-order-more : InOrder (es ++ (e ∷ []))
+  in-order-more = record {
+    held = held-after;
+    lawful = λ s q. subst (λ (ms : List Edit). Lawful (boxOn ms) (length ms)) (sym (sets-more es e s q))
+        (go s q (decide (isSetOn s q e)));
+  }
+    where
+      go : (s : Site) (q : Seq) → (isSetOn s q e ≡ true) ⊎ (isSetOn s q e ≡ false) →
+          (let ms = setsOn s q es ++ cond (isSetOn s q e) (e ∷ []) [] in Lawful (boxOn ms) (length ms))
+      go s q (inl k) = rw k (lawful-with s q)
+      go s q (inr k) = rw (k, append-nil (setsOn s q es)) (o .lawful s q)
+
+-- ---- edits that pass 16 as well
+
+pub record Orderly (es : List Edit) : Type 0 where
+  pub held : (i : ℕ) → i < length es → Held es (getD es i noEdit)
+  pub boxes : (s : Site) (q : Seq) → Proper (setsOn s q es)
+
+in-order : {es : List Edit} → Orderly es → InOrder es
+in-order o = record { held = o .held; lawful = λ s q. o .boxes s q .lawful }
+
+pub orderly-none : Orderly []
+unfolding setsOn filter
+orderly-none = record {
+  held = in-order-none .held;
+  boxes = λ s q. record { lawful = in-order-none .lawful s q; named = λ i l. absurd (omega arith) };
+}
+
+module _ (sites : ℕ) (few : sites ≤ mostSites) (es : List Edit) (e : Edit) (o : Orderly es)
+    (pass : passes sites es e ≡ true) where
+  -- the Sets of any object with the edit, if it is one of them, are lawful
+  pub lawful-after : (s : Site) (q : Seq) → Lawful (boxOn (setsOn s q es ++ (e ∷ []))) (length (setsOn s q es ++ (e ∷ [])))
+  lawful-after = lawful-with sites few es e (in-order o) pass
 
   pub orderly-more : isNameless es e ≡ false → Orderly (es ++ (e ∷ []))
   orderly-more h = record {
-    held = held-after;
-    boxes = λ s q. subst Proper (sym (sets-more s q)) (go s q (decide (isSetOn s q e)));
+    held = held-after sites few es e (in-order o) pass;
+    boxes = λ s q. subst Proper (sym (sets-more es e s q)) (go s q (decide (isSetOn s q e)));
   }
     where
       go : (s : Site) (q : Seq) → (isSetOn s q e ≡ true) ⊎ (isSetOn s q e ≡ false) →
@@ -211,6 +246,14 @@ module _ (sites : ℕ) (few : sites ≤ mostSites) (es : List Edit) (e : Edit) (
       go s q (inr k) = rw (k, append-nil (setsOn s q es)) (o .boxes s q)
 
 -- ---- the edits of a table
+
+pub in-order-table :
+    (sites : ℕ) → sites ≤ mostSites → (rs : List ℕ) (n : ℕ) → recordsPass sites rs n ≡ true → InOrder (editsOf rs n)
+unfolding editsOf recordsPass all
+in-order-table sites few rs zero pass = in-order-none
+in-order-table sites few rs (suc n) pass =
+    let (pass′, here) = both (recordsPass sites rs n) (passes sites (editsOf rs n) (recordAt rs n)) pass in
+    in-order-more sites few (editsOf rs n) (recordAt rs n) (in-order-table sites few rs n pass′) here
 
 pub orderly-table :
     (sites : ℕ) → sites ≤ mostSites → (rs : List ℕ) (n : ℕ) → recordsPass sites rs n ≡ true →
