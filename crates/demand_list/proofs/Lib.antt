@@ -4,6 +4,7 @@ pub mod ListOverEdits
 pub mod AnyOrderSameList
 pub mod LayersInList
 pub mod BottomsLeftOut
+pub mod NoneLimited
 pub mod OtherBoxes
 pub mod ReplayAnswered
 pub mod WorkedCases
