@@ -30,7 +30,8 @@ use Rattle.edit_record.specs.Answer1.{isCreate, isSet, isLimited, unfit, nameOf
 use Rattle.edit_record.proofs.WellFormed.{WellFormed, well-formed}
 use Rattle.edit_causal.specs.Causal.{sameEdit, comesBefore, hasSeen}
 use Rattle.math_contexts.specs.NamedVersions.{namesNone}
-use Rattle.edit_causal.specs.Conflict.{saw, listedBy, boxOn}
+use Rattle.edit_causal.specs.Conflict.{listedBy, boxOn}
+use Rattle.edit_causal.specs.ConflictForms.{saw}
 use Rattle.edit_history.specs.EditsHeld.{countFrom, creates, isSetOn, setsOn, mostRecords}
 use Rattle.edit_history.specs.Answer16.{isStrange, namelessAmong}
 use Rattle.edit_history.specs.Answers2to5.{largerSomewhere, tears}

@@ -32,8 +32,8 @@ use Rattle.edit_record.specs.Layout.{mostSites}
 use Rattle.edit_record.specs.Answer1.{isCreate, isSet, isLimited, isAimed, nameOf}
 use Rattle.edit_record.proofs.WellFormed.{WellFormed, well-formed, set-aimed, limited-set, aimed-not-create}
 use Rattle.edit_causal.specs.Causal.{sameEdit, hasSeen}
-use Rattle.edit_causal.specs.Conflict.{saw, listedBy, boxOn}
-use Rattle.edit_causal.specs.ConflictForms.{NoneItself, Proper}
+use Rattle.edit_causal.specs.Conflict.{listedBy, boxOn}
+use Rattle.edit_causal.specs.ConflictForms.{NoneItself, Proper, saw}
 use Rattle.edit_causal.proofs.CausalLaws.{same-reflexive}
 use Rattle.edit_causal.proofs.ConflictsAmongSets.{none-itself, first-sets}
 use Rattle.edit_history.specs.EditsHeld.{countFrom, creates, isSetOn, setsOn}

@@ -10,7 +10,7 @@ use lib.ListN.{length, length-map, drop}
 use Rattle.math_lists.specs.NumbersBelow.{some, all, sum, keep}
 use Rattle.math_maximal.specs.MaximalSets.{with}
 use Rattle.math_contexts.specs.BoxByArrival.{rel}
-use Rattle.math_contexts.specs.NamedVersions.{conflictsBy, contextBy, contextsNamed}
+use Rattle.math_contexts.specs.NamedVersions.{conflictsBy, contextsNamed}
 use Rattle.math_lists.specs.SortedLists.{any, filter, insertBy, gatherBy, insert, gather}
 use Rattle.edit_record.specs.declared.Edit.{Edit}
 use Rattle.edit_form.specs.OldForm.{longForm, longFrom, startOf, storedIn}
@@ -148,7 +148,7 @@ computed-last : AllComputed (drop 14 cases)
 unfolding cases bytesOf flatMap countBytes counts firstFours editsIn longFrom startOf spanOf answerOver listAnswer
     firstOf unfit nonzeroPast isRepeated isEarly countFrom isTorn largerSomewhere isAstray namelessAmong fullOver
     crowdedOver some all sum keep any filter creates setsOn trueGroups groupsOf groups isMaximal fits conflictsIn
-    conflictsBy contextsNamed contextBy rel with bit linesOver versionLines linesIn layeredOrder
+    conflictsBy contextsNamed rel with bit linesOver versionLines linesIn layeredOrder
     standing deciding lastOn inOrder gatherBy insertBy gather insert vectorSum objectLines versionsOf isAhead lex
     identifierOf membersOf isDisputed versionLine identifierText settingsText settingText lastWith lastAfter later
     headLine decimal lastDigits sumOver wordsOver wordsIn
@@ -164,7 +164,7 @@ computed-later : AllComputed (drop 12 cases)
 unfolding cases bytesOf flatMap countBytes counts firstFours editsIn longFrom startOf spanOf answerOver listAnswer
     firstOf unfit nonzeroPast isRepeated isEarly countFrom isTorn largerSomewhere isAstray namelessAmong fullOver
     crowdedOver some all sum keep any filter creates setsOn trueGroups groupsOf groups isMaximal fits conflictsIn
-    conflictsBy contextsNamed contextBy rel with bit linesOver versionLines linesIn layeredOrder
+    conflictsBy contextsNamed rel with bit linesOver versionLines linesIn layeredOrder
     standing deciding lastOn inOrder gatherBy insertBy gather insert vectorSum objectLines versionsOf isAhead lex
     identifierOf membersOf isDisputed versionLine identifierText settingsText settingText lastWith lastAfter later
     headLine decimal lastDigits sumOver wordsOver wordsIn
@@ -178,7 +178,7 @@ computed-seventh : AllComputed (drop 6 cases)
 unfolding cases bytesOf flatMap countBytes counts firstFours editsIn longFrom startOf spanOf answerOver listAnswer
     firstOf unfit nonzeroPast isRepeated isEarly countFrom isTorn largerSomewhere isAstray namelessAmong fullOver
     crowdedOver some all sum keep any filter creates setsOn trueGroups groupsOf groups isMaximal fits conflictsIn
-    conflictsBy contextsNamed contextBy rel with bit linesOver versionLines linesIn layeredOrder
+    conflictsBy contextsNamed rel with bit linesOver versionLines linesIn layeredOrder
     standing deciding lastOn inOrder gatherBy insertBy gather insert vectorSum objectLines versionsOf isAhead lex
     identifierOf membersOf isDisputed versionLine identifierText settingsText settingText lastWith lastAfter later
     headLine decimal lastDigits sumOver wordsOver wordsIn
@@ -196,7 +196,7 @@ computed : AllComputed cases
 unfolding cases bytesOf flatMap countBytes counts firstFours editsIn longFrom startOf spanOf answerOver listAnswer
     firstOf unfit nonzeroPast isRepeated isEarly countFrom isTorn largerSomewhere isAstray namelessAmong fullOver
     crowdedOver some all sum keep any filter creates setsOn trueGroups groupsOf groups isMaximal fits conflictsIn
-    conflictsBy contextsNamed contextBy rel with bit linesOver versionLines linesIn layeredOrder
+    conflictsBy contextsNamed rel with bit linesOver versionLines linesIn layeredOrder
     standing deciding lastOn inOrder gatherBy insertBy gather insert vectorSum objectLines versionsOf isAhead lex
     identifierOf membersOf isDisputed versionLine identifierText settingsText settingText lastWith lastAfter later
     headLine decimal lastDigits sumOver wordsOver wordsIn

@@ -9,7 +9,7 @@ use Rattle.math_maximal.specs.MaximalSets.{with}
 use Rattle.math_maximal.specs.Groups.{bit, below, fits, isMaximal, groups}
 use Rattle.math_contexts.specs.Box.{disputed}
 use Rattle.math_contexts.specs.BoxByArrival.{rel}
-use Rattle.math_contexts.specs.NamedVersions.{conflictsBy, hasList, versionsNamed, contextBy, contextsNamed, namesNone}
+use Rattle.math_contexts.specs.NamedVersions.{conflictsBy, hasList, versionsNamed, contextsNamed, namesNone}
 use Rattle.edit_form.specs.OldForm.{longFrom, startOf}
 use Rattle.edit_record.specs.RecordBytes.{counts, countBytes, firstFours, fourBytes, spanOf}
 use Rattle.edit_record.specs.Answer1.{nonzeroPast, listUnfit, unfit}
@@ -42,7 +42,7 @@ computed : AllComputed story
 unfolding story bytesOf flatMap countBytes counts firstFours fourBytes editsIn longFrom startOf spanOf answerOver
     listAnswer firstOf unfit nonzeroPast listUnfit isRepeated isEarly countFrom isTorn largerSomewhere isAstray
     namelessAmong namesNone versionsNamed hasList disputed below fullOver crowdedOver some all sum keep any filter
-    creates setsOn trueGroups groupsOf groups isMaximal fits conflictsIn conflictsBy contextsNamed contextBy rel with
+    creates setsOn trueGroups groupsOf groups isMaximal fits conflictsIn conflictsBy contextsNamed rel with
     bit linesOver versionLines linesIn layeredOrder standing deciding lastOn inOrder gatherBy insertBy gather insert
     vectorSum objectLines versionsOf isAhead lex identifierOf membersOf isDisputed versionLine identifierText
     settingsText settingText lastWith lastAfter later headLine decimal lastDigits sumOver wordsOver wordsIn

@@ -1,5 +1,6 @@
 -- In sound tables the Sets of an object have different names, so that two versions of true tables never share an
 -- identifier. Assumes nothing.
+use Rattle.edit_record.specs.Layout.{twoBytes}
 use mathlib.Core.Path.{_≡_}
 use mathlib.Core.Bool.{true}
 use mathlib.Core.List.{List, [], _++_, append-nil}
@@ -24,7 +25,7 @@ use Rattle.math_lists.specs.Rearranged.{Mem}
 use Rattle.demand_any_order.specs.Settled.{Differ, Apart}
 use Rattle.math_lists.proofs.ListMembers.{chosen-at, mem-place}
 use Rattle.demand_any_order.proofs.Identities.{same-on, same-at, one-edit, sets-distinct}
-use Rattle.list_version.specs.Identifier.{seqNumbers, identifierOf}
+use Rattle.list_version.specs.Identifier.{identifierOf}
 use Rattle.list_version.proofs.IdentifiersGrow.{NamesDiffer, identifiers-never-in-one}
 
 module _ (ms : List Edit) (proper : Proper ms) (differ : NamesDiffer ms) where
@@ -39,7 +40,7 @@ module _ (ms : List Edit) (proper : Proper ms) (differ : NamesDiffer ms) where
 
 -- where no identity stands twice and every sequence number fits two bytes, the Sets of an object have different names
 pub names-apart :
-    (es : List Edit) → Apart es → ((e : Edit) → Mem e es → e .seq .0 < seqNumbers) → (c : Edit) →
+    (es : List Edit) → Apart es → ((e : Edit) → Mem e es → e .seq .0 < twoBytes) → (c : Edit) →
     NamesDiffer (setsOn (c .site) (c .seq) es)
 unfolding setsOn
 names-apart es u small c i j li lj e =
@@ -49,8 +50,8 @@ names-apart es u small c i j li lj e =
     let b = getD ms j noEdit in
     let ma : Mem a es = chosen-at f a es (mem-place noEdit ms i li) .0 in
     let mb : Mem b es = chosen-at f b es (mem-place noEdit ms j lj) .0 in
-    let low : a .seq .0 < seqNumbers = small a ma in
-    let low′ : b .seq .0 < seqNumbers = small b mb in
+    let low : a .seq .0 < twoBytes = small a ma in
+    let low′ : b .seq .0 < twoBytes = small b mb in
     sets-distinct es u c i j li lj (one-edit es u a b ma mb (same-on a b (omega arith) (omega arith)))
 
 -- ---- in sound tables
@@ -66,10 +67,10 @@ module _ (t : Tables) (s : Sound t) where
   n = t .counters .records
 
   -- a sequence number fits two bytes
-  pub held-numbered : (e : Edit) → Mem e (heldBy t) → e .seq .0 < seqNumbers
+  pub held-numbered : (e : Edit) → Mem e (heldBy t) → e .seq .0 < twoBytes
   held-numbered e m =
       let (p, l, q) = edit-in rs n e m in
-      let low : recordAt rs p .seq .0 < seqNumbers
+      let low : recordAt rs p .seq .0 < twoBytes
       = omega (
         arith,
         s .few-records,

@@ -9,19 +9,16 @@ use Rattle.edit_record.specs.Answer1.{nameOf}
 use Rattle.group_true.specs.Disputed.{isDisputed}
 use Rattle.list_version.specs.Members.{membersOf}
 
--- a site number is one byte, a sequence number two
+-- a site number is one byte
 abbrev pub siteNumbers : ℕ
 siteNumbers = 256
 
-abbrev pub seqNumbers : ℕ
-seqNumbers = twoBytes
-
 -- the two numbers in a name
 abbrev pub siteIn : ℕ → ℕ
-siteIn x = x / seqNumbers % siteNumbers
+siteIn x = x / twoBytes % siteNumbers
 
 abbrev pub seqIn : ℕ → ℕ
-seqIn x = x % seqNumbers
+seqIn x = x % twoBytes
 
 -- besides the Create: each member that conflicts with some Set of the object, by site then sequence number
 unfoldable pub identifierOf : List Edit → ℕ → List ℕ
