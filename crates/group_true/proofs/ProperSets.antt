@@ -3,7 +3,7 @@
 -- edit more, so that it holds of the edits of a table and of an arriving one after them. Assumes at most 16 sites.
 use mathlib.Core.Path.{_≡_, refl, sym, ap, ap₂, subst, _∙_}
 use mathlib.Core.Logic.{_⊎_, inl, inr}
-use mathlib.Core.Bool.{Bool, true, false, not, _&&_, _||_, cond, and-false}
+use mathlib.Core.Bool.{Bool, true, false, not, cond, and-false}
 use mathlib.Core.List.{List, [], _∷_, _++_, append-nil}
 use Prim.Native.Nat.{ℕ, zero, suc, _+_, _≤_, _<_}
 use native.Mathlib.Omega.{arith}
@@ -29,7 +29,7 @@ use Rattle.edit_record.specs.declared.Edit.{Edit}
 use Rattle.edit_record.specs.Layout.{mostSites}
 use Rattle.edit_record.specs.RecordBytes.{noEdit}
 use Rattle.edit_record.specs.Answer1.{isSet, isLimited}
-use Rattle.edit_causal.specs.Causal.{sameEdit, hasSeen, comesBefore}
+use Rattle.edit_causal.specs.Causal.{sameEdit, hasSeen}
 use Rattle.edit_causal.specs.Conflict.{doConflict, listedBy, boxOn}
 use Rattle.edit_causal.specs.ConflictForms.{Proper, saw}
 use Rattle.edit_causal.proofs.CausalLaws.{conflict-symmetric, conflict-irreflexive}

@@ -11,6 +11,7 @@ pub mod SetKeepsSound
 pub mod LayerKeepsSound
 pub mod ArrivalKeepsSound
 pub mod ProperWith
+pub mod JudgedPlainly
 pub mod Faithful
 pub mod RefusedForReason
 pub mod VersionValues
