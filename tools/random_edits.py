@@ -63,16 +63,17 @@ class Edits:
 
 
 def mistaken(rng, edits, site, box, members):
-    """A list that is nearly one of a version: a name less or more, that of any edit or of none, or from elsewhere."""
-    members = set(members)
+    """A list that is nearly one of a version: a name less or more, that of any edit or of none, members of several
+    versions, or the version of any box."""
+    versions = edits.versions(site, box)
     names = [rules.name(rules.decode(e[2])) for e in edits.made] + [(site, edits.seen[site][site] + 1), (200, 9)]
-    if members and rng.random() < 0.4:
-        members.remove(rng.choice(sorted(members)))
-    elif rng.random() < 0.6:
-        members.add(rng.choice(names + [rules.name(e) for e in edits.sets if e.target == box]))
-    else:
-        members = set(rng.choice(edits.versions(site, rng.choice(edits.boxes[site]))))
-    return sorted(members)
+    disputed = sorted({one for version in versions for one in version})
+    return sorted(rng.choice((
+        set(members) - {rng.choice(members)} if members else {rng.choice(names)},
+        set(members) | {rng.choice(names + disputed)},
+        set(rng.sample(disputed, min(len(disputed), len(members)))),
+        set(rng.sample(disputed, rng.randint(0, len(disputed)))),
+        set(rng.choice(edits.versions(site, rng.choice(edits.boxes[site])))))))
 
 
 def limit_one(rng, edits, site, box, key, value, wrong):
