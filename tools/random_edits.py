@@ -3,7 +3,7 @@ it, and orders of one set of edits. What an engineer sees is what tools/independ
 from itertools import islice
 
 from comparing import module
-from stored import BOTTOM, CREATE, LIMITED, MOST_MEMBERS, SET, SITES, TOP, limited, record
+from stored import BOTTOM, CREATE, MOST_MEMBERS, SET, SITES, TOP, limited, record
 
 rules = module("independent")
 # how many versions of a box are looked at when one is picked
@@ -18,8 +18,8 @@ class Edits:
         self.seen = [[0] * SITES for _ in range(sites)]
         self.boxes = [[] for _ in range(sites)]
         self.made = []
-        # the Sets, and of each the context by its name
-        self.sets, self.contexts = [], {}
+        # the Sets of each box, by the name of its Create
+        self.sets = {}
 
     def next(self, site):
         """The vector of the next edit of a site."""
@@ -34,9 +34,9 @@ class Edits:
             self.boxes[site].append((site, vector[site]))
         if record[0] in rules.SETTING:
             e = rules.decode(record)
-            context = self.shown(site, e.target).context(e) if e.kind == LIMITED else None
-            self.contexts[rules.name(e)] = context or frozenset()
-            self.sets.append(e)
+            box = self.sets.get(e.target, rules.Box())
+            # where a list names no version the edit is refused, and its context does not matter
+            self.sets[e.target] = box.joined(e, box.context(e) or frozenset())
 
     def make(self, site, kind, target=(0, 0), key=0, value=0):
         self.put(site, record(kind, site, self.next(site), target, key, value))
@@ -54,7 +54,8 @@ class Edits:
 
     def shown(self, site, box):
         """A box as a site has it before it."""
-        return rules.Box([e for e in self.sets if e.target == box and self.seen[site][e.site] >= e.seq], self.contexts)
+        whole = self.sets.get(box, rules.Box())
+        return whole.among([e for e in whole.sets if self.seen[site][e.site] >= e.seq])
 
     def versions(self, site, box):
         """The members that name the versions of a box that a site has before it; of very many only some."""
