@@ -3,7 +3,7 @@ it, and orders of one set of edits. What an engineer sees is what tools/independ
 from itertools import islice
 
 from comparing import module
-from stored import BOTTOM, CREATE, MOST_MEMBERS, SET, SITES, TOP, limited, record
+from stored import BOTTOM, CREATE, LIMITED, MOST_MEMBERS, SET, SITES, TOP, limited, record
 
 rules = module("independent")
 # how many versions of a box are looked at when one is picked
@@ -34,9 +34,7 @@ class Edits:
             self.boxes[site].append((site, vector[site]))
         if record[0] in rules.SETTING:
             e = rules.decode(record)
-            box = self.sets.get(e.target, rules.Box())
-            # where a list names no version the edit is refused, and its context does not matter
-            self.sets[e.target] = box.joined(e, box.context(e) or frozenset())
+            self.sets[e.target] = self.sets.get(e.target, rules.Box()).joined(e, self.context(site, e))
 
     def make(self, site, kind, target=(0, 0), key=0, value=0):
         self.put(site, record(kind, site, self.next(site), target, key, value))
@@ -56,6 +54,15 @@ class Edits:
         """A box as a site has it before it."""
         whole = self.sets.get(box, rules.Box())
         return whole.among([e for e in whole.sets if self.seen[site][e.site] >= e.seq])
+
+    def context(self, site, e):
+        """The names of the version that an edit of a site is limited to. Where it lists none it is refused, and what is
+        given does not matter: not all versions are looked at, which may be very many."""
+        shown = self.shown(site, e.target)
+        for group in islice(shown.versions(), LOOKED_AT if e.kind == LIMITED else 0):
+            if shown.identifier(group) == e.members:
+                return frozenset(rules.name(shown.sets[i]) for i in group)
+        return frozenset()
 
     def versions(self, site, box):
         """The members that name the versions of a box that a site has before it; of very many only some."""
