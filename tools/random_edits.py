@@ -56,8 +56,8 @@ class Edits:
         return whole.among([e for e in whole.sets if self.seen[site][e.site] >= e.seq])
 
     def context(self, site, e):
-        """The names of the version that an edit of a site is limited to. Where it lists none it is refused, and what is
-        given does not matter: not all versions are looked at, which may be very many."""
+        """The names of the version that an edit of a site is limited to. Where it lists none it is refused, and what
+        is given does not matter: not all versions are looked at, which may be very many."""
         shown = self.shown(site, e.target)
         for group in islice(shown.versions(), LOOKED_AT if e.kind == LIMITED else 0):
             if shown.identifier(group) == e.members:
