@@ -147,8 +147,8 @@ static const struct {
 };
 
 static void (*const makers[FILES])(struct file *) = {
-    make_many, make_settled, make_disputed,   make_many_wide,  make_wide,
-    make_layers, make_split, make_split_boxes, make_recoloured,
+    make_many,   make_settled, make_disputed,    make_many_wide,  make_wide,
+    make_layers, make_split,   make_split_boxes, make_recoloured,
 };
 
 /* Boxes whose groups are worked out with no arrival order, and the answer. */

@@ -93,7 +93,8 @@ static void measure_views(void) {
     }
 }
 
-static void refuse(unsigned number, const char *what) {
+/* Ends the program unless the input is refused with this number. */
+static void must_refuse(unsigned number, const char *what) {
     if (spireslate_arrive(&work.counters, TABLES(&work), input, input_length) == number) return;
     printf("bench/stack: %s is not refused with %u\n", what, number);
     exit(1);
@@ -108,13 +109,13 @@ static void take_but_last(const struct file *f) {
     }
 }
 
-/* A limited Set as the input, with another member in the place of its last one: it arrives where it would be taken. */
+/* The input, a limited Set that would be taken, with a member in the place of its last one that is not held. */
 static void measure_unnamed(void) {
     static uint8_t record[SPIRESLATE_PLACE];
     memcpy(record, input, input_length);
     record[input_length - 1] = 255;
     input = record;
-    refuse(SPIRESLATE_NO_VERSION, "a member that is not held");
+    must_refuse(SPIRESLATE_NO_VERSION, "a member that is not held");
     measure(ARRIVE);
 }
 
@@ -148,8 +149,8 @@ static void measure_file(const struct file *f) {
         case 1: work.records[(work.counters.records - 1u) * SPIRESLATE_PLACE] = 9; break;
         case 2: work.objects[3 * last + 1]++; break;
         case 3: work.groups[(size_t)ROW * last] = 0; break;
-        case 6: work.records[work.counters.records * SPIRESLATE_PLACE - 1] = 1; break;
         case 4: work.groups[SPIRESLATE_GROUPS_LENGTH - 1] = 1; break;
+        case 5: work.records[work.counters.records * SPIRESLATE_PLACE - 1] = 1; break;
         default: work.groups[(size_t)ROW * last + work.objects[3 * last + 2] - 1] ^= 1;
         }
         measure(ARRIVE);
@@ -168,7 +169,7 @@ static void measure_crowded(void) {
     input = f.bytes, input_length = f.length;
     measure(READ);
     take_but_last(&f);
-    refuse(SPIRESLATE_CROWDED, "the sixth pair");
+    must_refuse(SPIRESLATE_CROWDED, "the sixth pair");
     measure(ARRIVE);
 }
 

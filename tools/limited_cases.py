@@ -31,6 +31,9 @@ TAKEN = {
     "a part of a version that was split": (
         [ONE, OTHER, RED, only(3, (1, 1, 1, 1), 3, 8, (1, 1)), only(2, (2, 1, 2, 1), 5, 9, (0, 2), (1, 1))],
         ["0.1 0.2+1.1 2=40 3=7 5=9", "0.1 1.1+3.1 2=40 3=8", "0.1 2.1 2=44"]),
+    "a version that a limited Set disputes": (
+        [ONE, OTHER, RED, put(3, (1, 0, 0, 1), 3, 8), only(2, (2, 1, 2, 1), 5, 9, (0, 2), (1, 1))],
+        ["0.1 0.2+1.1 2=40 3=7 5=9", "0.1 1.1+3.1 2=40 3=8", "0.1 2.1+3.1 2=44 3=8"]),
     "one key of either version": ([ONE, OTHER, RED, only(3, (1, 1, 1, 1), 3, 8, (2, 1))],
                                   ["0.1 0.2+1.1 2=40 3=7", "0.1 2.1+3.1 2=44 3=8"]),
     "a context that holds a limited Set": (
@@ -71,6 +74,10 @@ REFUSED = {
         [ONE, OTHER, edit(TOP, 1, (1, 2, 0), BOX), only(0, (2, 2, 1), 3, 7, (1, 1), (1, 2))], 16),
     "a part of an identifier": (
         [ONE, OTHER, put(1, (1, 2, 0), 3, 1), put(2, (1, 0, 2), 3, 2), only(0, (2, 2, 2), 4, 7, (1, 1))], 16),
+    "members in conflict by a context alone": (
+        [ONE, OTHER, RED, put(3, (1, 0, 0, 1), 3, 8), only(2, (2, 1, 2, 1), 5, 9, (0, 2), (2, 1))], 16),
+    "a member without those of its context": (
+        [ONE, OTHER, RED, put(3, (1, 0, 0, 1), 3, 8), only(2, (2, 1, 2, 1), 5, 9, (0, 2))], 16),
     "an identifier that counts what was not seen": (
         [ONE, OTHER, put(1, (1, 2, 0), 3, 1), UNSEEN, only(0, (2, 2, 1), 4, 5, (1, 1), (1, 2))], 16),
     "a version that was split, and seen so": (

@@ -101,13 +101,17 @@ def malformed(rng, n, record):
     return altered(record, rng.choice(choices))
 
 
-def another_list(rng, n, record):
-    """The record as a Set limited to what is likely no version: a name less, more or other than it lists, or any."""
+def another_list(rng, n, record, held=()):
+    """The record as a Set limited to what is likely no version: a name less, more or other than it lists, some of its
+    box among these records, or any."""
     e = rules.Edit(record)
-    names = [(site, seq) for site, _, seq in e.members]
-    some = [(rng.randrange(n), rng.randrange(1, 9)) for _ in range(rng.randrange(1, 4))]
-    members = rng.choice((names[1:], names[:-1], names + some[:1], names[1:] + some[:1], some, []))
     target = e.target if e.kind != rules.CREATE else e.name
+    names = [(site, seq) for site, _, seq in e.members]
+    others = [a.name for a in map(rules.Edit, held) if a.sets() and a.target == target]
+    some = [(rng.randrange(n), rng.randrange(1, 9)) for _ in range(rng.randrange(1, 4))]
+    members = rng.choice((names[1:], names[:-1], names + some[:1], names[1:] + some[:1], some, [],
+                          names[1:] + rng.sample(others, min(1, len(others))),
+                          rng.sample(others, min(rng.randrange(1, 6), len(others)))))
     return limited(e.site, e.vector, target, e.key % 16, e.value, sorted(set(members))[:rules.MEMBERS])
 
 
@@ -134,7 +138,8 @@ def astray(rng, record):
 
 def late(rng, t):
     """A Set by a site of which no edit is held, and which has seen a box and nothing since: it disputes what others
-    set there. None where these sound tables have no such site, or no Sets."""
+    set there. It is a plain one, or limited to the one version that it has seen. None where these sound tables have no
+    such site, or no Sets."""
     edits = sound_edits(t)
     silent = [s for s in range(t.sites) if t.held[s] == 0]
     sets = [e for e in edits if e.sets()]
@@ -143,7 +148,8 @@ def late(rng, t):
     site, other = rng.choice(silent), rng.choice(sets)
     create = next(e for e in edits if e.name == other.target)
     vector = [1 if s == site else seen for s, seen in enumerate(create.vector)]
-    return stored_record(rules.SET, site, vector, other.target, other.key, rng.randrange(BYTE))
+    what = site, vector, other.target, other.key, rng.randrange(BYTE)
+    return rng.choice((stored_record(rules.SET, *what), limited(*what, [])))
 
 
 def tries(rng, n, held, coming):
@@ -151,7 +157,7 @@ def tries(rng, n, held, coming):
     one = coming[0] if coming else held[-1] if held else bytes(RECORD)
     out = [one[:-1], one + b"\0", b"", old(one), rng.randbytes(RECORD), malformed(rng, n, one), lowered(rng, one),
            lowered(rng, one), astray(rng, one), rng.choice(coming or [one]), rng.choice(held or [one]),
-           another_list(rng, n, one), another_list(rng, n, one), one.ljust(PLACE, b"\0"), bytes(PLACE)]
+           another_list(rng, n, one, held), another_list(rng, n, one, held), one.ljust(PLACE, b"\0"), bytes(PLACE)]
     if one[0] == LIMITED:
         out += [spoilt_list(rng, one), spoilt_list(rng, one), one[:RECORD], one[:MEMBERS]]
     return rng.sample(out, 3)

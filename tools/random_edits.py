@@ -18,8 +18,8 @@ class Edits:
         self.seen = [[0] * SITES for _ in range(sites)]
         self.boxes = [[] for _ in range(sites)]
         self.made = []
-        # the Sets, and of each the context by its name
-        self.sets, self.contexts = [], {}
+        # the Sets of each box, by the name of its Create
+        self.sets = {}
 
     def next(self, site):
         """The vector of the next edit of a site."""
@@ -34,9 +34,7 @@ class Edits:
             self.boxes[site].append((site, vector[site]))
         if record[0] in rules.SETTING:
             e = rules.decode(record)
-            context = self.shown(site, e.target).context(e) if e.kind == LIMITED else None
-            self.contexts[rules.name(e)] = context or frozenset()
-            self.sets.append(e)
+            self.sets[e.target] = self.sets.get(e.target, rules.Box()).joined(e, self.context(site, e))
 
     def make(self, site, kind, target=(0, 0), key=0, value=0):
         self.put(site, record(kind, site, self.next(site), target, key, value))
@@ -54,7 +52,17 @@ class Edits:
 
     def shown(self, site, box):
         """A box as a site has it before it."""
-        return rules.Box([e for e in self.sets if e.target == box and self.seen[site][e.site] >= e.seq], self.contexts)
+        whole = self.sets.get(box, rules.Box())
+        return whole.among([e for e in whole.sets if self.seen[site][e.site] >= e.seq])
+
+    def context(self, site, e):
+        """The names of the version that an edit of a site is limited to. Where it lists none it is refused, and what
+        is given does not matter: not all versions are looked at, which may be very many."""
+        shown = self.shown(site, e.target)
+        for group in islice(shown.versions(), LOOKED_AT if e.kind == LIMITED else 0):
+            if shown.identifier(group) == e.members:
+                return frozenset(rules.name(shown.sets[i]) for i in group)
+        return frozenset()
 
     def versions(self, site, box):
         """The members that name the versions of a box that a site has before it; of very many only some."""
@@ -63,16 +71,17 @@ class Edits:
 
 
 def mistaken(rng, edits, site, box, members):
-    """A list that is nearly one of a version: a name less or more, that of any edit or of none, or from elsewhere."""
-    members = set(members)
+    """A list that is nearly one of a version: a name less or more, that of any edit or of none, members of several
+    versions, or the version of any box."""
+    versions = edits.versions(site, box)
     names = [rules.name(rules.decode(e[2])) for e in edits.made] + [(site, edits.seen[site][site] + 1), (200, 9)]
-    if members and rng.random() < 0.4:
-        members.remove(rng.choice(sorted(members)))
-    elif rng.random() < 0.6:
-        members.add(rng.choice(names + [rules.name(e) for e in edits.sets if e.target == box]))
-    else:
-        members = set(rng.choice(edits.versions(site, rng.choice(edits.boxes[site]))))
-    return sorted(members)
+    disputed = sorted({one for version in versions for one in version})
+    return sorted(rng.choice((
+        set(members) - {rng.choice(members)} if members else {rng.choice(names)},
+        set(members) | {rng.choice(names + disputed)},
+        set(rng.sample(disputed, min(len(disputed), len(members)))),
+        set(rng.sample(disputed, rng.randint(0, len(disputed)))),
+        set(rng.choice(edits.versions(site, rng.choice(edits.boxes[site])))))))
 
 
 def limit_one(rng, edits, site, box, key, value, wrong):
