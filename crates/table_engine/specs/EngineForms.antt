@@ -9,10 +9,7 @@ use Rattle.edit_causal.specs.Conflict.{conflictsIn}
 use Rattle.edit_history.specs.EditsHeld.{recordAt}
 use Rattle.group_true.specs.TrueGroups.{groupsOf}
 
--- the Sets in the first k of the places ps, and their groups
-abbrev pub setsIn : List ℕ → List ℕ → ℕ → List Edit
-setsIn rs ps k = map (recordAt rs) (take k ps)
-
+-- the groups of the Sets in the first k of the places ps
 unfoldable pub groupsIn : List ℕ → List ℕ → ℕ → List ℕ
 groupsIn rs ps k = groupsOf (setsIn rs ps k)
 

@@ -4,7 +4,8 @@ use Prim.Native.Nat.{ℕ, _-_, _≤_}
 use native.Mathlib.Omega.{arith}
 use lib.ListN.{length, length-set}
 use denote.Ref.{now}
-use Rattle.table_engine.specs.EngineForms.{setsIn, MaskedTo}
+use Rattle.group_limited.specs.LimitedForms.{setsIn}
+use Rattle.table_engine.specs.EngineForms.{MaskedTo}
 use Rattle.table_engine.proofs.MasksOfSets.{masked-more}
 use borrow.Author.Needs.{needs}
 use Rattle.table_engine.proofs.put_masks.Statement.{statement}
