@@ -1,5 +1,5 @@
--- From the rows of Sets to the next one, that arrives after them, and the contexts with one more. xs are the Sets held,
--- in the order of their arrival, and x is the one that arrives. Assumes nothing.
+-- From the rows of Sets to the next one, that arrives after them, and the contexts with one more. xs are the Sets
+-- held, in the order of their arrival, and x is the one that arrives. Assumes nothing.
 use mathlib.Core.Path.{_≡_, sym, _∙_, ap}
 use mathlib.Core.Bool.{Bool}
 use mathlib.Core.List.{List, [], _∷_, _++_}
@@ -25,7 +25,8 @@ one-context-more b cs i c l e h = rw (take-suc-set cs i c l, e, h)
 -- ---- one that arrives
 
 -- a box that has more Sets, and is the same below n
-pub rows-keep : {b b' : Box} {n : ℕ} {plains : List ℕ} → SameBelow b b' n → PlainRows b n plains → PlainRows b' n plains
+rows-keep :
+    {b b' : Box} {n : ℕ} {plains : List ℕ} → SameBelow b b' n → PlainRows b n plains → PlainRows b' n plains
 rows-keep s rows = record {
   symmetric = λ i j p q. s .plains i j p q ∙ rows .symmetric i j p q ∙ sym (s .plains j i q p);
   conflicts = λ i j p q. rows .conflicts i j p q ∙ sym (s .plains i j p q);

@@ -24,7 +24,8 @@ use Rattle.edit_history.specs.EditsHeld.{recordAt}
 use Rattle.edit_history.specs.Answer16.{isStrange}
 use Rattle.edit_history.proofs.EditsInPlaces.{sets-length, set-place}
 use Rattle.group_limited.specs.declared.Marks.{Marks}
-use Rattle.group_limited.specs.LimitedForms.{setsIn, seenMarks, namedMarks, marksOn, marksWith, Narrow, isMarkedName}
+use Rattle.group_limited.specs.LimitedForms.{setsIn, seenMarks, namedMarks, marksOn, marksWith, Narrow}
+use Rattle.group_limited.specs.LimitedForms.{isMarkedName}
 use Rattle.group_limited.proofs.OneMoreTaken.{sets-more}
 
 -- ---- what passes a test
@@ -69,7 +70,8 @@ module _ (e : Edit) where
   module _ (rs ps : List ℕ) (i : ℕ) (l : i < length ps) (m : Marks) (inv : m ≡ marksOn e (setsIn rs ps i)) where
     pub narrow-in : Narrow m i
     narrow-in =
-        rw inv (subst (Narrow (marksOn e (setsIn rs ps i))) (sets-length rs ps i (omega arith)) (marks-narrow (setsIn rs ps i)))
+        let ms = setsIn rs ps i in
+        rw inv (subst (Narrow (marksOn e ms)) (sets-length rs ps i (omega arith)) (marks-narrow ms))
 
     pub marks-in-more :
         (a : Edit) (r : Marks) → a ≡ recordAt rs (getD ps i 0) → r ≡ marksWith m i a e →

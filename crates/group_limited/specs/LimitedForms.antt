@@ -73,8 +73,8 @@ pub record RowsTell (ms : List Edit) (plains cs : List ℕ) : Type 0 where
   pub plainly : PlainRows (boxOn ms) (length ms) plains
   pub held : take (length ms) cs ≡ contexts (boxOn ms) (length ms)
 
--- what is told of a Set e that comes after the Sets ms, by rows that tell of these; whether it names a version, and its
--- conflicts, where having seen goes through and those before it name theirs
+-- what is told of a Set e that comes after the Sets ms, by rows that tell of these; whether it names a version, and
+-- its conflicts, where having seen goes through and those before it name theirs
 pub record ToldOf (ms : List Edit) (e : Edit) (t : Told) : Type 0 where
   pub row : t .row ≡ plainMarks e ms
   pub context : t .context ≡ context (boxOn (ms ++ (e ∷ []))) (length ms)

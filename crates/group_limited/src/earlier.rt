@@ -1,5 +1,5 @@
-// One Set against those before it, by the places of their records: the marks of each of them, and whether the Set lists
-// a name that is that of none which its author had seen.
+// One Set against those before it, by the places of their records: the marks of each of them, and whether the Set
+// lists a name that is that of none which its author had seen.
 use super::Marks;
 use edit_causal::is_before;
 use edit_causal::is_conflict;

@@ -1,7 +1,7 @@
 // The Sets of an object by the places of their records, where one of them is limited to a version (document 02, Req
 // 06): whether each limited one names a version, and which of the Sets held an arriving one conflicts with. The Sets
-// are taken one after another, each by the rows that tell of those before it: bit j of `plain[i]` says that Sets i and j
-// conflict by document 01's rule, and `ctx[i]` is the context of Set i.
+// are taken one after another, each by the rows that tell of those before it: bit j of `plain[i]` says that Sets i and
+// j conflict by document 01's rule, and `ctx[i]` is the context of Set i.
 mod earlier;
 
 use earlier::is_any_strange;
@@ -23,8 +23,8 @@ ghost use Rattle.edit_causal.specs.ConflictForms.{plainMarks};
 ghost use Rattle.group_step.specs.GroupRows.{mostSets};
 ghost use Rattle.group_limited.specs.LimitedForms.{setsIn, withMark, RowsTell, ToldOf, JudgedOf, namedInTurn};
 
-// What is asked of each of the Sets before a Set: bit i of `plain` says that the i-th conflicts with it by document 01's
-// rule, of `seen` that its author had seen the i-th, and of `named` that it lists the i-th.
+// What is asked of each of the Sets before a Set: bit i of `plain` says that the i-th conflicts with it by document
+// 01's rule, of `seen` that its author had seen the i-th, and of `named` that it lists the i-th.
 pub struct Marks {
     pub plain: u64,
     pub seen: u64,
@@ -71,9 +71,10 @@ pub fn told_of(recs: &[u8], places: &[u16], n: usize, plain: &[u64], ctx: &[u64]
         ToldOf (setsIn (now (recs .entry)) (now (places .entry)) n) e r) ⌝ }
 {
     let m = marks_of(recs, places, n, e);
-    let limited = e.kind == LIMITED;
+    let count = e.count;
     let members = e.members;
-    let strange = is_any_strange(recs, places, n, m.seen, e.count, members);
+    let limited = e.kind == LIMITED;
+    let strange = is_any_strange(recs, places, n, m.seen, count, members);
     let context = group_context::context_of(plain, ctx, n, m.seen, m.named, limited);
     let names = group_context::names_version(plain, ctx, n, m.seen, m.named, limited);
     let conflicts = group_context::conflicts_of(plain, ctx, n, m.plain, m.seen, m.named, limited);

@@ -1,6 +1,7 @@
--- The Sets of an object, among edits that pass 1 to 5 in their order, are a lawful box: having seen goes through. Where
--- they pass 16 as well, they are a box as the laws of contexts ask for it: each that is limited names a version. By one
--- edit more, so that it holds of the edits of a table and of an arriving one after them. Assumes at most 16 sites.
+-- The Sets of an object, among edits that pass 1 to 5 in their order, are a lawful box: having seen goes through.
+-- Where they pass 16 as well, they are a box as the laws of contexts ask for it: each that is limited names a version.
+-- By one edit more, so that it holds of the edits of a table and of an arriving one after them. Assumes at most 16
+-- sites.
 use mathlib.Core.Path.{_≡_, refl, sym, ap, ap₂, subst, _∙_}
 use mathlib.Core.Logic.{_⊎_, inl, inr}
 use mathlib.Core.Bool.{Bool, true, false, not, cond, and-false}
@@ -175,7 +176,8 @@ module _ (sites : ℕ) (few : sites ≤ mostSites) (es : List Edit) (e : Edit) (
       lawful-snoc (filter f es) e (o .lawful s q) (λ j k l m h g.
       let (x, lx, ex, _) = filter-place f noEdit es j l in
       let (y, ly, ey, _) = filter-place f noEdit es k (omega arith) in
-      rw (← ey) (through sites few es e p x lx (getD es y noEdit) (o .held y ly) (rw (← ex) at h) (rw (← ex, ← ey) at g)))
+      rw (← ey)
+      (through sites few es e p x lx (getD es y noEdit) (o .held y ly) (rw (← ex) at h) (rw (← ex, ← ey) at g)))
 
   held-after : (i : ℕ) → i < length (es ++ (e ∷ [])) → Held (es ++ (e ∷ [])) (getD (es ++ (e ∷ [])) i noEdit)
   held-after i l =
@@ -222,7 +224,8 @@ orderly-none = record {
 module _ (sites : ℕ) (few : sites ≤ mostSites) (es : List Edit) (e : Edit) (o : Orderly es)
     (pass : passes sites es e ≡ true) where
   -- the Sets of any object with the edit, if it is one of them, are lawful
-  pub lawful-after : (s : Site) (q : Seq) → Lawful (boxOn (setsOn s q es ++ (e ∷ []))) (length (setsOn s q es ++ (e ∷ [])))
+  pub lawful-after :
+      (s : Site) (q : Seq) → Lawful (boxOn (setsOn s q es ++ (e ∷ []))) (length (setsOn s q es ++ (e ∷ [])))
   lawful-after = lawful-with sites few es e (in-order o) pass
 
   pub orderly-more : isNameless es e ≡ false → Orderly (es ++ (e ∷ []))

@@ -63,7 +63,8 @@ returns c law =
     let ps = a .places .now in
     let more : l .i < a .k = y .loop-test .taken in
     let fits : a .k ≤ length ps = start .pre .1 in
-    let its = named-where-told rs ps (a .k) fits (l .i) more (d .result) (d .ensures) (t .result) (t .ensures (l .inv .3)) law (l .inv .4 law) in
+    let its = named-where-told rs ps (a .k) fits (l .i) more (d .result) (d .ensures) (t .result)
+    (t .ensures (l .inv .3)) law (l .inv .4 law) in
     sym (in-turn-off rs ps (a .k) fits (l .i) more (rw (← d .ensures) (sym its ∙ c .if1 .taken)))
 
 put-told-requires : tie.Need-put-told-requires Inv-loop μ-loop
@@ -80,8 +81,9 @@ loop-again c =
     let p = c .before .before .before .before .put-told in
     let f = c .before .before .before .before .before .before .before .if1 in
     let t = c .before .before .before .before .before .before .before .before .told-of in
-    let d = c .before .before .before .before .before .before .before .before .before .before .before .decode-at in
-    let y = c .before .before .before .before .before .before .before .before .before .before .before .before .before in
+    let x = c .before .before .before .before .before .before .before .before .before .before .before in
+    let d = x .decode-at in
+    let y = x .before .before in
     let l = y .before .loop in
     let start = y .before .before .before .before .before .before in
     let a = start .args in
@@ -95,8 +97,10 @@ loop-again c =
       rows-more rs ps (l .i) (omega (arith, more, fits)) (d .result) (t .result) (d .ensures) (l .plain) (l .ctx)
           (p .last .0) (p .last .1 .0) (l .inv .3) (t .ensures (l .inv .3)) (p .ensures),
       λ law. passed-one-more rs ps (l .i) (d .result) (d .ensures)
-          (sym (named-where-told rs ps (a .k) fits (l .i) more (d .result) (d .ensures) (t .result) (t .ensures (l .inv .3)) law (l .inv .4 law)) ∙ f .left)
-          (l .inv .4 law),
+          (sym
+          (named-where-told rs ps (a .k) fits (l .i) more (d .result) (d .ensures) (t .result)
+          (t .ensures (l .inv .3)) law (l .inv .4 law))
+          ∙ f .left) (l .inv .4 law),
     )
 
 same-length-3 : tie.Need-same-length-3 Inv-loop μ-loop

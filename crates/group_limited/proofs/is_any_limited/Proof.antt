@@ -45,7 +45,12 @@ loop-again c =
     let l = c .before .before .before .loop in
     let a = c .before .before .before .before .before .before .args in (
       omega arith,
-      rw (add-one, any-more (recordAt (a .recs .now)) 0 (a .places .now) (l .i) (omega arith) isLimited, l .inv .1, c .kind-at .ensures),
+      rw (
+        add-one,
+        any-more (recordAt (a .recs .now)) 0 (a .places .now) (l .i) (omega arith) isLimited,
+        l .inv .1,
+        c .kind-at .ensures,
+      ),
     )
 
 returns : tie.Need-returns Inv-loop μ-loop

@@ -24,7 +24,10 @@ told-of-requires c κs = search needs
 returns : tie.Need-returns
 returns c =
     let told = c .told-of .ensures (c .before .before .before .before .before .put-rows .ensures) in
-    record { nameless = λ p law. told .nameless law (p .named); conflicts = λ p law h. told .conflicts law (p .named) h }
+    record {
+      nameless = λ p law. told .nameless law (p .named);
+      conflicts = λ p law h. told .conflicts law (p .named) h;
+    }
 
 pub judge-spec : {M : Type 1} → statement M
 judge-spec =

@@ -62,8 +62,9 @@ loop-again c =
       omega (arith, more),
       p .kept .0 ∙ l .inv .1,
       p .kept .1 .0 ∙ l .inv .2,
-      rows-more (a .recs .now) (a .places .now) (l .i) (omega (arith, more, fits)) (d .result) (t .result) (d .ensures) (l .plain) (l .ctx)
-          (p .last .0) (p .last .1 .0) (l .inv .3) (t .ensures (l .inv .3)) (p .ensures),
+      rows-more (a .recs .now) (a .places .now) (l .i) (omega (arith, more, fits)) (d .result) (t .result)
+          (d .ensures) (l .plain) (l .ctx) (p .last .0) (p .last .1 .0)
+          (l .inv .3) (t .ensures (l .inv .3)) (p .ensures),
     )
 
 same-length : tie.Need-same-length Inv-loop μ-loop

@@ -30,8 +30,8 @@ returns : tie.Need-returns
 returns c ms e long tell its-row its-context =
     let a = c .before .before .before .before .before .before .args in
     let m = c .before .before .mark-in-rows in
-    tell-one-more ms e (a .n) long (a .plain .now) (a .ctx .now) (m .last .0) (a .row) (a .own) tell its-row (m .ensures)
-    (omega (arith, m .kept .0)) (omega arith) its-context
+    tell-one-more ms e (a .n) long (a .plain .now) (a .ctx .now) (m .last .0) (a .row) (a .own) tell its-row
+    (m .ensures) (omega (arith, m .kept .0)) (omega arith) its-context
 
 pub put-told-spec : {M : Type 1} → statement M
 put-told-spec =

@@ -1,5 +1,5 @@
--- `group_limited::earlier::is_any_strange` meets its contract: whether one of the names passed is that of no Set that is
--- marked. Assumes nothing.
+-- `group_limited::earlier::is_any_strange` meets its contract: whether one of the names passed is that of no Set that
+-- is marked. Assumes nothing.
 use mathlib.Core.Path.{_≡_, ap, _∙_}
 use mathlib.Core.Bool.{Bool, not}
 use mathlib.Core.List.{List, map}
@@ -16,7 +16,9 @@ use Rattle.group_limited.proofs.earlier.is_any_strange.Statement.{state
 use Rattle.group_limited.proofs.earlier.is_any_strange.Tie as tie
 
 abbrev Inv-loop : tie.InvT-loop
-Inv-loop recs places k seen count members n found₀ i₀ found i = (i ≤ n) × (found ≡ any (λ x. not (isMarkedName recs places k seen x)) (map nameIn (take i members)))
+Inv-loop recs places k seen count members n found₀ i₀ found i =
+    (i ≤ n)
+    × (found ≡ any (λ x. not (isMarkedName recs places k seen x)) (map nameIn (take i members)))
 
 abbrev μ-loop : tie.MeasureT-loop
 μ-loop recs places k seen count members n found₀ i₀ found i = n - i

@@ -17,7 +17,11 @@ is-name-in-requires c κs = search needs
 returns-2 : tie.Need-returns-2
 returns-2 c =
     let b = c .before .before .before in
-    rw (c .is-name-in .ensures, c .before .name-of .ensures, eq-eqb (b .before .before .args .e .kind) limitedKind (b .if1 .left))
+    rw (
+      c .is-name-in .ensures,
+      c .before .name-of .ensures,
+      eq-eqb (b .before .before .args .e .kind) limitedKind (b .if1 .left),
+    )
 
 pub is-listed-spec : {M : Type 1} → statement M
 is-listed-spec = tie.close (tie.spec returns name-of-requires is-name-in-requires returns-2)

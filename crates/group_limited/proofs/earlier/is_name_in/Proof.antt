@@ -48,7 +48,12 @@ loop-again c =
     let a = c .before .before .before .before .args in
     let n = c .before .before .before .listed in (
       omega (arith, n .ensures .0),
-      rw (add-one, any-more nameIn 0 (a .t2) (l .i) (omega (arith, n .ensures .0)) (eqb (a .x)), l .inv .1, c .name-in .ensures),
+      rw (
+        add-one,
+        any-more nameIn 0 (a .t2) (l .i) (omega (arith, n .ensures .0)) (eqb (a .x)),
+        l .inv .1,
+        c .name-in .ensures,
+      ),
     )
 
 returns : tie.Need-returns Inv-loop μ-loop

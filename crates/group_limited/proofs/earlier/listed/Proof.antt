@@ -9,7 +9,10 @@ use Rattle.group_limited.proofs.earlier.listed.Statement.{statement}
 use Rattle.group_limited.proofs.earlier.listed.Tie as tie
 
 returns : tie.Need-returns
-returns c = (search needs, λ xs h. take-all mostMembers xs (omega arith) ∙ sym (take-all (c .before .args .count) xs (omega arith)))
+returns c = (
+  search needs,
+  λ xs h. take-all mostMembers xs (omega arith) ∙ sym (take-all (c .before .args .count) xs (omega arith)),
+)
 
 returns-2 : tie.Need-returns-2
 returns-2 c = (search needs, λ xs h. refl)

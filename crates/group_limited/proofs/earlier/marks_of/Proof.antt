@@ -46,8 +46,8 @@ loop-again c =
     let l = c .before .before .before .before .loop in
     let a = c .before .before .before .before .before .before .before .args in (
       omega arith,
-      marks-in-more (a .e) (a .recs .now) (a .places .now) (l .i) (omega arith) (l .m) (l .inv .1) _ _ (c .before .decode-at .ensures)
-          (c .marks-with .ensures),
+      marks-in-more (a .e) (a .recs .now) (a .places .now) (l .i) (omega arith) (l .m) (l .inv .1) _ _
+          (c .before .decode-at .ensures) (c .marks-with .ensures),
     )
 
 returns : tie.Need-returns Inv-loop μ-loop

@@ -19,7 +19,8 @@ is-listed-requires : tie.Need-is-listed-requires
 is-listed-requires c κs = search needs
 
 marked-if-requires-3 : tie.Need-marked-if-requires-3
-marked-if-requires-3 c κs = let start = c .before .before .before .before .before in (start .pre .1 .named, λ h. start .pre .0)
+marked-if-requires-3 c κs =
+    let start = c .before .before .before .before .before in (start .pre .1 .named, λ h. start .pre .0)
 
 returns : tie.Need-returns
 returns c =
