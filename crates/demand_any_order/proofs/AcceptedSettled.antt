@@ -1,7 +1,7 @@
 -- A list of edits that is accepted throughout is settled, and its order is causal. Assumes at most sixteen sites.
-use mathlib.Core.Path.{_≡_, refl, sym, subst, _∙_}
+use mathlib.Core.Path.{_≡_, refl, sym, ap, subst, _∙_}
 use mathlib.Core.Logic.{inl, inr}
-use mathlib.Core.Bool.{true, false, not, and-false}
+use mathlib.Core.Bool.{Bool, true, false, not, _&&_, and-false}
 use mathlib.Core.List.{
   List,
   [],
@@ -30,7 +30,8 @@ use Rattle.edit_record.specs.Answer1.{isCreate, isSet, isLimited, unfit, nameOf
 use Rattle.edit_record.proofs.WellFormed.{WellFormed, well-formed}
 use Rattle.edit_causal.specs.Causal.{sameEdit, comesBefore, hasSeen}
 use Rattle.math_contexts.specs.NamedVersions.{namesNone}
-use Rattle.edit_causal.specs.Conflict.{saw, listedBy, boxOn}
+use Rattle.edit_causal.specs.Conflict.{listedBy, boxOn}
+use Rattle.edit_causal.specs.ConflictForms.{saw}
 use Rattle.edit_history.specs.EditsHeld.{countFrom, creates, isSetOn, setsOn, mostRecords}
 use Rattle.edit_history.specs.Answer16.{isStrange, namelessAmong}
 use Rattle.edit_history.specs.Answers2to5.{largerSomewhere, tears}
@@ -131,13 +132,15 @@ module _ (n : ℕ) (few : n ≤ mostSites) (es : List Edit) (t : AllAccepted n e
   orderly : Orderly es
   orderly =
       over Orderly orderly-none
-      (λ us x f o. orderly-more n few us x o (fine-passes n us x f) (f .named))
+      (λ us x f o. orderly-more n few us x o (fine-passes n us x f) (f .names))
 
   numbered : Numbered es
   numbered e m =
       let (us, vs, q) = split-mem m in
       let f = fine-at n us e (t us vs e q) in
-      omega (arith, f .inTurn .next, f .room, unfold countFrom in filter-few (λ a. eqb (a .site .0) (e .site .0)) us)
+      let few : countFrom (e .site .0) us ≤ length us
+      = unfold countFrom in filter-few (λ a. eqb (a .site .0) (e .site .0)) us in
+      omega (arith, f .inTurn .next, f .room)
 
   known : Known es
   unfolding setsOn namelessAmong
@@ -147,8 +150,8 @@ module _ (n : ℕ) (few : n ≤ mostSites) (es : List Edit) (t : AllAccepted n e
       let on = isSetOn (e .tsite) (e .tseq) in
       let ms = filter on us in
       let (strange, _) = neither (any (isStrange ms e) (listedBy e)) (namesNone (boxOn (ms ++ (e ∷ []))) (length ms))
-      (rw limited at (f .named)) in
-      let hit = λ (a : Edit). saw e a && eqb (nameOf a) x in
+      (rw limited at (f .names)) in
+      let hit : Edit → Bool = λ a. saw e a && eqb (nameOf a) x in
       let met : any hit ms ≡ true = elim (decide (any hit ms)) [
         | inl h ↦ h
         | inr h ↦ clash (numbers.any-on (isStrange ms e) (listedBy e) x listed (ap not h)) strange

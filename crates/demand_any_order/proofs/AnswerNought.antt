@@ -31,7 +31,7 @@ pub record Fine (n : ℕ) (es : List Edit) (e : Edit) : Type 0 where
   pub inTurn : InTurn n es e
   pub whole : (a : Edit) → Mem a es → tears e a ≡ false
   pub aimed : isAimed e ≡ true → (c : Edit) × Mem c es × (isTarget e c ≡ true)
-  pub named : isNameless es e ≡ false
+  pub names : isNameless es e ≡ false
   pub room : length es < mostRecords
   pub create-room : isCreate e ≡ true → length (creates es) < mostObjects
   pub set-room : isSet e ≡ true → length (setsOn (e .tsite) (e .tseq) es) < mostSets
@@ -67,7 +67,7 @@ module _ (n : ℕ) (es : List Edit) (e : Edit) where
         aimed =
             λ k. any-at (isTarget e) es
             (not-false (any (isTarget e) es) (then-off (isAimed e) (not (any (isTarget e) es)) k (no 4)));
-        named = no 5;
+        names = no 5;
         room = leb-false mostRecords (length es) r;
         create-room = λ k. leb-false mostObjects (length (creates es)) (then-off (isCreate e) _ k c);
         set-room = λ k. leb-false mostSets (length (setsOn (e .tsite) (e .tseq) es)) (then-off (isSet e) _ k s);
@@ -116,7 +116,7 @@ module _ (n : ℕ) (es : List Edit) (e : Edit) where
 
     pub fine-on : listAnswer n es e ≡ 0
     unfolding listAnswer firstOf
-    fine-on = rw (f .fit, not-repeated, not-early, not-torn, not-astray, f .named, not-full, not-crowded)
+    fine-on = rw (f .fit, not-repeated, not-early, not-torn, not-astray, f .names, not-full, not-crowded)
 
     pub fine-passes : passes n es e ≡ true
     unfolding passes

@@ -14,8 +14,8 @@ use Rattle.math_contexts.proofs.ArrivalsAnyOrder.{same-sets}
 use Rattle.edit_record.specs.declared.Edit.{Edit}
 use Rattle.edit_record.specs.Layout.{mostSites}
 use Rattle.edit_record.specs.Answer1.{isLimited}
-use Rattle.edit_causal.specs.Conflict.{doConflict, saw, lists, boxOn, conflictsIn}
-use Rattle.edit_causal.specs.ConflictForms.{Proper}
+use Rattle.edit_causal.specs.Conflict.{doConflict, lists, boxOn, conflictsIn}
+use Rattle.edit_causal.specs.ConflictForms.{Proper, saw}
 use Rattle.edit_causal.proofs.ConflictsAmongSets.{proper-renumbered, conflicts-renumbered}
 use Rattle.math_maximal.specs.MaximalSets.{_⊆_}
 use Rattle.math_maximal.proofs.Renumbered.{Keys}

@@ -21,7 +21,7 @@ use borrow.Author.Tests.{eq-eqb}
 use Rattle.math_lists.specs.SortedLists.{any, elem, filter}
 use Rattle.math_lists.proofs.Booleans.{clash, off, both, or-off, off-where}
 use Rattle.math_lists.proofs.Elements as numbers
-use Rattle.math_lists.proofs.GrownAtEnd.{filter-append, filter-snoc}
+use Rattle.math_lists.proofs.GrownAtEnd.{filter-append}
 use Rattle.math_contexts.specs.NamedVersions.{namesNone}
 use Rattle.math_contexts.specs.Versions.{AllNamed}
 use Rattle.math_contexts.proofs.ConflictsNamed.{names-none-later}
@@ -32,8 +32,8 @@ use Rattle.edit_record.specs.Layout.{mostSites}
 use Rattle.edit_record.specs.Answer1.{isCreate, isSet, isLimited, isAimed, nameOf}
 use Rattle.edit_record.proofs.WellFormed.{WellFormed, well-formed, set-aimed, limited-set, aimed-not-create}
 use Rattle.edit_causal.specs.Causal.{sameEdit, hasSeen}
-use Rattle.edit_causal.specs.Conflict.{saw, listedBy, boxOn}
-use Rattle.edit_causal.specs.ConflictForms.{NoneItself, Proper}
+use Rattle.edit_causal.specs.Conflict.{listedBy, boxOn}
+use Rattle.edit_causal.specs.ConflictForms.{NoneItself, Proper, saw}
 use Rattle.edit_causal.proofs.CausalLaws.{same-reflexive}
 use Rattle.edit_causal.proofs.ConflictsAmongSets.{none-itself, first-sets}
 use Rattle.edit_history.specs.EditsHeld.{countFrom, creates, isSetOn, setsOn}
@@ -42,7 +42,7 @@ use Rattle.edit_history.proofs.EditsHeld.{Target, target-parts}
 use Rattle.edit_history.proofs.RecordsPassed.{InTurn}
 use Rattle.group_step.specs.GroupRows.{mostSets, mostGroups}
 use Rattle.group_true.specs.TrueGroups.{trueGroups}
-use Rattle.group_true.proofs.TrueGroups.{groups-grow}
+use Rattle.group_true.proofs.TrueGroups.{sets-more, groups-grow}
 use Rattle.edit_causal.proofs.Identities.{same-site, same-seq}
 use Rattle.math_lists.specs.Rearranged.{Mem}
 use Rattle.demand_any_order.specs.Settled.{named, AllAccepted, MayPrecede, Causal, Differ, Apart, Settled}
@@ -52,6 +52,10 @@ use Rattle.demand_any_order.proofs.Identities.{same-on, same-at, seen-o
 use Rattle.demand_any_order.proofs.SettledBoxes.{ordered, box-lawful}
 use Rattle.demand_any_order.proofs.AnswerNought.{Fine, fine-on}
 use Rattle.demand_any_order.proofs.CountsInTurn.{Counted, counted-none, counted-more}
+
+sets-append : (x : Site) (q : Seq) (us vs : List Edit) → setsOn x q (us ++ vs) ≡ setsOn x q us ++ setsOn x q vs
+unfolding setsOn
+sets-append x q us vs = filter-append (isSetOn x q) us vs
 
 module _ (n : ℕ) (few : n ≤ mostSites) (es : List Edit) (s : Settled n es) (causal : Causal es) where
   formed : (e : Edit) → Mem e es → WellFormed n e
@@ -195,12 +199,9 @@ module _ (n : ℕ) (few : n ≤ mostSites) (es : List Edit) (s : Settled n es) (
               let ms = mates ++ (e ∷ []) in
               let more = setsOn (e .tsite) (e .tseq) ys in
               let all : setsOn (e .tsite) (e .tseq) es ≡ ms ++ more
-              = unfold setsOn in
-              ap (filter (isSetOn (e .tsite) (e .tseq))) split
-              ∙ filter-append (isSetOn (e .tsite) (e .tseq)) front ys
-              ∙ ap (λ (l : List Edit). l ++ filter (isSetOn (e .tsite) (e .tseq)) ys)
-              (filter-snoc (isSetOn (e .tsite) (e .tseq)) xs e
-              ∙ rw (limited-set e limited, same-reflexive (e .tsite) (e .tseq))) in
+              = ap (setsOn (e .tsite) (e .tseq)) split
+              ∙ sets-append (e .tsite) (e .tseq) front ys
+              ∙ ap (λ (l : List Edit). l ++ more) (sets-more xs e (limited-set e limited)) in
               let long : length mates < length ms = omega (arith, length-append mates (e ∷ [])) in
               sym (names-none-later (first-sets ms more) (length mates) long)
               ∙ subst (λ (l : List Edit). AllNamed (boxOn l) (length l)) all (s .versions (e .tsite) (e .tseq))
@@ -220,7 +221,7 @@ module _ (n : ℕ) (few : n ≤ mostSites) (es : List Edit) (s : Settled n es) (
         inTurn = in-turn-here;
         whole = λ a m. s .whole a e (left a m) self;
         aimed = λ k. (target k, target-prior k, s .aimed e self k .2);
-        named = named-here;
+        names = named-here;
         room = omega (arith, s .few-records, ap length q, length-append xs (e ∷ ys));
         create-room = λ k.
             unfold creates in omega (

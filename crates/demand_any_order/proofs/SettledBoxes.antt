@@ -26,7 +26,8 @@ use Rattle.edit_record.specs.RecordBytes.{noEdit}
 use Rattle.edit_record.specs.Answer1.{isLimited, unfit, nameOf}
 use Rattle.edit_record.proofs.WellFormed.{well-formed}
 use Rattle.edit_causal.specs.Causal.{sameEdit, hasSeen, comesBefore}
-use Rattle.edit_causal.specs.Conflict.{doConflict, saw, lists, listedBy, boxOn}
+use Rattle.edit_causal.specs.Conflict.{doConflict, lists, listedBy, boxOn}
+use Rattle.edit_causal.specs.ConflictForms.{saw}
 use Rattle.edit_causal.proofs.CausalLaws.{before-irreflexive, conflict-symmetric, conflict-irreflexive}
 use Rattle.edit_history.specs.EditsHeld.{isSetOn, setsOn}
 use Rattle.edit_history.specs.Answers2to5.{largerSomewhere, tears}
@@ -118,8 +119,8 @@ module _ (n : ℕ) (few : n ≤ mostSites) (es : List Edit) (o : Ordered n es) (
         elim (decLt j i) [
           | yes m ↦ m
           | no m ↦ elim (decLt i j) [
-            | yes m ↦ clash h (pairs-at MayPrecede noEdit (filter (isSetOn s q) es) before i j m k)
-            | no m ↦
+            | yes b ↦ clash h (pairs-at MayPrecede noEdit (filter (isSetOn s q) es) before i j b k)
+            | no b ↦
                 (let same : j ≡ i = omega arith in
                 clash (rw same at h) (before-irreflexive (getD (filter (isSetOn s q) es) i noEdit)))
           ]

@@ -14,7 +14,8 @@ use Rattle.edit_record.specs.declared.Seq.{Seq}
 use Rattle.edit_record.specs.Layout.{mostSites, twoBytes, createKind}
 use Rattle.edit_record.specs.Answer1.{isCreate, isSet, isLimited, isAimed, unfit, nameOf}
 use Rattle.edit_causal.specs.Causal.{sameEdit, comesBefore}
-use Rattle.edit_causal.specs.Conflict.{saw, listedBy, boxOn}
+use Rattle.edit_causal.specs.Conflict.{listedBy, boxOn}
+use Rattle.edit_causal.specs.ConflictForms.{saw}
 use Rattle.edit_history.specs.EditsHeld.{creates, isSetOn, setsOn, isTarget, mostRecords}
 use Rattle.edit_history.specs.Answers2to5.{isRepeated, isEarly, tears, isTorn, isAstray}
 use Rattle.edit_history.specs.Answer16.{isNameless}

@@ -27,8 +27,8 @@ use Rattle.math_contexts.proofs.NamedSets.{
 use Rattle.edit_record.specs.declared.Edit.{Edit}
 use Rattle.edit_record.specs.RecordBytes.{noEdit}
 use Rattle.edit_record.specs.Answer1.{isLimited}
-use Rattle.edit_causal.specs.Conflict.{doConflict, saw, lists, boxOn, conflictsIn}
-use Rattle.edit_causal.specs.ConflictForms.{NoneItself, Proper}
+use Rattle.edit_causal.specs.Conflict.{doConflict, lists, boxOn, conflictsIn}
+use Rattle.edit_causal.specs.ConflictForms.{NoneItself, Proper, saw}
 use Rattle.edit_causal.proofs.CausalLaws.{conflict-symmetric}
 
 -- ---- whichever is asked, and of one and the same

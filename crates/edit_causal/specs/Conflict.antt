@@ -6,7 +6,7 @@ use Prim.Native.Nat.{ℕ}
 use lib.Dec.{eqb}
 use lib.ListN.{length, take}
 use Rattle.math_lists.specs.NumbersBelow.{mask}
-use Rattle.math_lists.specs.SortedLists.{elem}
+use Rattle.math_lists.specs.SortedLists.{any}
 use Rattle.math_contexts.specs.Box.{Box}
 use Rattle.math_contexts.specs.BoxByArrival.{boxOf}
 use Rattle.math_contexts.specs.NamedVersions.{conflictsBy, contextsNamed}
@@ -27,19 +27,16 @@ doConflict a b =
 
 -- ---- among the Sets ms of an object
 
--- the author of a had seen b
-abbrev pub saw : Edit → Edit → Bool
-saw a b = comesBefore b a
-
 -- the names of the members that a lists, if it is limited, and whether b is one of them
 abbrev pub listedBy : Edit → List ℕ
 listedBy a = map nameIn (take (a .count) (a .members))
 
 abbrev pub lists : Edit → Edit → Bool
-lists a b = isLimited a && elem (nameOf b) (listedBy a)
+lists a b = isLimited a && any (eqb (nameOf b)) (listedBy a)
 
+-- an author had seen the Sets that come before his
 abbrev pub boxOn : List Edit → Box
-boxOn ms = boxOf noEdit doConflict saw lists isLimited ms
+boxOn ms = boxOf noEdit doConflict (λ a b. comesBefore b a) lists isLimited ms
 
 -- the i-th and the j-th conflict: some edit in one's context or the Set itself conflicts, by document 01's rule, with
 -- some edit in the other's context or the Set itself

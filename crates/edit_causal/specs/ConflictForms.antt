@@ -1,7 +1,7 @@
 -- What is asked of the Sets of an object where their groups are worked out, and document 01's conflicts of an arriving
 -- Set as a number. No one need believe it: laws in proofs/ and above say where it holds. Assumes nothing.
 use mathlib.Core.Path.{_≡_}
-use mathlib.Core.Bool.{false}
+use mathlib.Core.Bool.{Bool, false}
 use mathlib.Core.List.{List}
 use Prim.Native.Nat.{ℕ}
 use lib.ListN.{length, getD}
@@ -10,7 +10,12 @@ use Rattle.math_contexts.specs.Box.{Lawful}
 use Rattle.math_contexts.specs.Versions.{AllNamed}
 use Rattle.edit_record.specs.declared.Edit.{Edit}
 use Rattle.edit_record.specs.RecordBytes.{noEdit}
+use Rattle.edit_causal.specs.Causal.{comesBefore}
 use Rattle.edit_causal.specs.Conflict.{doConflict, boxOn, conflictsIn}
+
+-- the author of a had seen b
+abbrev pub saw : Edit → Edit → Bool
+saw a b = comesBefore b a
 
 -- none of the Sets ms conflicts with itself
 abbrev pub NoneItself : List Edit → Type 0

@@ -10,12 +10,13 @@ use Rattle.math_lists.specs.SortedLists.{any}
 use Rattle.math_contexts.specs.NamedVersions.{namesNone}
 use Rattle.edit_record.specs.declared.Edit.{Edit}
 use Rattle.edit_record.specs.Answer1.{isLimited, nameOf}
-use Rattle.edit_causal.specs.Conflict.{saw, listedBy, boxOn}
+use Rattle.edit_causal.specs.Causal.{comesBefore}
+use Rattle.edit_causal.specs.Conflict.{listedBy, boxOn}
 use Rattle.edit_history.specs.EditsHeld.{recordAt, editsOf, setsOn}
 
 -- the name x is that of no Set among ms that e has seen
 abbrev pub isStrange : List Edit → Edit → ℕ → Bool
-isStrange ms e x = not (any (λ m. saw e m && eqb (nameOf m) x) ms)
+isStrange ms e x = not (any (λ m. comesBefore m e && eqb (nameOf m) x) ms)
 
 -- where ms are the Sets of e's object: a strange name is listed, or there is no such version
 unfoldable pub namelessAmong : List Edit → Edit → Bool

@@ -20,11 +20,8 @@ isCreate e = eqb (e .kind) createKind
 abbrev pub isLimited : Edit → Bool
 isLimited e = eqb (e .kind) limitedKind
 
-abbrev pub isSetKind : ℕ → Bool
-isSetKind k = eqb k setKind || eqb k limitedKind
-
 abbrev pub isSet : Edit → Bool
-isSet e = isSetKind (e .kind)
+isSet e = eqb (e .kind) setKind || isLimited e
 
 -- a layer edit is to-top or to-bottom
 abbrev pub isTop : Edit → Bool

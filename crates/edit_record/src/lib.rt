@@ -3,14 +3,14 @@ ghost use mathlib.Core.Path.{_≡_};
 ghost use Prim.Native.Nat.{ℕ, _+_, _*_, _/_, _%_, _≤_, _<_, _^_};
 ghost use mathlib.Core.List.{[], _∷_, _++_};
 ghost use lib.ListN.{length, getD, take, drop};
-ghost use mathlib.Core.Bool.{cond, not, _&&_};
+ghost use mathlib.Core.Bool.{cond, not, _&&_, _||_};
 ghost use lib.Dec.{eqb, leb, ltb};
 ghost use Rattle.math_lists.specs.NumbersBelow.{some};
 ghost use Rattle.edit_record.specs.Layout.{mostSites, vectorAt, targetAt, recordLength, countAt, membersAt};
-ghost use Rattle.edit_record.specs.Layout.{mostMembers, placeLength};
+ghost use Rattle.edit_record.specs.Layout.{mostMembers, placeLength, setKind, limitedKind};
 ghost use Rattle.edit_record.specs.RecordBytes.{two, four, counts, countBytes, firstFours, fourBytes, limits};
 ghost use Rattle.edit_record.specs.RecordBytes.{decodeOf, fieldBytes, placed, spanOf};
-ghost use Rattle.edit_record.specs.Answer1.{isLimited, isSetKind, isLayer, isAimed, entryOf, nonzeroPast};
+ghost use Rattle.edit_record.specs.Answer1.{isLimited, isLayer, isAimed, entryOf, nonzeroPast};
 ghost use Rattle.edit_record.specs.Answer1.{lastEightZero, nameIn, listUnfit, unfit};
 ghost use Rattle.edit_record.specs.Answer1.{malformed};
 
@@ -317,7 +317,7 @@ pub fn encode(e: Edit) -> [u8; PLACE]
 
 // Whether an edit of this kind is a Set, be it limited or not.
 pub fn is_set_kind(kind: u8) -> bool
-    ensures { λ r. ⌜ r ≡ isSetKind kind ⌝ }
+    ensures { λ r. ⌜ r ≡ (eqb kind setKind || eqb kind limitedKind) ⌝ }
 {
     (kind == SET) | (kind == LIMITED)
 }

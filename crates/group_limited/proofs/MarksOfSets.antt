@@ -18,7 +18,8 @@ use Rattle.math_maximal.proofs.Masks.{mask-bit}
 use Rattle.edit_record.specs.declared.Edit.{Edit}
 use Rattle.edit_record.specs.RecordBytes.{noEdit}
 use Rattle.edit_record.specs.Answer1.{nameOf}
-use Rattle.edit_causal.specs.Conflict.{saw, lists}
+use Rattle.edit_causal.specs.Conflict.{lists}
+use Rattle.edit_causal.specs.ConflictForms.{saw}
 use Rattle.edit_causal.proofs.PlainMarks.{none-marked, one-more-marked, marked-below}
 use Rattle.edit_history.specs.EditsHeld.{recordAt}
 use Rattle.edit_history.specs.Answer16.{isStrange}

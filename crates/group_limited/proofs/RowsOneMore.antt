@@ -21,8 +21,8 @@ use Rattle.math_contexts.proofs.BoxGrows.{contexts-keep}
 use Rattle.edit_record.specs.declared.Edit.{Edit}
 use Rattle.edit_record.specs.RecordBytes.{noEdit}
 use Rattle.edit_record.specs.Answer1.{isLimited}
-use Rattle.edit_causal.specs.Conflict.{doConflict, saw, lists, boxOn}
-use Rattle.edit_causal.specs.ConflictForms.{plainMarks}
+use Rattle.edit_causal.specs.Conflict.{doConflict, lists, boxOn}
+use Rattle.edit_causal.specs.ConflictForms.{plainMarks, saw}
 use Rattle.edit_causal.proofs.CausalLaws.{conflict-symmetric, conflict-irreflexive}
 use Rattle.edit_causal.proofs.PlainMarks.{marked-below}
 use Rattle.group_context.specs.RowsOfBox.{PlainRows}

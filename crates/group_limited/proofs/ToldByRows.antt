@@ -18,8 +18,8 @@ use Rattle.math_contexts.proofs.ConflictsNamed.{names-none-later}
 use Rattle.edit_record.specs.declared.Edit.{Edit}
 use Rattle.edit_record.specs.RecordBytes.{noEdit}
 use Rattle.edit_record.specs.Answer1.{isLimited}
-use Rattle.edit_causal.specs.Conflict.{doConflict, saw, lists, listedBy, boxOn, conflictsIn, conflictsWith}
-use Rattle.edit_causal.specs.ConflictForms.{plainMarks}
+use Rattle.edit_causal.specs.Conflict.{doConflict, lists, listedBy, boxOn, conflictsIn, conflictsWith}
+use Rattle.edit_causal.specs.ConflictForms.{plainMarks, saw}
 use Rattle.edit_causal.proofs.CausalLaws.{conflict-symmetric}
 use Rattle.edit_causal.proofs.ConflictsAmongSets.{first-sets}
 use Rattle.edit_history.specs.Answer16.{isStrange, namelessAmong}

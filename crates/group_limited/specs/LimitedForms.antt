@@ -16,8 +16,8 @@ use Rattle.math_contexts.specs.Versions.{AllNamed}
 use Rattle.edit_record.specs.declared.Edit.{Edit}
 use Rattle.edit_record.specs.RecordBytes.{noEdit}
 use Rattle.edit_record.specs.Answer1.{nameOf}
-use Rattle.edit_causal.specs.Conflict.{doConflict, saw, lists, boxOn, conflictsWith}
-use Rattle.edit_causal.specs.ConflictForms.{Proper, plainMarks}
+use Rattle.edit_causal.specs.Conflict.{doConflict, lists, boxOn, conflictsWith}
+use Rattle.edit_causal.specs.ConflictForms.{Proper, plainMarks, saw}
 use Rattle.edit_history.specs.EditsHeld.{recordAt}
 use Rattle.edit_history.specs.Answer16.{namelessAmong}
 use Rattle.group_context.specs.RowsOfBox.{PlainRows}

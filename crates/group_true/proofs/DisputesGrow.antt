@@ -13,8 +13,8 @@ use Rattle.math_lists.proofs.Booleans.{both, and-on, or-left}
 use Rattle.math_lists.proofs.Elements.{any-append}
 use Rattle.math_lists.proofs.NumbersBelow.{keep-at, keep-on}
 use Rattle.edit_record.specs.declared.Edit.{Edit}
-use Rattle.edit_causal.specs.Conflict.{doConflict, saw, lists, boxOn, conflictsIn}
-use Rattle.edit_causal.specs.ConflictForms.{Proper}
+use Rattle.edit_causal.specs.Conflict.{doConflict, lists, boxOn, conflictsIn}
+use Rattle.edit_causal.specs.ConflictForms.{Proper, saw}
 use Rattle.math_maximal.specs.MaximalSets.{_∈_, _⊆_}
 use Rattle.math_maximal.specs.Groups.{bit, below, every}
 use Rattle.math_maximal.proofs.Groups.{below-at}

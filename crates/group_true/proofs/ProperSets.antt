@@ -31,8 +31,8 @@ use Rattle.edit_record.specs.Layout.{mostSites}
 use Rattle.edit_record.specs.RecordBytes.{noEdit}
 use Rattle.edit_record.specs.Answer1.{isSet, isLimited}
 use Rattle.edit_causal.specs.Causal.{sameEdit, hasSeen}
-use Rattle.edit_causal.specs.Conflict.{doConflict, saw, listedBy, boxOn}
-use Rattle.edit_causal.specs.ConflictForms.{Proper}
+use Rattle.edit_causal.specs.Conflict.{doConflict, listedBy, boxOn}
+use Rattle.edit_causal.specs.ConflictForms.{Proper, saw}
 use Rattle.edit_causal.proofs.CausalLaws.{conflict-symmetric, conflict-irreflexive}
 use Rattle.edit_causal.proofs.ConflictsAmongSets.{first-sets}
 use Rattle.edit_causal.proofs.Identities.{same-parts}

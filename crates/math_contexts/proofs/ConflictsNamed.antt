@@ -23,11 +23,11 @@ use Rattle.math_maximal.proofs.Groups.{groups-same}
 use Rattle.math_contexts.specs.Box.{Box, disputed, disputedBy}
 use Rattle.math_contexts.specs.Contexts.{reachIn}
 use Rattle.math_contexts.specs.SameSets.{SameBelow}
+use Rattle.math_contexts.specs.Versions.{contextBy}
 use Rattle.math_contexts.specs.NamedVersions.{
   conflictsBy,
   hasList,
   versionsNamed,
-  contextBy,
   contextsNamed,
   namesNone,
 }
@@ -126,7 +126,7 @@ contexts-named-at b (suc n) i l = go (last l) (contexts-named-at b n i)
 
 -- a plain Set has none, and past the end there is none
 pub plain-has-none : (b : Box) (n i : ℕ) → b .limited i ≡ false → i < n → getD (contextsNamed b n) i 0 ≡ 0
-plain-has-none b n i e l = contexts-named-at b n i l ∙ (unfold contextBy in rw e)
+plain-has-none b n i e l = contexts-named-at b n i l ∙ rw e
 
 pub none-past : (b : Box) (n i : ℕ) → n ≤ i → getD (contextsNamed b n) i 0 ≡ 0
 none-past b n i l = List·getD-eq-default (contextsNamed b n) 0 (omega (arith, contexts-named-long b n))
@@ -179,7 +179,6 @@ module _ {b b' : Box} {n : ℕ} (s : SameBelow b b' n) where
       (λ j k p q. conflicts-same cs cs j k (omega arith) (omega arith) refl refl))
 
   context-same : (cs : List ℕ) (i : ℕ) → i < n → contextBy b' cs i ≡ contextBy b cs i
-  unfolding contextBy
   context-same cs i l = rw (s .limiteds i l, versions-same cs i l)
 
   contexts-same : (m : ℕ) → m ≤ n → contextsNamed b' m ≡ contextsNamed b m

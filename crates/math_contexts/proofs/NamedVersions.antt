@@ -20,12 +20,11 @@ use Rattle.math_maximal.proofs.Bits.{same-bits}
 use Rattle.math_maximal.proofs.Groups.{below-at, groups-at, groups-on, groups-agree}
 use Rattle.math_contexts.specs.Box.{Box, disputedBy, Lawful}
 use Rattle.math_contexts.specs.Contexts.{contextIn, contexts, context, conflicts}
-use Rattle.math_contexts.specs.Versions.{namesVersion, Valid, AllNamed, Version}
+use Rattle.math_contexts.specs.Versions.{namesVersion, Valid, contextBy, AllNamed, Version}
 use Rattle.math_contexts.specs.NamedVersions.{
   conflictsBy,
   hasList,
   versionsNamed,
-  contextBy,
   contextsNamed,
   namesNone,
 }
@@ -149,7 +148,7 @@ module _ (b : Box) where
   named-is-context :
       (n i : ℕ) → Lawful b n → i < n → contextsNamed b i ≡ contexts b i → namesNone b i ≡ false →
       contextBy b (contextsNamed b i) i ≡ context b i
-  unfolding namesNone contextBy
+  unfolding namesNone
   named-is-context n i law l same h = go (b .limited i) refl
     where
       go : (t : Bool) → b .limited i ≡ t →

@@ -66,9 +66,7 @@ zeroFrom l k = all (length l) (λ i. ltb i k || eqb (getD l i 0) 0)
 
 -- place p of the records is zero past its record
 unfoldable pub restZero : List ℕ → ℕ → Bool
-restZero rs p =
-    let place = take placeLength (drop (p * placeLength) rs) in
-    zeroFrom place (spanOf place)
+restZero rs p = let place = take placeLength (drop (p * placeLength) rs) in zeroFrom place (spanOf place)
 
 unfoldable pub sound : Tables → Bool
 sound t =

@@ -1,16 +1,17 @@
 -- `table_index::add` meets its contract: a Create gets the next number, a Set's place stands behind those of its
 -- object, and any other record has its place alone. Assumes nothing.
 use mathlib.Core.Path.{_≡_, sym, ap, _∙_}
-use mathlib.Core.Bool.{Bool, true, false, not, cond}
+use mathlib.Core.Bool.{Bool, true, false, not, cond, _||_}
 use mathlib.Core.List.{List}
 use Prim.Native.Nat.{ℕ, suc, _+_, _<_}
 use native.Mathlib.Numerals.{add-one}
 use native.Mathlib.Omega.{arith}
+use lib.Dec.{eqb}
 use lib.ListN.{getD}
 use denote.Ref.{now}
 use borrow.Author.Tests.{eq-eqb, ne-eqb, not-true, not-false}
-use Rattle.edit_record.specs.Layout.{createKind}
-use Rattle.edit_record.specs.Answer1.{isCreate, isSet, isSetKind}
+use Rattle.edit_record.specs.Layout.{createKind, setKind, limitedKind}
+use Rattle.edit_record.specs.Answer1.{isCreate, isSet}
 use Rattle.edit_history.specs.EditsHeld.{recordAt}
 use Rattle.edit_walk.specs.WalkForms.{placesLength, Spaced, countIn}
 use Rattle.group_step.specs.GroupRows.{mostObjects}
@@ -27,7 +28,7 @@ room-of s = rw add-one at (s .pre .3)
 
 -- the record in place p is a Set, by the test of its kind
 set-is :
-    (rs : List ℕ) (p : ℕ) {k : ℕ} (r : Bool) → r ≡ isSetKind k → k ≡ recordAt rs p .kind → not r ≡ false →
+    (rs : List ℕ) (p : ℕ) {k : ℕ} (r : Bool) → r ≡ (eqb k setKind || eqb k limitedKind) → k ≡ recordAt rs p .kind → not r ≡ false →
     isSet (recordAt rs p) ≡ true
 set-is rs p r is kind on = rw kind at (sym is ∙ not-false r on)
 
