@@ -1,24 +1,27 @@
--- The masks of a box's Sets, and the groups that they give. Assumes, where it is said, that no Set conflicts with
--- itself.
-use mathlib.Core.Path.{_≡_, sym, ap, _∙_}
+-- The masks of a box's Sets by the rows that tell of them, and the groups that they give. Assumes, where it is said,
+-- that the Sets are proper, or that none of them conflicts with itself.
+use mathlib.Core.Path.{_≡_, sym, ap, subst, _∙_}
 use mathlib.Core.List.{List}
-use Prim.Native.Nat.{ℕ, _+_, _≤_, _<_}
+use Prim.Native.Nat.{ℕ, _≤_, _<_}
 use native.Mathlib.Omega.{arith}
-use lib.ListN.{length, getD, set}
-use lib.Seq.{getD-set-same, getD-set-other}
-use borrow.Author.Count.{below-more}
+use lib.ListN.{length, getD, take}
 use Rattle.math_lists.specs.NumbersBelow.{mask}
-use Rattle.edit_record.specs.declared.Edit.{Edit}
-use Rattle.edit_causal.specs.Conflict.{conflictsIn, conflictsWith}
-use Rattle.edit_causal.proofs.ConflictsAmongSets.{conflicts-turned, marked-again}
-use Rattle.edit_history.specs.EditsHeld.{recordAt}
-use Rattle.edit_history.proofs.EditsInPlaces.{sets-length, set-place}
 use Rattle.math_maximal.proofs.Masks.{mask-bit}
+use Rattle.math_contexts.specs.Box.{Box, Lawful}
+use Rattle.math_contexts.specs.Contexts.{contexts, conflicts}
+use Rattle.math_contexts.specs.Versions.{AllNamed}
+use Rattle.math_contexts.specs.NamedVersions.{conflictsBy, contextsNamed}
+use Rattle.edit_record.specs.declared.Edit.{Edit}
+use Rattle.edit_causal.specs.Conflict.{conflictsIn, boxOn}
+use Rattle.edit_causal.specs.ConflictForms.{NoneItself, Proper}
+use Rattle.edit_causal.proofs.ConflictsAmongSets.{conflicts-turned}
+use Rattle.edit_history.proofs.EditsInPlaces.{sets-length}
 use Rattle.group_true.specs.TrueGroups.{groupsOf}
+use Rattle.group_context.specs.RowsOfBox.{PlainRows}
+use Rattle.group_context.proofs.NamedByRows.{conflict-row-named}
 use Rattle.group_engine.specs.SearchForms.{conflict, byMasks, Conflicts}
 use Rattle.group_engine.proofs.MasksOfElements.{groups-of-elements, conflicts-of-elements}
-use Rattle.edit_causal.specs.ConflictForms.{NoneItself}
-use Rattle.group_limited.specs.LimitedForms.{setsIn}
+use Rattle.group_limited.specs.LimitedForms.{setsIn, RowsTell}
 use Rattle.table_engine.specs.EngineForms.{groupsIn, MaskedTo}
 
 module _ (rs ps : List ℕ) (k : ℕ) (fits : k ≤ length ps) where
