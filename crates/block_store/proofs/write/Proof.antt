@@ -33,8 +33,7 @@ record-bytes-requires c κs =
     let i = c .before in
     let a = i .before .before .before .before .before .before .args in
     let t = tablesOf (a .c) (now (a .records)) (now (a .objects)) (now (a .groups)) in
-    let s = sound-at t (sym (i .before .is-sound .ensures) ∙ not-false _ (i .if1 .left)) in
-    (
+    let s = sound-at t (sym (i .before .is-sound .ensures) ∙ not-false _ (i .if1 .left)) in (
       s .few-records,
       omega (arith, s .few-records, s .records-long),
       passing-fit (a .c .sites) (now (a .records)) (a .c .records) (s .pass),
