@@ -36,7 +36,9 @@ use Rattle.table_arrival.specs.Answers6and7.{rowOf}
 use Rattle.group_true.specs.TrueGroups.{groupsOf, trueGroups}
 use Rattle.group_true.proofs.GroupsGrow.{is-maximal, never-fewer-groups, sets-step}
 use Rattle.table_check.specs.CheckForms.{rowTrue, aimOf, Aims, TellsSets, placesAimed, groupsIn, WorkedOut}
+use Rattle.table_check.specs.CheckForms.{ProperInTurn}
 use Rattle.table_check.proofs.SettledByRecords.{used-long}
+use Rattle.table_check.proofs.SetsInTurn.{in-turn}
 
 -- ---- where the Create of each Set stands
 
@@ -177,6 +179,10 @@ module _ (t : Tables) (s : Sound t) (ts : List ℕ) (tells : TellsSets (t .recor
   groups-are ms k e =
       ap (λ (qs : List ℕ). groupsOf (map (recordAt rs) qs)) (e ∙ aimed-are)
       ∙ ap groupsOf (places-sets rs p n)
+
+  pub aimed-in-turn :
+      (ms : List ℕ) (k : ℕ) → k ≤ length ms → take k ms ≡ placesAimed ts n p → ProperInTurn rs ms k
+  aimed-in-turn ms k fits e = in-turn t s p ms k fits (e ∙ aimed-are)
 
   pub row-fits-in : o * mostGroups + mostGroups ≤ length (t .groups)
   row-fits-in = omega (arith, s .groups-long, s .few-objects)

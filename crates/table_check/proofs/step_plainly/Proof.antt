@@ -1,36 +1,30 @@
--- `table_check::work_out` meets its contract: after i Sets, their groups stand in front. Assumes nothing.
+-- `table_check::step_plainly` meets its contract: after i Sets, their groups stand in front. Assumes nothing.
 use mathlib.Core.Path.{_≡_, sym, ap, _∙_}
 use Prim.Native.Nat.{_+_, _-_, _≤_}
 use native.Mathlib.Omega.{arith}
-use lib.ListN.{length, take, length-set}
-use lib.Seq.{take-suc-set}
+use lib.ListN.{length, take}
 use denote.Ref.{now}
+use Rattle.edit_causal.proofs.ConflictsAmongSets.{none-itself}
 use Rattle.group_step.specs.GroupRows.{mostGroups}
 use Rattle.table_check.specs.CheckForms.{groupsIn}
 use Rattle.table_check.proofs.RowWorkedOut.{groups-none, stepped, in-ascending, in-below, in-more, settled-front}
+use Rattle.table_check.proofs.SetsInTurn.{plain-are-all}
 use borrow.Author.Needs.{needs}
-use Rattle.table_check.proofs.work_out.Statement.{statement}
-use Rattle.table_check.proofs.work_out.Tie as tie
+use Rattle.table_check.proofs.step_plainly.Statement.{statement}
+use Rattle.table_check.proofs.step_plainly.Tie as tie
 
 abbrev Inv-loop : tie.InvT-loop
-Inv-loop recs places k gs₀ n₀ i₀ gs n i =
+Inv-loop gs₀ recs places k n₀ i₀ gs n i =
     (i ≤ k) × (length gs ≡ mostGroups) × (n ≤ mostGroups) × (take n gs ≡ groupsIn recs places i)
 
 abbrev μ-loop : tie.MeasureT-loop
-μ-loop recs places k gs₀ n₀ i₀ gs n i = k - i
-
-slice-write-gs : tie.Need-slice-write-gs Inv-loop μ-loop
-slice-write-gs c = search needs
+μ-loop gs₀ recs places k n₀ i₀ gs n i = k - i
 
 loop-holds : tie.Need-loop-holds Inv-loop μ-loop
 loop-holds c =
     let s = c .before .before .before in
-    let a = s .args in (
-      omega arith,
-      simp length-set (s .pre .2),
-      omega arith,
-      take-suc-set (now (a .gs)) 0 0 (omega (arith, s .pre .2)) ∙ sym (groups-none (now (a .recs)) (now (a .places))),
-    )
+    let a = s .args in
+    (omega arith, s .pre .0, omega arith, s .pre .1 ∙ sym (groups-none (now (a .recs)) (now (a .places))))
 
 mul-decode-at : tie.Need-mul-decode-at Inv-loop μ-loop
 mul-decode-at c = search needs
@@ -44,8 +38,8 @@ cast-decode-at c = omega (arith, c .shared-slice-known3 .given (c .before .befor
 decode-at-requires : tie.Need-decode-at-requires Inv-loop μ-loop
 decode-at-requires c κs = omega (arith, c .shared-slice-known3 .given (c .before .before .loop .i))
 
-conflicts-in-requires : tie.Need-conflicts-in-requires Inv-loop μ-loop
-conflicts-in-requires c κs = search needs
+plain-marks-requires : tie.Need-plain-marks-requires Inv-loop μ-loop
+plain-marks-requires c κs = search needs
 
 step-row-requires : tie.Need-step-row-requires Inv-loop μ-loop
 step-row-requires c κs =
@@ -70,9 +64,12 @@ returns c =
     let l = b .before .before .before .before .loop in
     let r = c .before .before .before .step-row in
     let e = b .before .decode-at in
-    let m = b .conflicts-in in
+    let m = b .plain-marks in
     let next = stepped (now (a .recs)) (now (a .places)) (l .i) (l .n) (l .gs) (omega arith)
-    (s .pre .3 (l .i + 1) (omega arith)) (l .inv .3) (e .result) (e .ensures) (m .result) (m .ensures) in
+    (none-itself _ (s .pre .4 .proper (l .i + 1) (omega arith))) (l .inv .3) (e .result) (e .ensures) (m .result)
+    (m .ensures
+    ∙ plain-are-all (now (a .recs)) (now (a .places)) (a .k) (s .pre .2) (l .i) (omega arith) (e .result) (e .ensures)
+    (s .pre .5)) in
     record {
       few = λ h. absurd (omega arith);
       many =
@@ -81,7 +78,7 @@ returns c =
             r .ensures .0,
             ap length next,
             in-more (now (a .recs)) (now (a .places)) (l .i + 1) (a .k) (omega arith)
-                (s .pre .3 (a .k) (omega arith)),
+                (none-itself _ (s .pre .4 .proper (a .k) (omega arith))),
           );
     }
 
@@ -99,9 +96,12 @@ loop-again c =
     let l = b .before .before .before .before .loop in
     let r = c .before .before .before .step-row in
     let e = b .before .decode-at in
-    let m = b .conflicts-in in
+    let m = b .plain-marks in
     let next = stepped (now (a .recs)) (now (a .places)) (l .i) (l .n) (l .gs) (omega arith)
-    (s .pre .3 (l .i + 1) (omega arith)) (l .inv .3) (e .result) (e .ensures) (m .result) (m .ensures) in (
+    (none-itself _ (s .pre .4 .proper (l .i + 1) (omega arith))) (l .inv .3) (e .result) (e .ensures) (m .result)
+    (m .ensures
+    ∙ plain-are-all (now (a .recs)) (now (a .places)) (a .k) (s .pre .2) (l .i) (omega arith) (e .result) (e .ensures)
+    (s .pre .5)) in (
       omega arith,
       r .kept .0 ∙ l .inv .1,
       omega arith,
@@ -117,19 +117,18 @@ returns-2 c =
     let k : l .i ≡ c .before .before .before .before .before .args .k = omega arith in
     record { few = λ h. rw (← k) (l .inv .3); many = λ h. absurd (omega (arith, l .inv .2)) }
 
-pub work-out-spec : {M : Type 1} → statement M
-work-out-spec =
+pub step-plainly-spec : {M : Type 1} → statement M
+step-plainly-spec =
     tie.close
     (tie.spec
     Inv-loop
     μ-loop
-    slice-write-gs
     loop-holds
     mul-decode-at
     shared-slice-read-decode-at
     cast-decode-at
     decode-at-requires
-    conflicts-in-requires
+    plain-marks-requires
     step-row-requires
     same-length
     returns
