@@ -1,0 +1,73 @@
+-- `table_check::work_out` meets its contract: the row starts with the empty group, in either way. Assumes nothing.
+use mathlib.Core.Path.{sym, _∙_}
+use native.Mathlib.Omega.{arith}
+use lib.ListN.{length-set}
+use lib.Seq.{take-suc-set}
+use denote.Ref.{now}
+use borrow.Author.Tests.{not-true}
+use borrow.Author.Needs.{needs}
+use Rattle.table_check.proofs.work_out.Statement.{statement}
+use Rattle.table_check.proofs.work_out.Tie as tie
+
+slice-write-gs : tie.Need-slice-write-gs
+slice-write-gs c = search needs
+
+is-any-limited-requires : tie.Need-is-any-limited-requires
+is-any-limited-requires c κs = search needs
+
+step-plainly-requires : tie.Need-step-plainly-requires
+step-plainly-requires c κs =
+    let s = c .before .before .before .before .before .before in
+    let limited = c .before .before .is-any-limited in (
+      simp length-set (s .pre .2),
+      take-suc-set (now (s .args .gs)) 0 0 (omega (arith, s .pre .2)),
+      s .pre .0,
+      s .pre .1,
+      s .pre .3,
+      sym (limited .ensures) ∙ not-true (limited .result) (c .before .if1 .taken),
+    )
+
+same-length : tie.Need-same-length
+same-length c = c .before .before .step-plainly .kept .0 ∙ length-set (now (c .before .before .before .before .before .before .before .before .before .args .gs)) 0 0
+
+returns : tie.Need-returns
+returns c = search needs
+
+slice-aggregate-step-limited : tie.Need-slice-aggregate-step-limited
+slice-aggregate-step-limited c = search needs
+
+slice-aggregate-step-limited-2 : tie.Need-slice-aggregate-step-limited-2
+slice-aggregate-step-limited-2 c = search needs
+
+step-limited-requires : tie.Need-step-limited-requires
+step-limited-requires c κs =
+    let s = c .before .before .before .before .before .before .before .before in (
+      simp length-set (s .pre .2),
+      take-suc-set (now (s .args .gs)) 0 0 (omega (arith, s .pre .2)),
+      search needs,
+      search needs,
+      s .pre .0,
+      s .pre .1,
+      s .pre .3,
+    )
+
+same-length-2 : tie.Need-same-length-2
+same-length-2 c = c .before .before .before .before .step-limited .kept .0 ∙ length-set (now (c .before .before .before .before .before .before .before .before .before .before .before .before .before .args .gs)) 0 0
+
+returns-2 : tie.Need-returns-2
+returns-2 c = search needs
+
+pub work-out-spec : {M : Type 1} → statement M
+work-out-spec =
+    tie.close
+    (tie.spec
+    slice-write-gs
+    is-any-limited-requires
+    step-plainly-requires
+    same-length
+    returns
+    slice-aggregate-step-limited
+    slice-aggregate-step-limited-2
+    step-limited-requires
+    same-length-2
+    returns-2)
