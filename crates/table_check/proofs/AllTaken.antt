@@ -14,7 +14,7 @@ use mathlib.Core.List.{
   List·Memᴰ·append-cases,
   List·Memᴰ·eq-of-singleton,
 }
-use Prim.Native.Nat.{ℕ, zero, suc, _+_, _≤_, _<_}
+use Prim.Native.Nat.{ℕ, zero, suc, _≤_, _<_}
 use native.Mathlib.Omega.{arith}
 use native.Mathlib.Decide.{ℕ-discrete}
 use lib.ListN.{length}

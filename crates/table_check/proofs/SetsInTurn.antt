@@ -157,7 +157,8 @@ module _ (t : Tables) (s : Sound t) (p : ℕ) where
 module _ (rs ms : List ℕ) (k : ℕ) (fits : k ≤ length ms) (i : ℕ) (l : i < k) (e : Edit)
     (own : e ≡ recordAt rs (getD ms i 0)) where
   -- where no Set is limited, document 01's are all
-  pub plain-are-all : any isLimited (setsIn rs ms k) ≡ false → plainMarks e (setsIn rs ms i) ≡ conflictsWith e (setsIn rs ms i)
+  pub plain-are-all :
+      any isLimited (setsIn rs ms k) ≡ false → plainMarks e (setsIn rs ms i) ≡ conflictsWith e (setsIn rs ms i)
   plain-are-all h =
       let none : (j : ℕ) → j < k → isLimited (recordAt rs (getD ms j 0)) ≡ false
       = λ j m. off (isLimited (recordAt rs (getD ms j 0))) (λ t.

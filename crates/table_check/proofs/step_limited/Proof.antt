@@ -90,9 +90,10 @@ returns c =
     let ps = now (a .places) in
     let told = b .told-of .ensures (l .inv .6) in
     let w = s .pre .6 in
+    let all = told-are-all rs ps (a .k) (s .pre .4) (l .i) (omega arith) (d .result) (d .ensures) w
+    (b .told-of .result) told in
     let next = stepped rs ps (l .i) (l .n) (l .gs) (omega arith)
-    (none-itself _ (w .proper (l .i + 1) (omega arith))) (l .inv .3) (d .result) (d .ensures) _
-    (told-are-all rs ps (a .k) (s .pre .4) (l .i) (omega arith) (d .result) (d .ensures) w (b .told-of .result) told) in
+    (none-itself _ (w .proper (l .i + 1) (omega arith))) (l .inv .3) (d .result) (d .ensures) _ all in
     let r = c .before .before .before .step-row in
     record {
       few = λ h. absurd (omega arith);
@@ -110,7 +111,8 @@ put-told-requires c κs = search needs
 
 add-i : tie.Need-add-i Inv-loop μ-loop
 add-i c =
-    let y = c .before .before .before .before .before .before .before .before .before .before .before .before .before .before .before .before .before in
+    let b = c .before .before .before .before .before .before .before .before .before .before .before .before in
+    let y = b .before .before .before .before .before in
     omega (arith, y .loop-test .taken, y .before .before .before .before .before .before .before .pre .5)
 
 loop-less : tie.Need-loop-less Inv-loop μ-loop
@@ -131,9 +133,10 @@ loop-again c =
     let ps = now (a .places) in
     let told = b .told-of .ensures (l .inv .6) in
     let w = s .pre .6 in
+    let all = told-are-all rs ps (a .k) (s .pre .4) (l .i) (omega arith) (d .result) (d .ensures) w
+    (b .told-of .result) told in
     let next = stepped rs ps (l .i) (l .n) (l .gs) (omega arith)
-    (none-itself _ (w .proper (l .i + 1) (omega arith))) (l .inv .3) (d .result) (d .ensures) _
-    (told-are-all rs ps (a .k) (s .pre .4) (l .i) (omega arith) (d .result) (d .ensures) w (b .told-of .result) told) in (
+    (none-itself _ (w .proper (l .i + 1) (omega arith))) (l .inv .3) (d .result) (d .ensures) _ all in (
       omega arith,
       r .kept .0 ∙ l .inv .1,
       omega (arith, f .left),

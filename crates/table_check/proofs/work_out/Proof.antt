@@ -28,7 +28,10 @@ step-plainly-requires c κs =
     )
 
 same-length : tie.Need-same-length
-same-length c = c .before .before .step-plainly .kept .0 ∙ length-set (now (c .before .before .before .before .before .before .before .before .before .args .gs)) 0 0
+same-length c =
+    let r = c .before .before in
+    let s = r .before .before .before .before .before .before .before in
+    r .step-plainly .kept .0 ∙ length-set (now (s .args .gs)) 0 0
 
 returns : tie.Need-returns
 returns c = search needs
@@ -52,7 +55,10 @@ step-limited-requires c κs =
     )
 
 same-length-2 : tie.Need-same-length-2
-same-length-2 c = c .before .before .before .before .step-limited .kept .0 ∙ length-set (now (c .before .before .before .before .before .before .before .before .before .before .before .before .before .args .gs)) 0 0
+same-length-2 c =
+    let r = c .before .before .before .before in
+    let s = r .before .before .before .before .before .before .before .before .before in
+    r .step-limited .kept .0 ∙ length-set (now (s .args .gs)) 0 0
 
 returns-2 : tie.Need-returns-2
 returns-2 c = search needs
