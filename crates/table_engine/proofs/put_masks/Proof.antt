@@ -28,11 +28,13 @@ same-length c = search needs
 
 returns : tie.Need-returns
 returns c =
-    let r = c .before .before .before .before .before .put-rows in
-    let s = c .before .before .before .before .before .before .before .before in
+    let m = c .before .before .put-conflicts in
+    let r = c .before .before .before .before .before .before .before .before .put-rows in
+    let s = c .before .before .before .before .before .before .before .before .before .before .before .before .before
+    .before in
     let a = s .args in
-    masked (now (a .recs)) (now (a .places)) (a .k) (s .pre .0) (s .pre .3) _ _ _ (r .ensures)
-    (c .put-conflicts .ensures)
+    masked (now (a .recs)) (now (a .places)) (a .k) (s .pre .0) (s .pre .3) _ _ (m .last .0) (r .ensures)
+    (m .ensures)
 
 pub put-masks-spec : {M : Type 1} → statement M
 put-masks-spec =
