@@ -31,7 +31,7 @@ same-length : tie.Need-same-length
 same-length c =
     let r = c .before .before in
     let s = r .before .before .before .before .before .before .before in
-    r .step-plainly .kept .0 ∙ length-set (now (s .args .gs)) 0 0
+    r .step-plainly .kept .0 ∙ length-set (now (s .args .gs)) 0 _
 
 returns : tie.Need-returns
 returns c = search needs
@@ -58,7 +58,7 @@ same-length-2 : tie.Need-same-length-2
 same-length-2 c =
     let r = c .before .before .before .before in
     let s = r .before .before .before .before .before .before .before .before .before in
-    r .step-limited .kept .0 ∙ length-set (now (s .args .gs)) 0 0
+    r .step-limited .kept .0 ∙ length-set (now (s .args .gs)) 0 _
 
 returns-2 : tie.Need-returns-2
 returns-2 c = search needs
