@@ -1,5 +1,6 @@
 -- Demand 3, groups: in two orders of the same edits an object has as many groups, and the same groups of Sets, so that
--- their keys, which may be anything made of a set of edits, are one ascending list. Assumes that both orders are causal,
+-- their keys, which may be anything made of a set of edits, are one ascending list. Assumes that both orders are
+-- causal,
 -- that the limited Sets name versions in one of them, and that the order of the keys is strict.
 use mathlib.Core.Path.{_≡_}
 use mathlib.Core.Bool.{Bool}

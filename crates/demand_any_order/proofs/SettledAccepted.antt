@@ -173,7 +173,8 @@ module _ (n : ℕ) (few : n ≤ mostSites) (es : List Edit) (s : Settled n es) (
             omega (
               arith,
               ap (λ (l : List Edit). length (trueGroups l (named e))) split,
-              groups-grow front ys (named e) (subst (λ (l : List Edit). NoneItself (setsOn (e .tsite) (e .tseq) l)) split
+              groups-grow front ys (named e) (subst (λ (l : List Edit). NoneItself (setsOn (e .tsite) (e .tseq) l))
+                  split
                   (none-itself (setsOn (e .tsite) (e .tseq) es) (proper (e .tsite) (e .tseq)))),
             )
 

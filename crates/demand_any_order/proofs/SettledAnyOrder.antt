@@ -40,7 +40,8 @@ module _ (n : ℕ) (few : n ≤ mostSites) (es fs : List Edit) (r : Rearranged e
         record {
           fit = p .fit;
           apart = p .apart;
-          closed = λ e m x q l k b. let (a, i, y, z) = s .closed e (back e m) x q l k b in (a, same-members r a i, y, z);
+          closed = λ e m x q l k b. let (a, i, y, z) = s .closed e (back e m) x q l k b in
+              (a, same-members r a i, y, z);
           whole = p .whole;
           aimed = λ e m k. let (c, i, a) = s .aimed e (back e m) k in (c, same-members r c i, a);
           numbered = p .numbered;

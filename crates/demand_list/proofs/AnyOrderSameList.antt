@@ -40,7 +40,8 @@ module _ (sites : ℕ) (few : sites ≤ mostSites) (es fs : List Edit) (r : Rear
   same-version-lines : versionLines es ≡ versionLines fs
   unfolding versionLines linesIn
   same-version-lines =
-      flat-same (linesIn es) (linesIn fs) (layeredOrder es) (λ c m. any-order-lines sites few es fs r s causal causal′ c)
+      flat-same (linesIn es) (linesIn fs) (layeredOrder es)
+      (λ c m. any-order-lines sites few es fs r s causal causal′ c)
       ∙ ap (flatMap (linesIn fs)) (layered-any-order es fs r ranked (s .apart))
 
   same-lines-over : (n : ℕ) → linesOver n es ≡ linesOver n fs

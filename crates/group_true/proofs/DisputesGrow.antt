@@ -1,6 +1,7 @@
 -- The Sets of an object, ms, and more that arrive after them: what is in dispute stays so, and two versions are never
 -- found in one later version, not even by their members in dispute alone. Dispute is document 01's conflict of two
--- edits; that groups are told apart by it is `disputed-never-in-one` of `math_contexts`. Assumes, where it is said, that
+-- edits; that groups are told apart by it is `disputed-never-in-one` of `math_contexts`. Assumes, where it is said,
+-- that
 -- the Sets are proper.
 use mathlib.Core.Path.{_≡_, sym, _∙_}
 use mathlib.Core.Bool.{true, _&&_}

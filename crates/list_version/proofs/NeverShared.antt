@@ -98,4 +98,5 @@ pub versions-never-share :
     g ≡ h
 unfolding trueGroups
 versions-never-share t s c g h =
-    never-shared (setsOn (c .site) (c .seq) (heldBy t)) (proper-held t s (c .site) (c .seq)) (held-names-differ t s c) g h
+    never-shared (setsOn (c .site) (c .seq) (heldBy t)) (proper-held t s (c .site) (c .seq)) (held-names-differ t s c)
+    g h

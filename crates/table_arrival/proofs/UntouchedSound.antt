@@ -158,7 +158,8 @@ module _ (t : Tables) (b : List ℕ) (s : Sound t) (wide : length (t .counters .
   sum-after =
       ap₂ (λ (x y : ℕ). wrapped (x + y)) (s .sum ∙ held-sum rs n (passing-fit (t .counters .sites) rs n (s .pass)))
       (record-sum b (few-members (t .counters .sites) b (a .fit)))
-      ∙ sym (held-sum rs′ (n + 1) (passing-fit (t .counters .sites) rs′ (n + 1) pass-after) ∙ ap sumOver held-after ∙ joined-sum (heldBy t) (e ∷ []))
+      ∙ sym (held-sum rs′ (n + 1) (passing-fit (t .counters .sites) rs′ (n + 1) pass-after) ∙ ap sumOver held-after
+      ∙ joined-sum (heldBy t) (e ∷ []))
 
   -- past the last record there are zeros
   records-zero-after : ZeroFrom rs′ ((n + 1) * placeLength)

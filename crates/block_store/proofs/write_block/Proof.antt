@@ -25,7 +25,12 @@ trailer-bytes-requires : tie.Need-trailer-bytes-requires
 trailer-bytes-requires c κs =
     let s = c .before .before .before .before .before .before in
     let a = s .args in
-    omega (arith, held-most (now (a .records)) (a .n) (s .pre .1) (s .pre .2) (a .n) (omega arith), s .pre .0, s .pre .3)
+    omega (
+      arith,
+      held-most (now (a .records)) (a .n) (s .pre .1) (s .pre .2) (a .n) (omega arith),
+      s .pre .0,
+      s .pre .3,
+    )
 
 sub-copy-in : tie.Need-sub-copy-in
 sub-copy-in c = search needs

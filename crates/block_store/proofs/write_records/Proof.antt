@@ -49,7 +49,8 @@ room c =
     omega (
       arith,
       chained-inside (bytesAt rs) (l .i) (a .n) (r .loop-test .taken),
-      held-long rs (a .n) (s .pre .1) (s .pre .2) (l .i) (r .loop-test .taken) (c .span-of .result) (c .span-of .ensures),
+      held-long rs (a .n) (s .pre .1) (s .pre .2) (l .i) (r .loop-test .taken) (c .span-of .result)
+          (c .span-of .ensures),
       l .inv .1,
       s .pre .3,
     )
@@ -119,7 +120,8 @@ loop-again c =
     ∙ ap (λ (b : List ℕ). b ++ drop w (midOf (l .end) (length (l .out) - l .end) (l .out)))
     (held-is rs (a .n) (s .pre .1) (s .pre .2) (l .i) (r .loop-test .taken) w is) in (
       omega arith,
-      rw (add-one (l .i)) (held-next rs (a .n) (s .pre .1) (s .pre .2) (l .i) (r .loop-test .taken) w is (l .end) (l .inv .1)),
+      rw (add-one (l .i)) (held-next rs (a .n) (s .pre .1) (s .pre .2) (l .i) (r .loop-test .taken) w is (l .end)
+          (l .inv .1)),
       room d,
       rw (add-one (l .i))
           (block-put (now (a .out)) (chained (bytesAt rs) (l .i)) (bytesAt rs (l .i)) (l .end) w (sym (l .inv .1))

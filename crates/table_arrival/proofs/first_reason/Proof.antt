@@ -17,7 +17,8 @@ returns-3 c = rw (c .before .before .if1 .left, c .before .if2 .left, c .if3 .ta
 
 returns-4 : tie.Need-returns-4
 unfolding firstOf
-returns-4 c = rw (c .before .before .before .if1 .left, c .before .before .if2 .left, c .before .if3 .left, c .if4 .taken)
+returns-4 c =
+    rw (c .before .before .before .if1 .left, c .before .before .if2 .left, c .before .if3 .left, c .if4 .taken)
 
 returns-5 : tie.Need-returns-5
 unfolding firstOf

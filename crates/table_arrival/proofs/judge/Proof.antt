@@ -39,7 +39,8 @@ judge-requires c κs =
 returns-2 : tie.Need-returns-2
 returns-2 c =
     let a = c .before .before .before .before .before .before .before .before .before .args in
-    subst (λ (ms : List Edit). JudgedOf ms (a .e) (c .judge .result)) (c .before .before .before .put-places .ensures .0)
+    subst (λ (ms : List Edit). JudgedOf ms (a .e) (c .judge .result))
+    (c .before .before .before .put-places .ensures .0)
     (c .judge .ensures)
 
 pub judge-spec : {M : Type 1} → statement M

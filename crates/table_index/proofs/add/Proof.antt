@@ -28,7 +28,8 @@ room-of s = rw add-one at (s .pre .3)
 
 -- the record in place p is a Set, by the test of its kind
 set-is :
-    (rs : List ℕ) (p : ℕ) {k : ℕ} (r : Bool) → r ≡ (eqb k setKind || eqb k limitedKind) → k ≡ recordAt rs p .kind → not r ≡ false →
+    (rs : List ℕ) (p : ℕ) {k : ℕ} (r : Bool) → r ≡ (eqb k setKind || eqb k limitedKind) → k ≡ recordAt rs p .kind →
+    not r ≡ false →
     isSet (recordAt rs p) ≡ true
 set-is rs p r is kind on = rw kind at (sym is ∙ not-false r on)
 
@@ -154,7 +155,9 @@ slice-read-o c =
     let y = room-of s in
     let f = c .before .target-place in
     let set : isSet (recordAt rs (a .p)) ≡ true
-    = set-is rs (a .p) (c .before .before .before .before .is-set-kind .result) (c .before .before .before .before .is-set-kind .ensures) (c .before .before .before .before .before .before .kind-at .ensures) (c .before .before .before .if2 .left) in
+    = set-is rs (a .p) (c .before .before .before .before .is-set-kind .result)
+    (c .before .before .before .before .is-set-kind .ensures)
+    (c .before .before .before .before .before .before .kind-at .ensures) (c .before .before .before .if2 .left) in
     let (q, m, create, on, at)
     = target-at d rs h (a .p) l (now (a .places)) (now (a .numbers)) (now (a .counts)) (now (a .members)) x y set in
     let is : f .result ≡ q = (rw (s7 .spot .ensures) at (f .ensures)) ∙ at in
@@ -171,7 +174,9 @@ cast-add-set c =
     let y = room-of s in
     let f = c .before .target-place in
     let set : isSet (recordAt rs (a .p)) ≡ true
-    = set-is rs (a .p) (c .before .before .before .before .is-set-kind .result) (c .before .before .before .before .is-set-kind .ensures) (c .before .before .before .before .before .before .kind-at .ensures) (c .before .before .before .if2 .left) in
+    = set-is rs (a .p) (c .before .before .before .before .is-set-kind .result)
+    (c .before .before .before .before .is-set-kind .ensures)
+    (c .before .before .before .before .before .before .kind-at .ensures) (c .before .before .before .if2 .left) in
     let (q, m, create, on, at)
     = target-at d rs h (a .p) l (now (a .places)) (now (a .numbers)) (now (a .counts)) (now (a .members)) x y set in
     let is : f .result ≡ q = (rw (s7 .spot .ensures) at (f .ensures)) ∙ at in
@@ -233,7 +238,8 @@ returns-3 c =
     let no : isCreate (recordAt rs (a .p)) ≡ false
     = ne-eqb (recordAt rs (a .p) .kind) createKind (λ y. s12 .if1 .left (s13 .kind-at .ensures ∙ y)) in
     let set : isSet (recordAt rs (a .p)) ≡ true
-    = set-is rs (a .p) (s11 .is-set-kind .result) (s11 .is-set-kind .ensures) (s13 .kind-at .ensures) (s10 .if2 .left) in
+    = set-is rs (a .p) (s11 .is-set-kind .result) (s11 .is-set-kind .ensures) (s13 .kind-at .ensures) (s10 .if2 .left)
+    in
     let (q, m, create, on, at)
     = target-at d rs h (a .p) l (now (a .places)) (now (a .numbers)) (now (a .counts)) (now (a .members)) x y set in
     let is : f .result ≡ q = (rw (s14 .spot .ensures) at (f .ensures)) ∙ at in

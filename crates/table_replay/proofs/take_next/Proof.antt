@@ -51,7 +51,8 @@ add-requires c κs =
     let s6 = c .before .before .before .before .before .before in
     let s7 = s6 .before in
     let s14 = s7 .before .before .before .before .before .before .before in
-    let s27 = s14 .before .before .before .before .before .before .before .before .before .before .before .before .before in
+    let s27 = s14 .before .before .before .before .before .before .before .before .before .before .before .before
+    .before in
     let s = s27 .before .before .before .before .before .before .before .before .before in
     let a = s .args in
     let t = tablesOf (a .c) (now (a .records)) (now (a .objects)) (now (a .groups)) in
@@ -99,7 +100,8 @@ returns c =
     let s15 = s8 .before .before .before .before .before .before .before in
     let s16 = s15 .before in
     let s23 = s16 .before .before .before .before .before .before .before in
-    let s36 = s23 .before .before .before .before .before .before .before .before .before .before .before .before .before in
+    let s36 = s23 .before .before .before .before .before .before .before .before .before .before .before .before
+    .before in
     let s = s36 .before .before .before .before .before .before .before .before .before in
     let a = s .args in
     let t = tablesOf (a .c) (now (a .records)) (now (a .objects)) (now (a .groups)) in

@@ -59,7 +59,8 @@ add-tallies c =
     omega (
       arith,
       aimed-low (now (s .args .recs)) (now (s .args .places)) (l .tallies) (s .args .n) (l .i) p (s .pre .0)
-          (c .before .before .before .before .before .before .loop-test .taken) (s .pre .2) (l .inv .2) (c .before .if1 .taken),
+          (c .before .before .before .before .before .before .loop-test .taken) (s .pre .2) (l .inv .2)
+          (c .before .if1 .taken),
       c .before .before .one-if .ensures .1,
     )
 
