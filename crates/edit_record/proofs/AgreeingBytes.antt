@@ -11,8 +11,8 @@ use lib.ListN.{length, getD, take, drop, List·getD-append}
 use lib.Seq.{getD-drop, getD-take}
 use borrow.Author.Tests.{eq-eqb, ne-eqb}
 use Rattle.math_lists.proofs.Booleans.{decide}
-use Rattle.edit_record.specs.Layout.{mostSites, vectorAt, targetAt, valueAt, recordLength, placeLength, countAt, membersAt}
-use Rattle.edit_record.specs.Layout.{memberLength, mostMembers, kindAt, limitedKind}
+use Rattle.edit_record.specs.Layout.{mostSites, vectorAt, targetAt, valueAt, recordLength, placeLength}
+use Rattle.edit_record.specs.Layout.{countAt, membersAt, memberLength, mostMembers, kindAt, limitedKind}
 use Rattle.edit_record.specs.RecordBytes.{two, four, counts, firstFours, limits, decodeOf, spanOf}
 
 -- the first n elements are the same

@@ -16,13 +16,7 @@ rel d test xs i j = test (getD xs i d) (getD xs j d)
 module _ {E : Type 0} (d : E) (conf saw lists : E → E → Bool) (lim : E → Bool) where
   -- what is known of them, by number
   abbrev pub boxOf : List E → Box
-  boxOf xs =
-      record {
-        plain = rel d conf xs;
-        seen = rel d saw xs;
-        limited = λ i. lim (getD xs i d);
-        named = rel d lists xs;
-      }
+  boxOf l = record { plain = rel d conf l; seen = rel d saw l; limited = λ i. lim (getD l i d); named = rel d lists l }
 
   -- the groups of all that have arrived, by the conflict that contexts bring
   unfoldable pub groupsOver : List E → List ℕ
