@@ -1,18 +1,21 @@
 // The edit record of document 01: sites and sequence numbers, a record's bytes to an edit and back, and answer 1.
+mod lists;
+mod writing;
+
+use lists::count_of;
+use lists::is_list_unfit;
+use lists::members_of;
+use writing::encode_fields;
+use writing::with_list;
 ghost use mathlib.Core.Path.{_≡_};
-ghost use Prim.Native.Nat.{ℕ, _+_, _*_, _/_, _%_, _≤_, _<_, _^_};
-ghost use mathlib.Core.List.{[], _∷_, _++_};
-ghost use lib.ListN.{length, getD, take, drop};
-ghost use mathlib.Core.Bool.{cond, not, _&&_, _||_};
-ghost use lib.Dec.{eqb, leb, ltb};
-ghost use Rattle.math_lists.specs.NumbersBelow.{some};
-ghost use Rattle.edit_record.specs.Layout.{mostSites, vectorAt, targetAt, recordLength, countAt, membersAt};
-ghost use Rattle.edit_record.specs.Layout.{mostMembers, placeLength, setKind, limitedKind};
-ghost use Rattle.edit_record.specs.RecordBytes.{two, four, counts, countBytes, firstFours, fourBytes, limits};
-ghost use Rattle.edit_record.specs.RecordBytes.{decodeOf, fieldBytes, placed, spanOf};
-ghost use Rattle.edit_record.specs.Answer1.{isLimited, isLayer, isAimed, entryOf, nonzeroPast};
-ghost use Rattle.edit_record.specs.Answer1.{lastEightZero, nameIn, listUnfit, unfit};
-ghost use Rattle.edit_record.specs.Answer1.{malformed};
+ghost use Prim.Native.Nat.{ℕ, _+_, _*_, _≤_, _<_, _^_};
+ghost use lib.ListN.{length, getD, drop};
+ghost use mathlib.Core.Bool.{_||_};
+ghost use lib.Dec.{eqb};
+ghost use Rattle.edit_record.specs.Layout.{mostSites, vectorAt, recordLength, setKind, limitedKind};
+ghost use Rattle.edit_record.specs.RecordBytes.{two, four, counts, decodeOf, placed, spanOf};
+ghost use Rattle.edit_record.specs.Answer1.{isLayer, isAimed, entryOf, nonzeroPast, lastEightZero, nameIn};
+ghost use Rattle.edit_record.specs.Answer1.{unfit, malformed};
 
 // The sites that a drawing has at most: the entries of a vector.
 pub const SITES: usize = 16;
@@ -147,46 +150,6 @@ fn vector_of(rec: &[u8]) -> [u16; SITES]
     v
 }
 
-// The count of a limited Set with its zero bytes, and 0 for every other kind.
-fn count_of(rec: &[u8]) -> u32
-    ensures { λ r. ⌜ r ≡ cond (limits (now (rec .entry))) (four (now (rec .entry)) countAt) 0 ⌝ }
-{
-    if byte_at(rec, AT_KIND) == LIMITED {
-        return four_at(rec, AT_COUNT);
-    }
-    0
-}
-
-// The first k members of a limited Set, and 0 for the others.
-fn first_members(rec: &[u8], k: usize) -> [u32; MEMBERS]
-    requires { ⌜ k ≤ mostMembers ⌝ }
-    ensures { λ r. ⌜ r ≡ firstFours mostMembers k (drop membersAt (now (rec .entry))) ⌝ }
-{
-    let mut m = [0u32; MEMBERS];
-    let mut i: usize = 0;
-    while i < k {
-        m[i] = four_at(rec, AT_MEMBERS + MEMBER * i);
-        i += 1;
-    }
-    m
-}
-
-// The members of a limited Set by the count that is stored, and zeros for every other kind.
-fn members_of(rec: &[u8]) -> [u32; MEMBERS]
-    ensures { λ r. ⌜ r ≡ firstFours mostMembers (cond (limits (now (rec .entry))) (two (now (rec .entry)) countAt) 0)
-        (drop membersAt (now (rec .entry))) ⌝ }
-{
-    if byte_at(rec, AT_KIND) != LIMITED {
-        return [0u32; MEMBERS];
-    }
-    let k = two_at(rec, AT_COUNT) as usize;
-    if k < MEMBERS {
-        first_members(rec, k)
-    } else {
-        first_members(rec, MEMBERS)
-    }
-}
-
 // The edit in the first bytes of rec, where a record is there whole.
 fn decode_whole(rec: &[u8]) -> Edit
     requires { ⌜ recordLength ≤ length (now rec) ⌝ }
@@ -231,76 +194,6 @@ pub fn decode(rec: &[u8]) -> Edit
     }
     let whole = padded(rec);
     decode_whole(&whole)
-}
-
-// The bytes before i as they stand, then these two; what stands behind is left open.
-fn with_two(bytes: [u8; PLACE], i: usize, low: u8, high: u8) -> [u8; PLACE]
-    requires { ⌜ i + 1 < placeLength ⌝ }
-    ensures { λ r. ⌜ take (i + 2) r ≡ take i bytes ++ (low ∷ high ∷ []) ⌝ }
-{
-    let mut out = bytes;
-    out[i] = low;
-    out[i + 1] = high;
-    out
-}
-
-// The bytes before i as they stand, then the two of a count.
-fn with_count(bytes: [u8; PLACE], i: usize, n: u16) -> [u8; PLACE]
-    requires { ⌜ i + 1 < placeLength ⌝ }
-    ensures { λ r. ⌜ take (i + 2) r ≡ take i bytes ++ countBytes (n ∷ []) ⌝ }
-{
-    with_two(bytes, i, (n % 256) as u8, (n / 256 % 256) as u8)
-}
-
-// The bytes before a vector as they stand, then those of its counts.
-fn with_vector(bytes: [u8; PLACE], v: [u16; SITES]) -> [u8; PLACE]
-    ensures { λ r. ⌜ take targetAt r ≡ take vectorAt bytes ++ countBytes v ⌝ }
-{
-    let mut out = bytes;
-    let mut i: usize = 0;
-    while i < SITES {
-        let next = with_count(out, AT_VECTOR + 2 * i, v[i]);
-        out = next;
-        i += 1;
-    }
-    out
-}
-
-// The bytes before i as they stand, then the four of a number.
-fn with_four(bytes: [u8; PLACE], i: usize, n: u32) -> [u8; PLACE]
-    requires { ⌜ i + 3 < placeLength ⌝ }
-    ensures { λ r. ⌜ take (i + 4) r ≡ take i bytes ++ fourBytes (n ∷ []) ⌝ }
-{
-    let low = with_count(bytes, i, (n % 65536) as u16);
-    with_count(low, i + 2, (n / 65536) as u16)
-}
-
-// The bytes of a record that every kind has; what stands behind is left open.
-fn encode_fields(e: Edit) -> [u8; PLACE]
-    ensures { λ r. ⌜ take recordLength r ≡ fieldBytes e ⌝ }
-{
-    let v = e.vector;
-    let author = with_two([0u8; PLACE], AT_KIND, e.kind, e.site.0);
-    let own = with_count(author, AT_SEQ, e.seq.0);
-    let seen = with_vector(own, v);
-    let target = with_two(seen, AT_TARGET, e.tsite.0, e.key);
-    let named = with_count(target, AT_TARGET_SEQ, e.tseq.0);
-    let low = with_count(named, AT_VALUE, (e.value % 65536) as u16);
-    with_count(low, AT_VALUE + 2, (e.value / 65536) as u16)
-}
-
-// The bytes before the count of a list as they stand, then those of the count and of the members.
-fn with_list(bytes: [u8; PLACE], count: u32, members: [u32; MEMBERS]) -> [u8; PLACE]
-    ensures { λ r. ⌜ r ≡ take recordLength bytes ++ fourBytes (count ∷ members) ⌝ }
-{
-    let mut out = with_four(bytes, AT_COUNT, count);
-    let mut i: usize = 0;
-    while i < MEMBERS {
-        let next = with_four(out, AT_MEMBERS + MEMBER * i, members[i]);
-        out = next;
-        i += 1;
-    }
-    out
 }
 
 // The bytes of a place that holds an edit.
@@ -369,50 +262,6 @@ pub fn name_in(m: u32) -> u32
     ensures { λ r. ⌜ r ≡ nameIn m ⌝ }
 {
     m % 256 * 65536 + m / 65536
-}
-
-// Whether the zero byte of a member is none.
-fn is_zero_byte_wrong(members: [u32; MEMBERS]) -> bool
-    ensures { λ r. ⌜ r ≡ some mostMembers (λ i. not (eqb (getD members i 0 / 256 % 256) 0)) ⌝ }
-{
-    let mut found = false;
-    let mut i: usize = 0;
-    while i < MEMBERS {
-        found = found | (members[i] / 256 % 256 != 0);
-        i += 1;
-    }
-    found
-}
-
-// Whether of two members that follow each other below count the second has no larger name.
-fn is_order_wrong(count: usize, members: [u32; MEMBERS]) -> bool
-    requires { ⌜ count ≤ mostMembers ⌝ }
-    ensures { λ r. ⌜ r ≡ some mostMembers (λ i. ltb (i + 1) count
-        && leb (nameIn (getD members (i + 1) 0)) (nameIn (getD members i 0))) ⌝ }
-{
-    let mut found = false;
-    let mut i: usize = 0;
-    while i + 1 < count {
-        found = found | (name_in(members[i + 1]) <= name_in(members[i]));
-        i += 1;
-    }
-    found
-}
-
-// Whether the edit is a limited Set whose list is wrong: every other kind is done with at once.
-fn is_list_unfit(e: Edit) -> bool
-    ensures { λ r. ⌜ r ≡ (isLimited e && listUnfit e) ⌝ }
-{
-    if e.kind != LIMITED {
-        return false;
-    }
-    if MEMBERS < e.count as usize {
-        return true;
-    }
-    let members = e.members;
-    let zero = is_zero_byte_wrong(members);
-    let order = is_order_wrong(e.count as usize, members);
-    zero | order
 }
 
 // Whether answer 1 is given to an edit of the right length, in a drawing of n sites.

@@ -1,8 +1,8 @@
--- `edit_record::with_count` meets its contract. Assumes nothing.
+-- `edit_record::writing::with_count` meets its contract. Assumes nothing.
 use borrow.Author.Needs.{needs}
 use Rattle.edit_record.specs.RecordBytes.{countBytes}
-use Rattle.edit_record.proofs.with_count.Statement.{statement}
-use Rattle.edit_record.proofs.with_count.Tie as tie
+use Rattle.edit_record.proofs.writing.with_count.Statement.{statement}
+use Rattle.edit_record.proofs.writing.with_count.Tie as tie
 
 cast-with-two : tie.Need-cast-with-two
 cast-with-two c = search needs

@@ -1,4 +1,4 @@
--- `edit_record::first_members` meets its contract: after i turns the first i members are written. Assumes nothing.
+-- `edit_record::lists::first_members` meets its contract: after i turns the first i members are written. Assumes nothing.
 use mathlib.Core.Path.{_≡_, sym, ap, _∙_}
 use Prim.Native.Nat.{_*_, _≤_, _-_}
 use native.Mathlib.Numerals.{add-one}
@@ -9,8 +9,8 @@ use borrow.Author.Needs.{needs}
 use Rattle.edit_record.specs.Layout.{mostMembers, membersAt}
 use Rattle.edit_record.specs.RecordBytes.{four, firstFours}
 use Rattle.edit_record.proofs.FoursInBytes.{four-drop, fours-none, fours-more, fours-length}
-use Rattle.edit_record.proofs.first_members.Statement.{statement}
-use Rattle.edit_record.proofs.first_members.Tie as tie
+use Rattle.edit_record.proofs.lists.first_members.Statement.{statement}
+use Rattle.edit_record.proofs.lists.first_members.Tie as tie
 
 abbrev Inv-loop : tie.InvT-loop
 Inv-loop rec k m₀ i₀ m i = (i ≤ k) × (m ≡ firstFours mostMembers i (drop membersAt rec))

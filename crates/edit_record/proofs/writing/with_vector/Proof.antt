@@ -1,4 +1,4 @@
--- `edit_record::with_vector` meets its contract: the bytes of the first i counts stand. Assumes nothing.
+-- `edit_record::writing::with_vector` meets its contract: the bytes of the first i counts stand. Assumes nothing.
 use mathlib.Core.Path.{_≡_, sym, ap, _∙_}
 use mathlib.Core.List.{List, _++_, append-nil}
 use Prim.Native.Nat.{ℕ, _≤_, _<_, _-_, _+_, _*_}
@@ -10,8 +10,8 @@ use borrow.Author.Needs.{needs}
 use Rattle.edit_record.specs.Layout.{mostSites, vectorAt}
 use Rattle.edit_record.specs.RecordBytes.{countBytes}
 use Rattle.edit_record.proofs.Encoding.{one-count-more}
-use Rattle.edit_record.proofs.with_vector.Statement.{statement}
-use Rattle.edit_record.proofs.with_vector.Tie as tie
+use Rattle.edit_record.proofs.writing.with_vector.Statement.{statement}
+use Rattle.edit_record.proofs.writing.with_vector.Tie as tie
 
 abbrev Inv-loop : tie.InvT-loop
 Inv-loop v out₀ i₀ out i =

@@ -1,10 +1,10 @@
--- `edit_record::count_of` meets its contract: the test is the definition's. Assumes nothing.
+-- `edit_record::lists::count_of` meets its contract: the test is the definition's. Assumes nothing.
 use mathlib.Core.Path.{_∙_}
 use denote.Ref.{now}
 use borrow.Author.Needs.{needs}
 use Rattle.edit_record.proofs.AgreeingBytes.{limits-on, limits-off}
-use Rattle.edit_record.proofs.count_of.Statement.{statement}
-use Rattle.edit_record.proofs.count_of.Tie as tie
+use Rattle.edit_record.proofs.lists.count_of.Statement.{statement}
+use Rattle.edit_record.proofs.lists.count_of.Tie as tie
 
 byte-at-requires : tie.Need-byte-at-requires
 byte-at-requires c κs = search needs

@@ -1,4 +1,4 @@
--- `edit_record::with_list` meets its contract: the bytes of the count and of the first i members stand. Assumes
+-- `edit_record::writing::with_list` meets its contract: the bytes of the count and of the first i members stand. Assumes
 -- nothing.
 use mathlib.Core.Path.{_≡_, sym, ap, _∙_}
 use mathlib.Core.List.{List, _++_, append-nil}
@@ -11,8 +11,8 @@ use borrow.Author.Needs.{needs}
 use Rattle.edit_record.specs.Layout.{recordLength, membersAt, mostMembers, placeLength}
 use Rattle.edit_record.specs.RecordBytes.{fourBytes}
 use Rattle.edit_record.proofs.Encoding.{one-four-more, count-first}
-use Rattle.edit_record.proofs.with_list.Statement.{statement}
-use Rattle.edit_record.proofs.with_list.Tie as tie
+use Rattle.edit_record.proofs.writing.with_list.Statement.{statement}
+use Rattle.edit_record.proofs.writing.with_list.Tie as tie
 
 abbrev Inv-loop : tie.InvT-loop
 Inv-loop count members out₀ i₀ out i =

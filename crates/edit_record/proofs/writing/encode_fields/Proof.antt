@@ -1,9 +1,9 @@
--- `edit_record::encode_fields` meets its contract: each part of the record stands behind those before it. Assumes
+-- `edit_record::writing::encode_fields` meets its contract: each part of the record stands behind those before it. Assumes
 -- nothing.
 use Rattle.edit_record.proofs.Encoding.{parts-in-turn}
 use borrow.Author.Needs.{needs}
-use Rattle.edit_record.proofs.encode_fields.Statement.{statement}
-use Rattle.edit_record.proofs.encode_fields.Tie as tie
+use Rattle.edit_record.proofs.writing.encode_fields.Statement.{statement}
+use Rattle.edit_record.proofs.writing.encode_fields.Tie as tie
 
 with-two-requires : tie.Need-with-two-requires
 with-two-requires c κs = search needs

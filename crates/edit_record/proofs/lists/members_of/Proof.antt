@@ -1,4 +1,4 @@
--- `edit_record::members_of` meets its contract: the test is the definition's, and of more members than there are
+-- `edit_record::lists::members_of` meets its contract: the test is the definition's, and of more members than there are
 -- places those that have one are read. Assumes nothing.
 use mathlib.Core.Path.{sym, _∙_}
 use native.Mathlib.Omega.{arith}
@@ -9,8 +9,8 @@ use Rattle.edit_record.specs.RecordBytes.{two}
 use Rattle.edit_record.proofs.FoursInBytes.{fours-none, fours-most}
 use Rattle.edit_record.proofs.AgreeingBytes.{limits-on, limits-off}
 use borrow.Author.Needs.{needs}
-use Rattle.edit_record.proofs.members_of.Statement.{statement}
-use Rattle.edit_record.proofs.members_of.Tie as tie
+use Rattle.edit_record.proofs.lists.members_of.Statement.{statement}
+use Rattle.edit_record.proofs.lists.members_of.Tie as tie
 
 byte-at-requires : tie.Need-byte-at-requires
 byte-at-requires c κs = search needs

@@ -1,4 +1,4 @@
--- `edit_record::is_order_wrong` meets its contract: `found` is what the definition says of the first i members, and
+-- `edit_record::lists::is_order_wrong` meets its contract: `found` is what the definition says of the first i members, and
 -- past the last but one none counts. Assumes nothing.
 use mathlib.Core.Path.{_≡_, _∙_}
 use Prim.Native.Nat.{_+_, _≤_, _-_}
@@ -9,8 +9,8 @@ use borrow.Author.Tests.{lt-ltb}
 use Rattle.math_lists.specs.NumbersBelow.{some}
 use Rattle.edit_record.specs.Layout.{mostMembers}
 use Rattle.edit_record.proofs.MembersTested.{isOutOfOrder, none-behind}
-use Rattle.edit_record.proofs.is_order_wrong.Statement.{statement}
-use Rattle.edit_record.proofs.is_order_wrong.Tie as tie
+use Rattle.edit_record.proofs.lists.is_order_wrong.Statement.{statement}
+use Rattle.edit_record.proofs.lists.is_order_wrong.Tie as tie
 
 abbrev Inv-loop : tie.InvT-loop
 Inv-loop count members found₀ i₀ found i = (i ≤ mostMembers) × (found ≡ some i (isOutOfOrder count members))

@@ -1,9 +1,9 @@
--- `edit_record::with_two` meets its contract: two stores, one after the other. Assumes nothing.
+-- `edit_record::writing::with_two` meets its contract: two stores, one after the other. Assumes nothing.
 use native.Mathlib.Omega.{arith}
 use borrow.Author.Needs.{needs}
 use Rattle.edit_record.proofs.Encoding.{two-more}
-use Rattle.edit_record.proofs.with_two.Statement.{statement}
-use Rattle.edit_record.proofs.with_two.Tie as tie
+use Rattle.edit_record.proofs.writing.with_two.Statement.{statement}
+use Rattle.edit_record.proofs.writing.with_two.Tie as tie
 
 array-write-out : tie.Need-array-write-out
 array-write-out c = search needs

@@ -1,12 +1,12 @@
--- `edit_record::is_list_unfit` meets its contract: a kind that lists nothing and a count too large are done with at
+-- `edit_record::lists::is_list_unfit` meets its contract: a kind that lists nothing and a count too large are done with at
 -- once. Assumes nothing.
 use borrow.Author.Tests.{eq-eqb, ne-eqb, lt-ltb, le-ltb}
 use native.Mathlib.Omega.{arith}
 use Rattle.edit_record.specs.Layout.{limitedKind, mostMembers}
 use Rattle.edit_record.specs.Answer1.{listUnfit}
 use borrow.Author.Needs.{needs}
-use Rattle.edit_record.proofs.is_list_unfit.Statement.{statement}
-use Rattle.edit_record.proofs.is_list_unfit.Tie as tie
+use Rattle.edit_record.proofs.lists.is_list_unfit.Statement.{statement}
+use Rattle.edit_record.proofs.lists.is_list_unfit.Tie as tie
 
 returns : tie.Need-returns
 returns c = rw (ne-eqb (c .before .before .args .e .kind) limitedKind (c .if1 .taken))

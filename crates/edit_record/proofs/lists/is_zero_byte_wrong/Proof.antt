@@ -1,4 +1,4 @@
--- `edit_record::is_zero_byte_wrong` meets its contract: `found` is what the definition says of the first i members.
+-- `edit_record::lists::is_zero_byte_wrong` meets its contract: `found` is what the definition says of the first i members.
 -- Assumes nothing.
 use mathlib.Core.Path.{_≡_}
 use Prim.Native.Nat.{_≤_, _-_}
@@ -8,8 +8,8 @@ use borrow.Author.Needs.{needs}
 use Rattle.math_lists.specs.NumbersBelow.{some}
 use Rattle.edit_record.specs.Layout.{mostMembers}
 use Rattle.edit_record.proofs.MembersTested.{hasWrongByte}
-use Rattle.edit_record.proofs.is_zero_byte_wrong.Statement.{statement}
-use Rattle.edit_record.proofs.is_zero_byte_wrong.Tie as tie
+use Rattle.edit_record.proofs.lists.is_zero_byte_wrong.Statement.{statement}
+use Rattle.edit_record.proofs.lists.is_zero_byte_wrong.Tie as tie
 
 abbrev Inv-loop : tie.InvT-loop
 Inv-loop members found₀ i₀ found i = (i ≤ mostMembers) × (found ≡ some i (hasWrongByte members))

@@ -1,12 +1,12 @@
--- `edit_record::with_four` meets its contract: two counts, one after the other. Assumes nothing.
+-- `edit_record::writing::with_four` meets its contract: two counts, one after the other. Assumes nothing.
 use mathlib.Core.Path.{_≡_}
 use Prim.Native.Nat.{_+_}
 use native.Mathlib.Omega.{arith}
 use lib.ListN.{take}
 use borrow.Author.Needs.{needs}
 use Rattle.edit_record.proofs.Encoding.{four-of-counts}
-use Rattle.edit_record.proofs.with_four.Statement.{statement}
-use Rattle.edit_record.proofs.with_four.Tie as tie
+use Rattle.edit_record.proofs.writing.with_four.Statement.{statement}
+use Rattle.edit_record.proofs.writing.with_four.Tie as tie
 
 cast-with-count : tie.Need-cast-with-count
 cast-with-count c = search needs
