@@ -26,7 +26,7 @@ use Rattle.math_lists.proofs.GrownAtEnd.{filter-few}
 use Rattle.math_lists.proofs.NumbersBelow.{some-off}
 use Rattle.edit_record.specs.declared.Edit.{Edit}
 use Rattle.edit_record.specs.Layout.{mostSites}
-use Rattle.edit_record.specs.Answer1.{isCreate, isSet, isLimited, unfit, nameOf}
+use Rattle.edit_record.specs.Answer1.{isCreate, isSet, unfit, nameOf}
 use Rattle.edit_record.proofs.WellFormed.{WellFormed, well-formed}
 use Rattle.edit_causal.specs.Causal.{sameEdit, comesBefore, hasSeen}
 use Rattle.math_contexts.specs.NamedVersions.{namesNone}

@@ -1,8 +1,7 @@
 -- The Sets of an object, among edits that have no order in them but a causal one, are a lawful box whose order is
 -- causal. Assumes at most 16 sites.
 use mathlib.Core.Path.{_≡_, sym, ap, _∙_}
-use mathlib.Core.Logic.{inl, inr}
-use mathlib.Core.Bool.{true, false, not, _&&_}
+use mathlib.Core.Bool.{true, false, not}
 use mathlib.Core.List.{List}
 use Prim.Native.Nat.{ℕ, _≤_, _<_}
 use native.Mathlib.Omega.{arith}
@@ -12,7 +11,7 @@ use borrow.Author.Tests.{leb-true, le-leb, ltb-false}
 use Rattle.math_lists.specs.SortedLists.{elem, filter}
 use Rattle.math_lists.proofs.Booleans.{clash, off, both}
 use Rattle.math_lists.proofs.NumbersBelow.{none-at}
-use Rattle.math_lists.proofs.PairsInList.{pairs-at, pairs-chosen, pairs-two}
+use Rattle.math_lists.proofs.PairsInList.{pairs-at, pairs-chosen}
 use Rattle.math_lists.proofs.ListMembers.{mem-place, place-of, chosen-at}
 use Rattle.math_contexts.specs.Box.{Lawful}
 use Rattle.math_contexts.specs.Box as box
@@ -33,7 +32,7 @@ use Rattle.edit_history.specs.EditsHeld.{isSetOn, setsOn}
 use Rattle.edit_history.specs.Answers2to5.{largerSomewhere, tears}
 use Rattle.group_true.proofs.ProperSets.{seen-agrees}
 use Rattle.math_lists.specs.Rearranged.{Mem}
-use Rattle.demand_any_order.specs.Settled.{MayPrecede, Causal, Differ, Apart, Numbered, Known, Settled}
+use Rattle.demand_any_order.specs.Settled.{MayPrecede, Causal, Apart, Numbered, Known, Settled}
 use Rattle.demand_any_order.proofs.Identities.{same-on, one-edit}
 
 -- what is asked of the edits, in any order

@@ -1,7 +1,7 @@
 -- Req 06 in the list over the edits held: a drawing without kind 3 lists as before, its groups being those of document
 -- 01's conflict of two edits. Assumes nothing.
 use mathlib.Core.Path.{_≡_, refl, ap}
-use mathlib.Core.Bool.{Bool, false}
+use mathlib.Core.Bool.{false}
 use mathlib.Core.List.{List, _∷_, flatMap}
 use Prim.Native.Nat.{ℕ, _<_}
 use lib.ListN.{length, getD}

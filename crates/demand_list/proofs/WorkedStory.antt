@@ -2,7 +2,6 @@
 -- recolours one, and the other keeps its colour. By computing, as `WorkedCases`. Assumes nothing.
 use mathlib.Core.Path.{refl}
 use mathlib.Core.List.{flatMap}
-use lib.ListN.{drop}
 use Rattle.math_lists.specs.NumbersBelow.{some, all, sum, keep}
 use Rattle.math_lists.specs.SortedLists.{any, filter, insertBy, gatherBy, insert, gather}
 use Rattle.math_maximal.specs.MaximalSets.{with}

@@ -1,16 +1,15 @@
 -- The laws of conflict among the Sets ms of an object: nothing else looks into its definition. What is assumed of the
 -- Sets stands in each law.
-use mathlib.Core.Path.{_≡_, ap, _∙_}
+use mathlib.Core.Path.{_≡_}
 use mathlib.Core.Bool.{false}
-use mathlib.Core.List.{List, [], _∷_, _++_}
-use Prim.Native.Nat.{ℕ, suc, _<_}
+use mathlib.Core.List.{List, _++_}
+use Prim.Native.Nat.{ℕ, _<_}
 use native.Mathlib.Omega.{arith}
 use lib.ListN.{length, getD, length-append}
 use Rattle.math_lists.proofs.Booleans.{clash, off}
 use Rattle.math_contexts.specs.Box.{Lawful}
 use Rattle.math_contexts.specs.BoxByArrival.{rel}
 use Rattle.math_contexts.specs.SameSets.{SameBelow, SameSets}
-use Rattle.math_contexts.specs.Versions.{AllNamed}
 use Rattle.math_contexts.specs.NamedVersions.{contextsNamed}
 use Rattle.math_contexts.proofs.BoxGrows.{first-keep}
 use Rattle.math_contexts.proofs.ConflictsNamed.{

@@ -1,24 +1,21 @@
 -- The sum over a list of edits: it is the sum of the words of their records, and the sum of two lists one after the
 -- other is the wrapped sum of the two. Assumes nothing.
 use mathlib.Core.Path.{_≡_, refl, ap, _∙_}
-use mathlib.Core.Bool.{true, _||_}
-use mathlib.Core.Logic.{_⊎_, inl, inr}
+use mathlib.Core.Bool.{true}
+use mathlib.Core.Logic.{inl, inr}
 use mathlib.Core.List.{List, [], _∷_, _++_}
 use Prim.Native.Nat.{ℕ, zero, suc, _+_, _-_, _*_, _/_, _≤_}
 use native.Mathlib.Omega.{arith}
 use lib.ListN.{getD, drop}
 use lib.Seq.{getD-drop}
-use borrow.Author.Tests.{not-true}
 use Rattle.math_lists.specs.NumbersBelow.{sum}
-use Rattle.math_lists.proofs.Booleans.{decide, neither}
-use Rattle.math_lists.proofs.NumbersBelow.{all-at, sum-same}
+use Rattle.math_lists.proofs.Booleans.{decide}
+use Rattle.math_lists.proofs.NumbersBelow.{sum-same}
 use Rattle.edit_record.specs.declared.Edit.{Edit}
 use Rattle.edit_record.specs.Layout.{recordLength, countAt, membersAt, mostMembers, placeLength}
 use Rattle.edit_record.specs.RecordBytes.{two, four, counts, firstFours, limits, decodeOf, spanOf}
-use Rattle.edit_record.specs.Answer1.{unfit}
 use Rattle.edit_record.proofs.FoursInBytes.{fours-at, fours-past}
 use Rattle.edit_record.proofs.AgreeingBytes.{span-limited, span-plain}
-use Rattle.edit_record.proofs.WellFormed.{few-members}
 use Rattle.edit_history.specs.EditsHeld.{recordAt, editsOf}
 use Rattle.edit_history.specs.Answers2to5.{recordsPass}
 use Rattle.edit_history.proofs.RecordsPassed.{few-at}

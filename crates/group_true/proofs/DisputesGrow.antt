@@ -29,7 +29,7 @@ use Rattle.edit_record.specs.RecordBytes.{noEdit}
 use Rattle.edit_record.specs.Answer1.{isLimited}
 use Rattle.group_true.specs.TrueGroups.{groupsOf}
 use Rattle.group_true.specs.Disputed.{isDisputed, disputedOf}
-use Rattle.group_true.proofs.GroupsGrow.{members-arrived, members-free}
+use Rattle.group_true.proofs.GroupsGrow.{members-free}
 
 -- ---- in dispute
 

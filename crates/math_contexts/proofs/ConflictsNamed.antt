@@ -3,20 +3,18 @@
 -- assumed stands at the head of each part.
 use mathlib.Core.Path.{_≡_, refl, sym, ap, ap₂, _∙_, fun-ext}
 use mathlib.Core.Logic.{_⊎_, inl, inr}
-use mathlib.Core.Bool.{Bool, true, false, _&&_, cond, Bool·beq}
+use mathlib.Core.Bool.{Bool, true, false, _&&_, Bool·beq}
 use mathlib.Core.List.{List, [], _∷_, _++_}
 use Prim.Native.Nat.{ℕ, zero, suc, _≤_, _<_}
 use native.Mathlib.Omega.{arith}
-use lib.Dec.{eqb}
 use lib.ListN.{length, getD, length-append, List·getD-append, List·getD-eq-default}
 use lib.Seq.{getD-append-seam}
-use Rattle.math_lists.specs.NumbersBelow.{some, all}
+use Rattle.math_lists.specs.NumbersBelow.{some}
 use Rattle.math_lists.specs.SortedLists.{filter}
-use Rattle.math_lists.proofs.Booleans.{clash, off, same-test, both, and-on}
+use Rattle.math_lists.proofs.Booleans.{clash, same-test, both, and-on}
 use Rattle.math_lists.proofs.NumbersBelow.{some-on, some-at, some-same, all-same}
 use Rattle.math_lists.proofs.LastBelow.{last}
-use Rattle.math_maximal.specs.MaximalSets.{with}
-use Rattle.math_maximal.specs.Groups.{bit, below, groups}
+use Rattle.math_maximal.specs.Groups.{bit, below}
 use Rattle.math_maximal.proofs.Bits.{bit-none}
 use Rattle.math_maximal.proofs.MaximalSets.{with-cases, with-new}
 use Rattle.math_maximal.proofs.Groups.{groups-same}

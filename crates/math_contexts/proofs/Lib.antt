@@ -13,10 +13,8 @@ pub mod ContextsAnyOrder
 pub mod LaterSets
 pub mod VersionsGrow
 pub mod LawfulBox
-pub mod PlainBox
 pub mod DisputedByArrival
 pub mod BoxGrows
-pub mod ArrivalStep
 pub mod ArrivalsAnyOrder
 pub mod ContextsByMasks
 pub mod NamesByMasks

@@ -1,6 +1,6 @@
 -- What is judged of an edit where no Set of its object is limited and it is not: document 01's conflicts are all that
 -- there are. Assumes nothing.
-use mathlib.Core.Path.{_≡_, sym, _∙_}
+use mathlib.Core.Path.{_≡_, sym}
 use mathlib.Core.Bool.{true, false, not, _||_}
 use mathlib.Core.List.{List}
 use Prim.Native.Nat.{ℕ, _<_}

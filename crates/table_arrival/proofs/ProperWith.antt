@@ -1,9 +1,9 @@
 -- The Sets of an object at sound tables are proper, and with an arriving edit too, if none of 1 to 5 and 16 is given to
 -- it; so what the code judges of an edit is what the definitions say of it. Assumes nothing.
-use mathlib.Core.Path.{_≡_, ap, subst, _∙_}
-use mathlib.Core.Bool.{Bool, true, false}
-use mathlib.Core.List.{List, [], _∷_, _++_}
-use Prim.Native.Nat.{ℕ, suc}
+use mathlib.Core.Path.{_≡_, subst}
+use mathlib.Core.Bool.{true, false}
+use mathlib.Core.List.{[], _∷_, _++_}
+use Prim.Native.Nat.{suc}
 use native.Mathlib.Omega.{arith}
 use lib.ListN.{length, length-append}
 use Rattle.math_contexts.specs.Box.{Lawful}

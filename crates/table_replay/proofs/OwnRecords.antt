@@ -4,14 +4,12 @@ use mathlib.Core.Path.{_≡_, refl, sym, ap, ap₂, _∙_}
 use mathlib.Core.Logic.{inl, inr}
 use mathlib.Core.Bool.{Bool, true, false, cond}
 use mathlib.Core.List.{List, [], _∷_, _++_}
-use Prim.Native.Nat.{ℕ, zero, suc, _+_, _*_, _≤_, _<_}
+use Prim.Native.Nat.{ℕ, zero, suc, _+_, _<_}
 use native.Mathlib.Omega.{arith}
 use native.Mathlib.Numerals.{add-one}
-use lib.ListN.{length}
 use lib.Dec.{eqb}
 use borrow.Author.Tests.{eqb-true, eqb-false, eq-eqb}
 use Rattle.math_lists.proofs.LastBelow.{last}
-use Rattle.edit_record.specs.Layout.{placeLength}
 use Rattle.edit_record.specs.declared.Edit.{Edit}
 use Rattle.edit_record.specs.RecordBytes.{decodeOf}
 use Rattle.edit_history.specs.EditsHeld.{bytesAt, editsOf}
