@@ -9,7 +9,7 @@
 #include "compare.h"
 #include "inputs.h"
 
-enum { FILES = 6, BOXES = 5, DRAWINGS = 16, ARRIVALS = 100, ROUNDS = 9, BATCH_MS = 20, GROUPS = 32 };
+enum { FILES = 9, BOXES = 6, DRAWINGS = 32, ARRIVALS = 100, ROUNDS = 9, BATCH_MS = 20, GROUPS = 32 };
 
 /* What a task is done on, and what it may change. A task undoes what it changed, so that it can be done again. */
 struct scene {
@@ -46,7 +46,7 @@ static void do_arrive(const struct calls *c, struct scene *s) {
     uint16_t entry[3];
     memcpy(entry, d->objects + 3 * o, sizeof entry);
     memcpy(row, d->groups + GROUPS * o, sizeof row);
-    c->arrive(&d->counters, TABLES(d), w->records + at, SPIRESLATE_RECORD);
+    c->arrive(&d->counters, TABLES(d), w->records + at, record_length(w->records + at));
     d->counters = counters;
     memset(d->records + at, 0, SPIRESLATE_PLACE);
     memcpy(d->objects + 3 * o, entry, sizeof entry);
@@ -79,7 +79,7 @@ static void do_groups(const struct calls *c, struct scene *s) {
 /* The tables of a file before and after its last record, and a record that finds them full. */
 static void set_scene(struct scene *s, void (*make)(struct file *)) {
     make(&s->file);
-    if (s->file.sites <= SPIRESLATE_OLD_SITES) file_shorten(&s->old, &s->file);
+    if (file_has_old(&s->file)) file_shorten(&s->old, &s->file);
     compare_file(&s->file);
     struct file short_file = s->file, long_file = s->file;
     short_file.records--;
@@ -126,7 +126,7 @@ static double measure(const char *call, task *t, struct scene *s) {
         if (a < best_a) best_a = a;
         if (b < best_b) best_b = b;
     }
-    printf("%-22s %-24s %12.2f %12.2f %8.2f\n", call, s->file.name, best_a * 1e6, best_b * 1e6, best_a / best_b);
+    printf("%-22s %-26s %12.2f %12.2f %8.2f\n", call, s->file.name, best_a * 1e6, best_b * 1e6, best_a / best_b);
     fflush(stdout);
     return best_a / best_b;
 }
@@ -134,7 +134,7 @@ static double measure(const char *call, task *t, struct scene *s) {
 /* The name of a drawing, and line 0 of its list. */
 static void print_drawing(const struct scene *s) {
     struct spireslate_write_answer w = plain.line(s->whole.counters, TABLES(&s->whole), 0, output, sizeof output, 0);
-    printf("%-24s %.*s", s->file.name, (int)w.bytes, (const char *)output);
+    printf("%-26s %.*s", s->file.name, (int)w.bytes, (const char *)output);
 }
 
 static const struct {
@@ -147,7 +147,8 @@ static const struct {
 };
 
 static void (*const makers[FILES])(struct file *) = {
-    make_many, make_settled, make_disputed, make_many_wide, make_wide, make_layers,
+    make_many,   make_settled, make_disputed,    make_many_wide,  make_wide,
+    make_layers, make_split,   make_split_boxes, make_recoloured,
 };
 
 /* Boxes whose groups are worked out with no arrival order, and the answer. */
@@ -156,7 +157,7 @@ static const struct {
     unsigned answer;
 } box_makers[BOXES] = {
     {make_calm, SPIRESLATE_DONE},     {make_row, SPIRESLATE_DONE},     {make_sixteen, SPIRESLATE_DONE},
-    {make_pairs, SPIRESLATE_CROWDED}, {make_hard, SPIRESLATE_CROWDED},
+    {make_pairs, SPIRESLATE_CROWDED}, {make_hard, SPIRESLATE_CROWDED}, {make_branches, SPIRESLATE_DONE},
 };
 
 static void set_box(struct scene *s, unsigned which) {
@@ -178,7 +179,7 @@ int main(void) {
     compare_random(DRAWINGS, ARRIVALS);
     printf("Every answer, table and output of both implementations is the same. The drawings:\n\n");
     for (unsigned i = 0; i < FILES; i++) print_drawing(&scenes[i]);
-    printf("\n%-22s %-24s %12s %12s %8s\n", "call", "drawing", "proved, us", "plain, us", "ratio");
+    printf("\n%-22s %-26s %12s %12s %8s\n", "call", "drawing", "proved, us", "plain, us", "ratio");
     for (unsigned t = 0; t < sizeof tasks / sizeof *tasks; t++) {
         for (unsigned i = 0; i < FILES; i++) {
             if (tasks[t].task == do_read_old && scenes[i].old.length == 0) continue;

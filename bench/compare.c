@@ -7,6 +7,7 @@
 #include <string.h>
 
 #include "calls.h"
+#include "versions.h"
 
 enum { DAMAGES = 64, MARGIN = 64 };
 
@@ -80,9 +81,19 @@ static void compare_engines(const struct drawing *d) {
     compare_groups(d, random_below(256), random_below(65536), 0);
 }
 
+/* The bytes of the block of a drawing; of an unsound one it is some number that is not too large. */
+static size_t block_length(const struct drawing *d) {
+    size_t length = SPIRESLATE_TRAILER;
+    for (unsigned i = 0; i < d->counters.records && i < MOST_RECORDS; i++) {
+        size_t bytes = record_length(d->records + (size_t)i * SPIRESLATE_PLACE);
+        length += bytes <= SPIRESLATE_PLACE ? bytes : SPIRESLATE_PLACE;
+    }
+    return length;
+}
+
 /* Everything that is asked of a drawing, with room and without. */
 static void compare_views(const struct drawing *d) {
-    size_t block = (size_t)d->counters.records * SPIRESLATE_RECORD + SPIRESLATE_TRAILER, start = random_below(MARGIN);
+    size_t block = block_length(d), start = random_below(MARGIN);
     compare_check(d);
     compare_engines(d);
     compare_write(d, start + block, start);
@@ -136,7 +147,7 @@ static void compare_damaged(struct drawing *d, const uint8_t *given, size_t leng
     }
 }
 
-/* The old block of a file of eight sites at most gives the same drawing; then it is damaged. */
+/* The old block of a file that has one gives the same drawing; then it is damaged. */
 static void compare_old(const struct file *f, const struct drawing *same) {
     static struct drawing d;
     static struct old_file old;
@@ -152,10 +163,10 @@ void compare_file(const struct file *f) {
     compare_views(&d);
     must(compare_open(&e, f->sites) == SPIRESLATE_DONE, "a drawing is not opened");
     for (unsigned i = 0; i < f->records; i++)
-        must(compare_arrive(&e, f->bytes + i * SPIRESLATE_RECORD, SPIRESLATE_RECORD) == SPIRESLATE_DONE,
+        must(compare_arrive(&e, file_record(f, i), record_length(file_record(f, i))) == SPIRESLATE_DONE,
              "an edit of the benchmark is refused");
     must_same(&d, &e, "a file and its records one by one");
-    if (f->sites <= SPIRESLATE_OLD_SITES) compare_old(f, &e);
+    if (file_has_old(f)) compare_old(f, &e);
     compare_damaged(&d, f->bytes, f->length);
 }
 
@@ -220,61 +231,86 @@ static void compare_lengths(const struct drawing *given, const uint8_t *record) 
 
 /* Hands in a record with one byte changed, or of another length, or one that was handed in before. */
 static void compare_wrong_arrival(struct drawing *d, const struct file *f, const uint8_t *record) {
-    uint8_t wrong[2 * SPIRESLATE_RECORD] = {0};
-    memcpy(wrong, record, SPIRESLATE_RECORD);
-    switch (random_below(4)) {
+    uint8_t wrong[2 * SPIRESLATE_PLACE] = {0};
+    const uint8_t *other = file_record(f, random_below(f->records));
+    size_t length = record_length(record), from = length > SPIRESLATE_RECORD ? random_below(2) * SPIRESLATE_RECORD : 0;
+    memcpy(wrong, record, length);
+    switch (random_below(5)) {
     case 0: compare_arrive(d, wrong, random_below(sizeof wrong)); break;
-    case 1: compare_arrive(d, f->bytes + random_below(f->records) * SPIRESLATE_RECORD, SPIRESLATE_RECORD); break;
+    case 1: compare_arrive(d, wrong, random_below(2) == 0 ? SPIRESLATE_PLACE : SPIRESLATE_RECORD); break;
+    case 2: compare_arrive(d, other, record_length(other)); break;
     default:
-        wrong[random_below(SPIRESLATE_RECORD)] = (uint8_t)random_below(random_below(2) == 0 ? 256 : 4);
-        compare_arrive(d, wrong, SPIRESLATE_RECORD);
+        /* of a limited Set every other time in its list */
+        wrong[from + random_below((unsigned)(length - from))] = (uint8_t)random_below(random_below(2) == 0 ? 256 : 4);
+        compare_arrive(d, wrong, random_below(2) == 0 ? length : record_length(wrong) % sizeof wrong);
     }
 }
 
-/* The next edit of a random site: a Create, or a Set or a layer edit on a random Create, seen or not, or on itself. A
-   drawing that has an old block gets no layer edits. */
-static const uint8_t *make_random(struct file *f, unsigned site) {
+/* Limits the last Set, of the box s.q by a site, to a version that this site has before it; now and then to none. */
+static const uint8_t *limit_random(struct file *f, unsigned site, unsigned s, unsigned q) {
+    static struct file seen;
+    struct name members[SPIRESLATE_MEMBERS];
+    seen = *f;
+    seen.records--; /* its author had not yet seen the Set itself */
+    unsigned count = pick_version(&seen, site, s, q, members);
+    if (count > 0 && random_below(8) == 0) count--;
+    else if (count > 0 && random_below(16) == 0) members[random_below(count)].seq += 1 - 2 * random_below(2);
+    return file_limit(f, members, count);
+}
+
+/* The next edit of a random site: a Create, or a Set, a limited one or a layer edit on a random Create, seen or not,
+   or on itself. A drawing that is to have an old block gets Creates and Sets alone. */
+static const uint8_t *make_random(struct file *f, unsigned site, int is_old) {
     if (random_below(4) == 0) file_sync(f, site, random_below(f->sites));
     if (random_below(8) == 0) file_sync_all(f);
-    if (f->records == 0 || random_below(8) == 0) return file_create(f, site);
+    if (f->records == 0 || random_below(is_old ? 8 : 16) == 0) return file_create(f, site);
     if (random_below(16) == 0) return file_set(f, site, site, f->vectors[site][site] + 1u, 0, 0);
-    const uint8_t *a = f->bytes + random_below(f->records) * SPIRESLATE_RECORD;
-    if (a[0] != 1) a = f->bytes;
-    unsigned q = a[2] + 256u * a[3];
-    if (f->sites > SPIRESLATE_OLD_SITES && random_below(4) == 0)
-        return file_layer(f, site, a[1], q, (int)random_below(2));
-    return file_set(f, site, a[1], q, random_below(3), random_below(3));
+    const uint8_t *a = file_record(f, random_below(f->records));
+    if (a[0] != SPIRESLATE_CREATE) a = f->bytes;
+    unsigned s = a[1], q = a[2] + 256u * a[3];
+    if (!is_old && random_below(8) == 0) return file_layer(f, site, s, q, (int)random_below(2));
+    const uint8_t *set = file_set(f, site, s, q, random_below(3), random_below(3) * 8);
+    return !is_old && random_below(2) == 0 ? limit_random(f, site, s, q) : set;
+}
+
+/* Writes a drawing, reads that again, and the old block where there is one. */
+static void compare_stored(const struct drawing *d) {
+    static struct drawing e;
+    static struct file f;
+    size_t length = block_length(d);
+    must(compare_write(d, SPIRESLATE_BLOCK, 0) == SPIRESLATE_DONE, "a drawing is not written");
+    e = *d;
+    must(compare_read(&e, output_b, length) == SPIRESLATE_DONE, "a written drawing is not read");
+    must_same(d, &e, "a drawing and its block");
+    file_open(&f, "stored", d->counters.sites);
+    while (f.records < d->counters.records) file_put(&f, output_b + f.starts[f.records]);
+    file_close(&f);
+    if (file_has_old(&f)) compare_old(&f, d);
+    else compare_damaged(&e, f.bytes, f.length);
 }
 
 /* One random drawing. An edit that is refused is taken back by its site. */
-static void compare_drawing(unsigned sites, unsigned arrivals) {
+static void compare_drawing(unsigned sites, unsigned arrivals, int is_old) {
     static struct drawing d, e;
     static struct file f, before;
     compare_open(&d, 0);
     compare_open(&d, SPIRESLATE_SITES + 1);
     must(compare_open(&d, sites) == SPIRESLATE_DONE, "a drawing is not opened");
     file_open(&f, "random", sites);
-    for (unsigned i = 0; i < arrivals && f.records < 256; i++) {
+    for (unsigned i = 0; i < arrivals && f.records < MOST_RECORDS; i++) {
         before = f;
-        const uint8_t *record = make_random(&f, random_below(sites));
+        const uint8_t *record = make_random(&f, random_below(sites), is_old);
         e = d;
         damage(&e);
-        compare_arrive(&e, record, SPIRESLATE_RECORD);
+        compare_arrive(&e, record, record_length(record));
         if (i % 16 == 0) compare_views(&e);
         if (i % 16 == 0) compare_lengths(&d, record);
-        if (random_below(2) == 0) compare_wrong_arrival(&d, &f, record);
-        if (compare_arrive(&d, record, SPIRESLATE_RECORD) != SPIRESLATE_DONE) f = before;
+        e = d;
+        if (random_below(2) == 0) compare_wrong_arrival(&e, &f, record);
+        if (compare_arrive(&d, record, record_length(record)) != SPIRESLATE_DONE) f = before;
         if (i % 16 == 0) compare_views(&d);
     }
-    must(compare_write(&d, SPIRESLATE_BLOCK, 0) == SPIRESLATE_DONE, "a drawing is not written");
-    e = d;
-    size_t length = (size_t)d.counters.records * SPIRESLATE_RECORD + SPIRESLATE_TRAILER;
-    must(compare_read(&e, output_b, length) == SPIRESLATE_DONE, "a written drawing is not read");
-    must_same(&d, &e, "a drawing and its block");
-    /* a wrong record may have been taken in place of the right one */
-    memcpy(f.bytes, output_b, length);
-    f.records = d.counters.records;
-    if (sites <= SPIRESLATE_OLD_SITES) compare_old(&f, &d);
+    compare_stored(&d);
 }
 
 void compare_box(const struct drawing *d, unsigned answer) {
@@ -296,5 +332,8 @@ void compare_objects(void) {
 }
 
 void compare_random(unsigned drawings, unsigned arrivals) {
-    for (unsigned i = 0; i < drawings; i++) compare_drawing(1 + i % SPIRESLATE_SITES, arrivals);
+    for (unsigned i = 0; i < drawings; i++) {
+        unsigned sites = 1 + i % SPIRESLATE_SITES;
+        compare_drawing(sites, arrivals, sites <= SPIRESLATE_OLD_SITES && i / SPIRESLATE_SITES % 2 == 0);
+    }
 }

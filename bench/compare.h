@@ -17,7 +17,8 @@ void compare_box(const struct drawing *d, unsigned answer);
 /* As many objects as a drawing has, and one more. */
 void compare_objects(void);
 
-/* Drawings of so many random arrivals each, refused ones among them, with damaged tables, lengths and outputs. */
+/* Drawings of so many random arrivals each, refused ones among them, with damaged tables, lengths and outputs: with
+   each number of sites in turn, and of eight sites at most by turns with an old form and with limited Sets. */
 void compare_random(unsigned drawings, unsigned arrivals);
 
 #endif

@@ -1,104 +1,9 @@
-/* Edits as laptops would make them, and the files of the benchmark. A site's vector is what it has applied; applying
-   what another site has takes in all that the other had applied, so that no vector is torn. */
+/* The files of the benchmark. */
 #include "inputs.h"
 
 #include <string.h>
 
 enum { SITES = SPIRESLATE_SITES, EIGHT = SPIRESLATE_OLD_SITES };
-enum { AT_VECTOR = 4, AT_TARGET = AT_VECTOR + 2 * SITES, AT_VALUE = AT_TARGET + 4 };
-
-static uint64_t random_state = 1;
-
-/* A linear congruential generator modulo 2^64, of which the high bits are used. */
-static uint32_t random_next(void) {
-    random_state = random_state * UINT64_C(6364136223846793005) + UINT64_C(1442695040888963407);
-    return (uint32_t)(random_state >> 32);
-}
-
-unsigned random_below(unsigned n) { return (unsigned)((uint64_t)random_next() * n >> 32); }
-
-uint32_t random_value(void) { return random_next(); }
-
-void file_open(struct file *f, const char *name, unsigned sites) {
-    memset(f, 0, sizeof *f);
-    f->name = name;
-    f->sites = sites;
-}
-
-void file_sync(struct file *f, unsigned to, unsigned from) {
-    for (unsigned s = 0; s < SITES; s++)
-        if (f->vectors[to][s] < f->vectors[from][s]) f->vectors[to][s] = f->vectors[from][s];
-}
-
-void file_sync_all(struct file *f) {
-    for (unsigned s = 0; s < f->sites; s++) file_sync(f, 0, s);
-    for (unsigned s = 0; s < f->sites; s++) file_sync(f, s, 0);
-}
-
-static void put_two(uint8_t *bytes, unsigned n) {
-    bytes[0] = (uint8_t)(n % 256);
-    bytes[1] = (uint8_t)(n / 256);
-}
-
-/* Puts kind, site, sequence number and vector of the next edit of a site. */
-static uint8_t *put_edit(struct file *f, unsigned kind, unsigned site) {
-    uint8_t *record = f->bytes + f->records++ * SPIRESLATE_RECORD;
-    f->vectors[site][site]++;
-    record[0] = (uint8_t)kind;
-    record[1] = (uint8_t)site;
-    put_two(record + 2, f->vectors[site][site]);
-    for (unsigned s = 0; s < SITES; s++) put_two(record + AT_VECTOR + 2 * s, f->vectors[site][s]);
-    return record;
-}
-
-/* The next edit of a site, on the Create s.q. */
-static uint8_t *put_aimed(struct file *f, unsigned kind, unsigned site, unsigned s, unsigned q) {
-    uint8_t *record = put_edit(f, kind, site);
-    record[AT_TARGET] = (uint8_t)s;
-    put_two(record + AT_TARGET + 2, q);
-    return record;
-}
-
-const uint8_t *file_create(struct file *f, unsigned site) { return put_edit(f, SPIRESLATE_CREATE, site); }
-
-const uint8_t *file_set(struct file *f, unsigned site, unsigned s, unsigned q, unsigned key, uint32_t value) {
-    uint8_t *record = put_aimed(f, SPIRESLATE_SET, site, s, q);
-    record[AT_TARGET + 1] = (uint8_t)key;
-    put_two(record + AT_VALUE, value % 65536);
-    put_two(record + AT_VALUE + 2, value / 65536);
-    return record;
-}
-
-const uint8_t *file_layer(struct file *f, unsigned site, unsigned s, unsigned q, int to_top) {
-    return put_aimed(f, to_top ? SPIRESLATE_TOP : SPIRESLATE_BOTTOM, site, s, q);
-}
-
-/* Puts the trailer of so many records of so many bytes each; says how long the file is. */
-static size_t put_trailer(uint8_t *bytes, unsigned records, unsigned sites, unsigned form, size_t size) {
-    size_t distance = records * size;
-    uint8_t *trailer = bytes + distance;
-    memset(trailer, 0, SPIRESLATE_TRAILER);
-    put_two(trailer, records);
-    trailer[2] = (uint8_t)sites;
-    trailer[3] = (uint8_t)form;
-    put_two(trailer + 4, (unsigned)distance);
-    return distance + SPIRESLATE_TRAILER;
-}
-
-void file_close(struct file *f) {
-    f->length = put_trailer(f->bytes, f->records, f->sites, SPIRESLATE_LONG_FORM, SPIRESLATE_RECORD);
-}
-
-void file_shorten(struct old_file *old, const struct file *f) {
-    enum { FRONT = AT_VECTOR + 2 * EIGHT };
-    for (unsigned i = 0; i < f->records; i++) {
-        uint8_t *to = old->bytes + i * SPIRESLATE_OLD_RECORD;
-        const uint8_t *from = f->bytes + i * SPIRESLATE_RECORD;
-        memcpy(to, from, FRONT);
-        memcpy(to + FRONT, from + AT_TARGET, SPIRESLATE_OLD_RECORD - FRONT);
-    }
-    old->length = put_trailer(old->bytes, f->records, f->sites, SPIRESLATE_OLD_FORM, SPIRESLATE_OLD_RECORD);
-}
 
 static void put_many(struct file *f, const char *name, unsigned sites) {
     enum { OBJECTS = 64, ROUNDS = 3, KEYS = 2 };
@@ -169,6 +74,79 @@ void make_wide(struct file *f) {
     file_close(f);
 }
 
+enum { MOST_TIMES = 5 };
+
+/* The Sets that split a box, time after time. A version is called by those that split it off, one of each time: bit t
+   of its number says which of the two sites made that of time t. */
+struct splits {
+    unsigned times;
+    struct name made[MOST_TIMES][1 << MOST_TIMES];
+};
+
+/* Puts a Set of the box 0.box that is limited to the version v; gives its name. */
+static struct name put_limited(struct file *f, const struct splits *s, unsigned site, unsigned box, unsigned v,
+                               unsigned key, uint32_t value) {
+    struct name members[MOST_TIMES];
+    for (unsigned t = 0; t < s->times; t++) {
+        struct name new = s->made[t][v & ((2u << t) - 1)];
+        unsigned i = t;
+        for (; i > 0 && (members[i - 1].site > new.site ||
+                         (members[i - 1].site == new.site && members[i - 1].seq > new.seq)); i--)
+            members[i] = members[i - 1];
+        members[i] = new;
+    }
+    file_set(f, site, 0, box, key, value);
+    file_limit(f, members, s->times);
+    return (struct name){site, f->vectors[site][site]};
+}
+
+/* Splits the box 0.box, which has no Sets, so many times, and then limits so many Sets to its first versions. */
+static void split_box(struct file *f, unsigned box, unsigned times, unsigned more) {
+    enum { KEY = 2, FAR = 1000000 };
+    struct splits s = {0};
+    for (; s.times < times; s.times++) {
+        file_sync_all(f);
+        for (unsigned v = 0; v < 1u << s.times; v++)
+            for (unsigned site = 1; site <= 2; site++)
+                s.made[s.times][v | (site - 1) << s.times] =
+                    put_limited(f, &s, site, box, v, KEY + s.times, FAR * (2 * v + site));
+    }
+    for (unsigned v = 0; v < more; v++) {
+        file_sync_all(f);
+        put_limited(f, &s, v % f->sites, box, v, KEY + times, FAR * v);
+    }
+}
+
+void make_split(struct file *f) {
+    open_box(f, "64 limited Sets", EIGHT);
+    split_box(f, 1, MOST_TIMES, 2);
+    file_close(f);
+}
+
+void make_split_boxes(struct file *f) {
+    enum { BOXES = 8, TIMES = 4 };
+    file_open(f, "248 limited Sets, 8 boxes", EIGHT);
+    for (unsigned box = 1; box <= BOXES; box++) file_create(f, 0);
+    for (unsigned box = 1; box <= BOXES; box++) split_box(f, box, TIMES, 1);
+    file_close(f);
+}
+
+void make_recoloured(struct file *f) {
+    enum { BOXES = 64, KEY = 2, COLOUR = 3 };
+    file_open(f, "64 limited Sets, 64 boxes", EIGHT);
+    for (unsigned box = 1; box <= BOXES; box++) file_create(f, 0);
+    file_sync_all(f);
+    for (unsigned box = 1; box <= BOXES; box++)
+        for (unsigned site = 1; site <= 2; site++) file_set(f, site, 0, box, KEY, 1000 * site + box);
+    file_sync_all(f);
+    for (unsigned box = 1; box <= BOXES; box++) {
+        struct name member = {1 + box % 2, box};
+        file_set(f, 3 + box % 5, 0, box, COLOUR, box);
+        file_limit(f, &member, 1);
+    }
+    file_close(f);
+}
+
 /* Values that lie so far apart are in two squares of the grid, so that they differ under every key. */
 enum { BOX_SETS = 20, APART = 8 };
 
@@ -211,16 +189,24 @@ void make_hard(struct file *f) {
     file_close(f);
 }
 
+void make_branches(struct file *f) {
+    open_box(f, "20 limited Sets, 8 groups", EIGHT);
+    split_box(f, 1, 3, 6);
+    file_close(f);
+}
+
 void hold_untrue(struct drawing *d, const struct file *f) {
     memset(d, 0, sizeof *d);
     d->counters.sites = (uint8_t)f->sites;
     d->counters.records = (uint16_t)f->records;
     d->counters.objects = 1;
-    for (unsigned i = 0; i < f->records; i++) d->counters.held[f->bytes[i * SPIRESLATE_RECORD + 1]]++;
-    for (size_t i = 0; i < f->records * SPIRESLATE_RECORD; i++)
+    for (size_t i = 0; i < f->starts[f->records]; i++)
         d->counters.sum += (uint32_t)f->bytes[i] << 8 * (i % sizeof d->counters.sum);
-    for (unsigned i = 0; i < f->records; i++)
-        memcpy(d->records + i * SPIRESLATE_PLACE, f->bytes + i * SPIRESLATE_RECORD, SPIRESLATE_RECORD);
+    for (unsigned i = 0; i < f->records; i++) {
+        const uint8_t *record = file_record(f, i);
+        d->counters.held[record[1]]++;
+        memcpy(d->records + i * SPIRESLATE_PLACE, record, record_length(record));
+    }
     d->objects[1] = (uint16_t)(f->records - 1);
     d->objects[2] = 1;
 }

@@ -7,17 +7,6 @@
 #include "plain.h"
 #include "plain_index.h"
 
-/* The Sets of object o that conflict with the Set e, which arrives after them and is seen by none. */
-static uint64_t conflicts_of(const struct index *x, unsigned o, const struct edit *e) {
-    uint64_t mask = 0;
-    for (unsigned i = 0; i < x->sets[o]; i++) {
-        const struct edit *a = &x->edits[x->set[o][i]];
-        if (a->key == e->key && shown_value(a) != shown_value(e) && e->vector[a->site] < a->seq)
-            mask |= UINT64_C(1) << i;
-    }
-    return mask;
-}
-
 /* Puts g in its place among n ascending groups, once; says how many they are then. */
 static unsigned insert_group(uint64_t *s, unsigned n, uint64_t g) {
     unsigned i = n;
@@ -52,10 +41,10 @@ static unsigned step(uint64_t *row, unsigned n, uint64_t conflicts, unsigned k) 
     return count;
 }
 
-/* Judges an edit, and takes it into index and tables where it is not refused. The bytes of its record are left to the
-   caller. */
-static unsigned take(struct index *x, uint16_t *objects, uint64_t *groups, const struct edit *e) {
-    unsigned answer = index_judge(x, e);
+/* Judges a record, and takes it into index and tables where it is not refused. Its bytes are left to the caller. */
+static unsigned take(struct index *x, uint16_t *objects, uint64_t *groups, const struct record *r) {
+    const struct edit *e = &r->edit;
+    unsigned answer = index_judge(x, r);
     if (answer != SPIRESLATE_DONE) return answer;
     if (x->records == RECORDS) return SPIRESLATE_FULL;
     if (e->kind == CREATE) {
@@ -64,16 +53,16 @@ static unsigned take(struct index *x, uint16_t *objects, uint64_t *groups, const
         entry[0] = (uint16_t)x->records;
         entry[1] = 0;
         entry[2] = 1;
-    } else if (e->kind == SET) {
+    } else if (is_set(e->kind)) {
         unsigned o = index_target(x, e), k = x->sets[o];
         uint16_t *entry = objects + o * ENTRY;
         if (k == SETS) return SPIRESLATE_FULL;
-        unsigned many = step(groups + o * GROUPS, entry[2], conflicts_of(x, o, e), k);
+        unsigned many = step(groups + o * GROUPS, entry[2], index_conflicts(x, o, k, e), k);
         if (many > GROUPS) return SPIRESLATE_CROWDED;
         entry[1]++;
         entry[2] = (uint16_t)many;
     }
-    index_add(x, e);
+    index_add(x, r);
     return SPIRESLATE_DONE;
 }
 
@@ -105,46 +94,88 @@ uint8_t plain_arrive(struct spireslate_counters *counters, uint8_t *records, siz
                      uint16_t *objects, size_t objects_length, uint64_t *groups, size_t groups_length,
                      const uint8_t *record, size_t record_length) {
     struct index x;
-    struct edit e;
+    struct record r;
     if (!lengths_right(records_length, objects_length, groups_length)) return SPIRESLATE_UNSOUND;
     if (!index_sound(&x, counters, records, objects, groups)) return SPIRESLATE_UNSOUND;
-    if (record_length != SPIRESLATE_RECORD) return SPIRESLATE_MALFORMED;
-    memcpy(&e, record, sizeof e);
-    unsigned answer = take(&x, objects, groups, &e);
+    if (record_length == 0 || record_decode(&r, record, record_length) != record_length) return SPIRESLATE_MALFORMED;
+    unsigned answer = take(&x, objects, groups, &r);
     if (answer != SPIRESLATE_DONE) return (uint8_t)answer;
-    memcpy(records + counters->records * SPIRESLATE_PLACE, record, SPIRESLATE_RECORD);
+    memcpy(records + counters->records * SPIRESLATE_PLACE, record, record_length);
     put_counters(counters, &x);
     return SPIRESLATE_DONE;
 }
 
-/* The record at the front of a stretch of this form as an edit; says how many bytes it has. Of the sites that an old
-   record has no entry for nothing was applied. */
-static size_t decode(struct edit *e, const uint8_t *stretch, unsigned form) {
+/* Where records are taken from: a block of either form, of which so many bytes are left, or the table's places. */
+enum { OLD = SPIRESLATE_OLD_FORM, LONG = SPIRESLATE_LONG_FORM, PLACES };
+
+struct source {
+    const uint8_t *at, *end;
+    unsigned form;
+};
+
+/* An old record as a long one: of the sites that it has no entry for nothing was applied. */
+static void decode_old(struct edit *e, const uint8_t *stretch) {
     enum { FRONT = offsetof(struct edit, vector[SPIRESLATE_OLD_SITES]), TAIL = offsetof(struct edit, tsite) };
-    if (form == SPIRESLATE_LONG_FORM) {
-        memcpy(e, stretch, sizeof *e);
-        return SPIRESLATE_RECORD;
-    }
     memcpy(e, stretch, FRONT);
     memset((uint8_t *)e + FRONT, 0, TAIL - FRONT);
     memcpy((uint8_t *)e + TAIL, stretch + FRONT, sizeof *e - TAIL);
-    return SPIRESLATE_OLD_RECORD;
 }
 
-static int has_old_form(unsigned kind) { return kind == CREATE || kind == SET; }
+/* Decodes the next record; says whether it may be one by its form. */
+static int next_record(struct record *r, struct source *from) {
+    if (from->form == OLD) {
+        decode_old(&r->edit, from->at);
+        from->at += SPIRESLATE_OLD_RECORD;
+        return r->edit.kind == CREATE || r->edit.kind == SET;
+    }
+    size_t most = from->form == PLACES ? SPIRESLATE_PLACE : (size_t)(from->end - from->at);
+    size_t bytes = record_decode(r, from->at, most);
+    from->at += from->form == PLACES ? SPIRESLATE_PLACE : bytes;
+    return bytes != 0;
+}
 
-/* Takes n records of this form one after another into an empty drawing; says the answer to the first refused, and its
-   index. */
-static struct spireslate_file_answer take_all(struct index *x, uint16_t *objects, uint64_t *groups,
-                                              const uint8_t *stretch, unsigned n, unsigned form) {
+/* Takes n records one after another into an empty drawing, and puts them into their places where there is a table for
+   them; says the answer to the first refused, and its index. */
+static struct spireslate_file_answer take_all(struct index *x, uint8_t *records, uint16_t *objects, uint64_t *groups,
+                                              struct source from, unsigned n) {
     for (unsigned i = 0; i < n; i++) {
-        struct edit e;
+        struct record r;
         unsigned answer = SPIRESLATE_MALFORMED;
-        stretch += decode(&e, stretch, form);
-        if (form == SPIRESLATE_LONG_FORM || has_old_form(e.kind)) answer = take(x, objects, groups, &e);
+        if (next_record(&r, &from)) answer = take(x, objects, groups, &r);
         if (answer != SPIRESLATE_DONE) return (struct spireslate_file_answer){(uint8_t)answer, i};
+        if (records != NULL) memcpy(records + i * SPIRESLATE_PLACE, &r, record_bytes(&r));
     }
     return (struct spireslate_file_answer){SPIRESLATE_DONE, 0};
+}
+
+struct trailer {
+    uint16_t records;
+    uint8_t sites, form;
+    uint32_t distance;
+};
+
+/* Whether so many long records, each by its own bytes, fill the stretch. */
+static int is_filled(const uint8_t *stretch, const uint8_t *end, unsigned n) {
+    for (; n != 0; n--) {
+        size_t bytes = stored_bytes(stretch, (size_t)(end - stretch));
+        if (bytes == 0) return 0;
+        stretch += bytes;
+    }
+    return stretch == end;
+}
+
+/* Answers 10 and 9 to a file, or 0; then its trailer, and where its records are. */
+static unsigned locate(struct trailer *t, struct source *from, const uint8_t *file, size_t length) {
+    if (length > SPIRESLATE_FILE_LIMIT || length < SPIRESLATE_TRAILER) return SPIRESLATE_BAD_FILE;
+    size_t at = length - SPIRESLATE_TRAILER;
+    memcpy(t, file + at, sizeof *t);
+    if (t->records > RECORDS || t->form > LONG || t->distance > at) return SPIRESLATE_BAD_FILE;
+    *from = (struct source){file + at - t->distance, file + at, t->form};
+    if (t->form == OLD ? t->distance != t->records * (uint32_t)SPIRESLATE_OLD_RECORD
+                       : !is_filled(from->at, from->end, t->records))
+        return SPIRESLATE_BAD_FILE;
+    unsigned most = t->form == OLD ? SPIRESLATE_OLD_SITES : SITES;
+    return t->sites < 1 || t->sites > most ? SPIRESLATE_BAD_SITES : SPIRESLATE_DONE;
 }
 
 struct spireslate_file_answer plain_read(struct spireslate_counters *counters, uint8_t *records,
@@ -152,33 +183,17 @@ struct spireslate_file_answer plain_read(struct spireslate_counters *counters, u
                                          uint64_t *groups, size_t groups_length, const uint8_t *file,
                                          size_t file_length) {
     struct index x;
-    struct {
-        uint16_t records;
-        uint8_t sites, form;
-        uint32_t distance;
-    } trailer;
-    struct spireslate_file_answer bad = {SPIRESLATE_BAD_FILE, 0};
+    struct trailer t;
+    struct source from;
     if (!lengths_right(records_length, objects_length, groups_length))
         return (struct spireslate_file_answer){SPIRESLATE_UNSOUND, 0};
-    if (file_length > SPIRESLATE_FILE_LIMIT || file_length < SPIRESLATE_TRAILER) return bad;
-    size_t at = file_length - SPIRESLATE_TRAILER;
-    memcpy(&trailer, file + at, sizeof trailer);
-    if (trailer.records > RECORDS || trailer.form > SPIRESLATE_LONG_FORM) return bad;
-    int is_old = trailer.form == SPIRESLATE_OLD_FORM;
-    unsigned size = is_old ? SPIRESLATE_OLD_RECORD : SPIRESLATE_RECORD, most = is_old ? SPIRESLATE_OLD_SITES : SITES;
-    if (trailer.distance != trailer.records * size || trailer.distance > at) return bad;
-    if (trailer.sites < 1 || trailer.sites > most) return (struct spireslate_file_answer){SPIRESLATE_BAD_SITES, 0};
-
-    const uint8_t *stretch = file + at - trailer.distance;
-    open_tables(counters, records, objects, groups, trailer.sites);
-    index_open(&x, trailer.sites);
-    struct spireslate_file_answer answer = take_all(&x, objects, groups, stretch, trailer.records, trailer.form);
-    if (answer.number != SPIRESLATE_DONE) {
-        open_tables(counters, records, objects, groups, trailer.sites);
-        return answer;
-    }
-    memcpy(records, x.edits, x.records * sizeof *x.edits);
-    put_counters(counters, &x);
+    unsigned located = locate(&t, &from, file, file_length);
+    if (located != SPIRESLATE_DONE) return (struct spireslate_file_answer){(uint8_t)located, 0};
+    open_tables(counters, records, objects, groups, t.sites);
+    index_open(&x, t.sites);
+    struct spireslate_file_answer answer = take_all(&x, records, objects, groups, from, t.records);
+    if (answer.number == SPIRESLATE_DONE) put_counters(counters, &x);
+    else open_tables(counters, records, objects, groups, t.sites);
     return answer;
 }
 
@@ -189,12 +204,11 @@ uint8_t plain_check(struct spireslate_counters counters, const uint8_t *records,
     uint64_t given_groups[SPIRESLATE_GROUPS_LENGTH] = {0};
     if (!lengths_right(records_length, objects_length, groups_length)) return SPIRESLATE_UNSOUND;
     if (counters.sites < 1 || counters.sites > SITES || counters.records > RECORDS) return SPIRESLATE_UNSOUND;
-    size_t used = (size_t)counters.records * SPIRESLATE_PLACE;
+    struct source from = {records, records + SPIRESLATE_RECORDS_LENGTH, PLACES};
     index_open(&x, counters.sites);
-    if (take_all(&x, given_objects, given_groups, records, counters.records, SPIRESLATE_LONG_FORM).number !=
-            SPIRESLATE_DONE ||
+    if (take_all(&x, NULL, given_objects, given_groups, from, counters.records).number != SPIRESLATE_DONE ||
         counters.objects != x.objects || memcmp(counters.held, x.held, sizeof x.held) != 0 ||
-        counters.sum != x.sum || !zero_bytes(records + used, SPIRESLATE_RECORDS_LENGTH - used) ||
+        counters.sum != x.sum || !zero_rests(records, counters.records) ||
         memcmp(objects, given_objects, sizeof given_objects) != 0 ||
         memcmp(groups, given_groups, sizeof given_groups) != 0)
         return SPIRESLATE_UNSOUND;
@@ -209,12 +223,16 @@ struct spireslate_write_answer plain_write(struct spireslate_counters counters, 
     if (!lengths_right(records_length, objects_length, groups_length) ||
         !index_sound(&x, &counters, records, objects, groups))
         return (struct spireslate_write_answer){SPIRESLATE_UNSOUND, 0};
-    size_t used = (size_t)counters.records * SPIRESLATE_RECORD, bytes = used + SPIRESLATE_TRAILER;
+    size_t bytes = x.bytes + SPIRESLATE_TRAILER;
     if (start > out_length || bytes > out_length - start)
         return (struct spireslate_write_answer){SPIRESLATE_NO_ROOM, 0};
-    uint32_t trailer[2] = {
-        counters.records | (uint32_t)counters.sites << 16 | (uint32_t)SPIRESLATE_LONG_FORM << 24, (uint32_t)used};
-    memcpy(out + start, records, used);
-    memcpy(out + start + used, trailer, sizeof trailer);
+    struct trailer t = {counters.records, counters.sites, LONG, (uint32_t)x.bytes};
+    out += start;
+    for (unsigned i = 0; i < counters.records; i++, records += SPIRESLATE_PLACE) {
+        size_t size = stored_bytes(records, SPIRESLATE_PLACE);
+        memcpy(out, records, size);
+        out += size;
+    }
+    memcpy(out, &t, sizeof t);
     return (struct spireslate_write_answer){SPIRESLATE_DONE, bytes};
 }

@@ -12,17 +12,13 @@ struct search {
     uint64_t conflicts[DECIDED], groups[GROUPS];
 };
 
-/* Which Sets of object o conflict with which. Of two of them the earlier one has not seen the later one. */
+/* Which Sets of object o conflict with which. */
 static void find_conflicts(struct search *s, const struct index *x, unsigned o) {
     memset(s->conflicts, 0, sizeof s->conflicts);
-    for (unsigned j = 0; j < s->n; j++) {
-        const struct edit *b = &x->edits[x->set[o][j]];
-        for (unsigned i = 0; i < j; i++) {
-            const struct edit *a = &x->edits[x->set[o][i]];
-            if (a->key != b->key || shown_value(a) == shown_value(b) || b->vector[a->site] >= a->seq) continue;
-            s->conflicts[i] |= UINT64_C(1) << j;
-            s->conflicts[j] |= UINT64_C(1) << i;
-        }
+    for (unsigned k = 0; k < s->n; k++) {
+        s->conflicts[k] = index_conflicts(x, o, k, &x->edits[x->set[o][k]]);
+        for (uint64_t left = s->conflicts[k]; left != 0; left &= left - 1)
+            s->conflicts[__builtin_ctzll(left)] |= UINT64_C(1) << k;
     }
 }
 

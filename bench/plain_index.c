@@ -4,20 +4,44 @@
 
 #include "plain_index.h"
 
+size_t record_decode(struct record *r, const uint8_t *stretch, size_t length) {
+    size_t bytes = stored_bytes(stretch, length);
+    if (bytes == 0) return 0;
+    memcpy(&r->edit, stretch, sizeof r->edit);
+    if (r->edit.kind != LIMITED) return bytes;
+    memcpy((uint8_t *)r + SPIRESLATE_RECORD, stretch + SPIRESLATE_RECORD,
+           (bytes <= sizeof *r ? bytes : SPIRESLATE_LIMITED_RECORD) - SPIRESLATE_RECORD);
+    return bytes;
+}
+
 void index_open(struct index *x, unsigned sites) {
     x->sites = sites;
     x->records = x->objects = x->tops = 0;
-    x->sum = 0;
+    x->bytes = x->sum = 0;
     memset(x->held, 0, sizeof x->held);
 }
 
-/* Answer 1 to an edit of the right length. */
-static int is_unfit(unsigned sites, const struct edit *e) {
-    if (e->kind != CREATE && e->kind != SET && !is_layer(e->kind)) return 1;
+/* Answer 1 to what a limited Set lists. */
+static int is_list_unfit(const struct record *r) {
+    unsigned wrong = r->zeros;
+    if (r->count > MEMBERS) return 1;
+    for (unsigned i = 0; i < r->count; i++) {
+        const struct member *m = &r->members[i];
+        wrong |= m->zero;
+        if (i > 0 && (m->site < m[-1].site || (m->site == m[-1].site && m->seq <= m[-1].seq))) return 1;
+    }
+    return wrong != 0;
+}
+
+/* Answer 1 to a record of its own length. */
+static int is_unfit(unsigned sites, const struct record *r) {
+    const struct edit *e = &r->edit;
+    if (e->kind != CREATE && !is_set(e->kind) && !is_layer(e->kind)) return 1;
     if (e->site >= sites || e->seq == 0 || e->seq != e->vector[e->site] || e->key >= KEYS) return 1;
     for (unsigned s = sites; s < SITES; s++)
         if (e->vector[s] != 0) return 1;
     if (e->kind == SET) return e->tseq == 0;
+    if (e->kind == LIMITED) return e->tseq == 0 || is_list_unfit(r);
     if (is_layer(e->kind)) return e->tseq == 0 || e->key != 0 || e->value != 0;
     return (e->tsite | e->key | e->tseq) != 0 || e->value != 0;
 }
@@ -51,8 +75,9 @@ static int is_astray(const struct index *x, const struct edit *e) {
     return x->edits[x->place[e->tsite][e->tseq]].kind != CREATE;
 }
 
-unsigned index_judge(const struct index *x, const struct edit *e) {
-    if (is_unfit(x->sites, e)) return SPIRESLATE_MALFORMED;
+unsigned index_judge(struct index *x, const struct record *r) {
+    const struct edit *e = &r->edit;
+    if (is_unfit(x->sites, r)) return SPIRESLATE_MALFORMED;
     if (e->seq <= x->held[e->site]) return SPIRESLATE_REPEATED;
     uint16_t next[SITES];
     memcpy(next, x->held, sizeof next);
@@ -60,43 +85,54 @@ unsigned index_judge(const struct index *x, const struct edit *e) {
     if (is_above(x, e->vector, next)) return SPIRESLATE_EARLY;
     if (is_torn(x, e)) return SPIRESLATE_TORN;
     if (e->kind != CREATE && is_astray(x, e)) return SPIRESLATE_ASTRAY;
-    return SPIRESLATE_DONE;
+    return is_set(e->kind) ? index_context(x, index_target(x, e), r) : SPIRESLATE_DONE;
 }
 
-/* The words of an edit's record, added up and wrapped. */
-static uint32_t word_sum(const struct edit *e) {
-    uint32_t words[SPIRESLATE_RECORD / sizeof(uint32_t)], sum = 0;
-    memcpy(words, e, sizeof words);
-    for (unsigned i = 0; i < sizeof words / sizeof *words; i++) sum += words[i];
+/* The first words of a record, so many, added up and wrapped. */
+static inline uint32_t sum_of(const struct record *r, unsigned many) {
+    uint32_t words[SPIRESLATE_PLACE / sizeof(uint32_t)], sum = 0;
+    memcpy(words, r, many * sizeof *words);
+    for (unsigned i = 0; i < many; i++) sum += words[i];
     return sum;
 }
 
-void index_add(struct index *x, const struct edit *e) {
+/* All words of a record; the number of most is known beforehand, and they are added up faster. */
+static uint32_t word_sum(const struct record *r) {
+    enum { WORDS = SPIRESLATE_RECORD / sizeof(uint32_t) };
+    return r->edit.kind == LIMITED ? sum_of(r, WORDS + 1 + r->count) : sum_of(r, WORDS);
+}
+
+void index_add(struct index *x, const struct record *r) {
+    const struct edit *e = &r->edit;
     unsigned i = x->records++;
     x->edits[i] = *e;
+    x->bytes += record_bytes(r);
     x->place[e->site][e->seq] = (uint16_t)i;
     x->held[e->site]++;
-    x->sum += word_sum(e);
+    x->sum += word_sum(r);
     if (e->kind == CREATE) {
         unsigned o = x->objects++;
         x->object[i] = (uint8_t)o;
         x->create[o] = (uint16_t)i;
         x->sets[o] = 0;
-    } else if (e->kind == SET) {
-        unsigned o = index_target(x, e);
-        x->set[o][x->sets[o]++] = (uint16_t)i;
+        x->is_limited[o] = 0;
+    } else if (is_set(e->kind)) {
+        unsigned o = index_target(x, e), k = x->sets[o]++;
+        x->set[o][k] = (uint16_t)i;
+        x->number[i] = (uint8_t)k;
+        if (x->is_limited[o]) index_meet(x, o, k);
     } else if (e->kind == TOP) {
         x->top[x->tops++] = (uint16_t)i;
     }
 }
 
-int zero_bytes(const uint8_t *p, size_t n) {
-    unsigned any = 0;
+static int zero_bytes(const uint8_t *p, size_t n) {
+    uint8_t any = 0;
     for (size_t i = 0; i < n; i++) any |= p[i];
     return any == 0;
 }
 
-int zero_groups(const uint64_t *p, size_t n) {
+static int zero_groups(const uint64_t *p, size_t n) {
     uint64_t any = 0;
     for (size_t i = 0; i < n; i++) any |= p[i];
     return any == 0;
@@ -112,15 +148,24 @@ static int is_row_sound(const uint64_t *row, unsigned sets, unsigned many) {
     return zero_groups(row + many, GROUPS - many);
 }
 
-/* Whether the records pass 1 to 5 in turn, with no object more and no Set more than tables have place for. */
+int zero_rests(const uint8_t *records, unsigned n) {
+    size_t used = (size_t)n * SPIRESLATE_PLACE;
+    for (const uint8_t *place = records; place < records + used; place += SPIRESLATE_PLACE) {
+        size_t bytes = stored_bytes(place, SPIRESLATE_PLACE);
+        if (bytes == 0 || !zero_bytes(place + bytes, SPIRESLATE_PLACE - bytes)) return 0;
+    }
+    return zero_bytes(records + used, SPIRESLATE_RECORDS_LENGTH - used);
+}
+
+/* Whether the records pass 1 to 5 and 16 in turn, with no object more and no Set more than tables have place for. */
 static int walk(struct index *x, const uint8_t *records, unsigned n, unsigned objects) {
     for (unsigned i = 0; i < n; i++) {
-        struct edit e;
-        memcpy(&e, records + i * SPIRESLATE_PLACE, sizeof e);
-        if (index_judge(x, &e) != SPIRESLATE_DONE) return 0;
-        if (e.kind == CREATE && x->objects == objects) return 0;
-        if (e.kind == SET && x->sets[index_target(x, &e)] == SETS) return 0;
-        index_add(x, &e);
+        struct record r;
+        if (record_decode(&r, records + i * SPIRESLATE_PLACE, SPIRESLATE_PLACE) == 0) return 0;
+        if (index_judge(x, &r) != SPIRESLATE_DONE) return 0;
+        if (r.edit.kind == CREATE && x->objects == objects) return 0;
+        if (is_set(r.edit.kind) && x->sets[index_target(x, &r.edit)] == SETS) return 0;
+        index_add(x, &r);
     }
     return x->objects == objects;
 }
@@ -138,7 +183,6 @@ int index_sound(struct index *x, const struct spireslate_counters *c, const uint
     }
     for (unsigned i = x->objects * ENTRY; i < SPIRESLATE_OBJECTS_LENGTH; i++)
         if (objects[i] != 0) return 0;
-    size_t used = x->records * SPIRESLATE_PLACE, rows = x->objects * GROUPS;
-    return zero_bytes(records + used, SPIRESLATE_RECORDS_LENGTH - used) &&
-           zero_groups(groups + rows, SPIRESLATE_GROUPS_LENGTH - rows);
+    size_t rows = x->objects * GROUPS;
+    return zero_rests(records, x->records) && zero_groups(groups + rows, SPIRESLATE_GROUPS_LENGTH - rows);
 }

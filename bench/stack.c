@@ -8,7 +8,7 @@
 
 #include "inputs.h"
 
-enum { PAINTED = 1 << 20, MARGIN = 4096, FILES = 6, ROW = 32 };
+enum { PAINTED = 1 << 20, MARGIN = 4096, FILES = 9, ROW = 32 };
 
 static _Alignas(64) uint8_t painted[PAINTED];
 static uint8_t *stack_pointer; /* with which the call was made */
@@ -93,12 +93,38 @@ static void measure_views(void) {
     }
 }
 
+/* Ends the program unless the input is refused with this number. */
+static void must_refuse(unsigned number, const char *what) {
+    if (spireslate_arrive(&work.counters, TABLES(&work), input, input_length) == number) return;
+    printf("bench/stack: %s is not refused with %u\n", what, number);
+    exit(1);
+}
+
+/* Has the records of a file but the last one arrive, and the last one stand as the input. */
+static void take_but_last(const struct file *f) {
+    spireslate_open(&work.counters, TABLES(&work), (uint8_t)f->sites);
+    for (unsigned i = 0; i < f->records; i++) {
+        input = file_record(f, i), input_length = record_length(input);
+        if (i + 1 < f->records) spireslate_arrive(&work.counters, TABLES(&work), input, input_length);
+    }
+}
+
+/* The input, a limited Set that would be taken, with a member in the place of its last one that is not held. */
+static void measure_unnamed(void) {
+    static uint8_t record[SPIRESLATE_PLACE];
+    memcpy(record, input, input_length);
+    record[input_length - 1] = 255;
+    input = record;
+    must_refuse(SPIRESLATE_NO_VERSION, "a member that is not held");
+    measure(ARRIVE);
+}
+
 /* Every call on the drawing of a file, whose old block is read too where it has one: whole, one record short with that
    record arriving, full, and with a damage in each table, at its front and at its end. */
 static void measure_file(const struct file *f) {
     static struct drawing whole;
     static struct old_file old;
-    if (f->sites <= SPIRESLATE_OLD_SITES) {
+    if (file_has_old(f)) {
         file_shorten(&old, f);
         input = old.bytes, input_length = old.length;
         measure(LOCATE);
@@ -110,13 +136,12 @@ static void measure_file(const struct file *f) {
     spireslate_read(&work.counters, TABLES(&work), f->bytes, f->length);
     whole = work;
     measure_views();
-    input = f->bytes + (f->records - 1) * SPIRESLATE_RECORD, input_length = SPIRESLATE_RECORD;
+    input = file_record(f, f->records - 1), input_length = record_length(input);
     measure(ARRIVE);
-    spireslate_open(&work.counters, TABLES(&work), (uint8_t)f->sites);
-    for (unsigned i = 0; i + 1 < f->records; i++)
-        spireslate_arrive(&work.counters, TABLES(&work), f->bytes + i * SPIRESLATE_RECORD, SPIRESLATE_RECORD);
+    take_but_last(f);
     measure(ARRIVE);
-    for (unsigned damage = 0; damage < 6; damage++) {
+    if (*input == SPIRESLATE_LIMITED) measure_unnamed();
+    for (unsigned damage = 0; damage < 7; damage++) {
         work = whole;
         unsigned last = work.counters.objects - 1u;
         switch (damage) {
@@ -125,6 +150,7 @@ static void measure_file(const struct file *f) {
         case 2: work.objects[3 * last + 1]++; break;
         case 3: work.groups[(size_t)ROW * last] = 0; break;
         case 4: work.groups[SPIRESLATE_GROUPS_LENGTH - 1] = 1; break;
+        case 5: work.records[work.counters.records * SPIRESLATE_PLACE - 1] = 1; break;
         default: work.groups[(size_t)ROW * last + work.objects[3 * last + 2] - 1] ^= 1;
         }
         measure(ARRIVE);
@@ -142,20 +168,15 @@ static void measure_crowded(void) {
     file_close(&f);
     input = f.bytes, input_length = f.length;
     measure(READ);
-    spireslate_open(&work.counters, TABLES(&work), SPIRESLATE_SITES);
-    for (unsigned i = 0; i + 1 < f.records; i++)
-        spireslate_arrive(&work.counters, TABLES(&work), f.bytes + i * SPIRESLATE_RECORD, SPIRESLATE_RECORD);
-    input = f.bytes + (f.records - 1) * SPIRESLATE_RECORD, input_length = SPIRESLATE_RECORD;
-    if (spireslate_arrive(&work.counters, TABLES(&work), input, input_length) != SPIRESLATE_CROWDED) {
-        puts("bench/stack: the sixth pair is not refused with 7");
-        exit(1);
-    }
+    take_but_last(&f);
+    must_refuse(SPIRESLATE_CROWDED, "the sixth pair");
     measure(ARRIVE);
 }
 
 /* Boxes of 20 Sets: the search goes 20 calls deep. */
 static void measure_boxes(void) {
-    static void (*const makers[])(struct file *) = {make_calm, make_row, make_sixteen, make_pairs, make_hard};
+    static void (*const makers[])(struct file *) = {make_calm,  make_row,  make_sixteen,
+                                                    make_pairs, make_hard, make_branches};
     static struct file f;
     for (unsigned i = 0; i < sizeof makers / sizeof *makers; i++) {
         makers[i](&f);
@@ -178,6 +199,9 @@ int main(int argc, char **argv) {
     make_many_wide(&files[3]);
     make_wide(&files[4]);
     make_layers(&files[5]);
+    make_split(&files[6]);
+    make_split_boxes(&files[7]);
+    make_recoloured(&files[8]);
     for (line = 0; line <= SPIRESLATE_SITES + 1; line++) measure(OPEN);
     for (unsigned i = 0; i < FILES; i++) measure_file(&files[i]);
     measure_crowded();

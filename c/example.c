@@ -1,7 +1,8 @@
 /* Document 01's example through the C interface: a drawing of three sites takes four edits one by one, its list is
    printed by lines and whole, its box's groups are worked out a second time, its block is written behind other bytes,
-   located, read into other tables and checked, and so is a block of the same edits in the old form. Then some inputs
-   that are refused, each with its number. `run` compares what is printed with example.expected. */
+   located, read into other tables and checked, and so is a block of the same edits in the old form. Then an edit that
+   is limited to one of the two versions, and some inputs that are refused, each with its number. `run` compares what
+   is printed with example.expected. */
 #include <stdio.h>
 #include <string.h>
 
@@ -13,6 +14,7 @@ _Static_assert(sizeof(struct spireslate_file_answer) == 16, "answer to a file");
 _Static_assert(sizeof(struct spireslate_write_answer) == 16, "answer to a call that writes");
 _Static_assert(sizeof(struct spireslate_groups_answer) == 16, "answer to a call that gives groups");
 _Static_assert(sizeof(struct spireslate_located) == 16, "a located block");
+_Static_assert(SPIRESLATE_LIMITED_RECORD + SPIRESLATE_MEMBERS * SPIRESLATE_MEMBER == SPIRESLATE_PLACE, "a place");
 
 /* What the caller keeps of a drawing, and the tables of one as a call takes them. */
 struct drawing {
@@ -29,8 +31,9 @@ struct drawing {
 enum { EDITS = 4, PICTURE = 16, BEHIND = 4, BLOCK = EDITS * SPIRESLATE_RECORD + SPIRESLATE_TRAILER, MARK = 0xAA };
 enum { OLD_BLOCK = EDITS * SPIRESLATE_OLD_RECORD + SPIRESLATE_TRAILER };
 
-/* Where a record has its vector, and where what stands behind that. */
+/* Where a record has its vector, where what stands behind that, and where a limited Set has its count and members. */
 enum { VECTOR = 4, TARGET = VECTOR + 2 * SPIRESLATE_SITES, OLD_TARGET = VECTOR + 2 * SPIRESLATE_OLD_SITES };
+enum { COUNT = SPIRESLATE_RECORD, LISTED = SPIRESLATE_LIMITED_RECORD, LIMITED = LISTED + SPIRESLATE_MEMBER };
 
 static const char *const names[EDITS] = {"0.1", "1.1", "2.1", "0.2"};
 
@@ -40,6 +43,13 @@ static const uint8_t edits[EDITS][SPIRESLATE_RECORD] = {
     {2, 1, 1, 0, [VECTOR] = 1, 0, 1, 0, 0, 0, [TARGET] = 0, 2, 1, 0, 40, 0, 0, 0},
     {2, 2, 1, 0, [VECTOR] = 1, 0, 0, 0, 1, 0, [TARGET] = 0, 2, 1, 0, 44, 0, 0, 0},
     {2, 0, 2, 0, [VECTOR] = 2, 0, 0, 0, 0, 0, [TARGET] = 0, 5, 1, 0, 7, 0, 0, 0},
+};
+
+/* Edit 0.3, of site 0 when it has both versions before it, on the one that 1.1 makes: behind the value the count, two
+   zero bytes, and that member. The array has room for more, as a place of the table has. */
+static const uint8_t limited[SPIRESLATE_PLACE] = {
+    3, 0, 3, 0, [VECTOR] = 3, 0, 1, 0, 1, 0, [TARGET] = 0, 3, 1, 0, 7, 0, 0, 0,
+    [COUNT] = 1, 0, 0, 0, [LISTED] = 1, 0, 1, 0,
 };
 
 static struct drawing first, second, third, damaged;
@@ -140,6 +150,27 @@ static void load_old(struct drawing *d, const struct drawing *same) {
     printf("the same block: %d\n", memcmp(output, file + PICTURE, BLOCK) == 0);
 }
 
+static int hand_in(struct drawing *d, const uint8_t *record, size_t length) {
+    return spireslate_arrive(&d->counters, TABLES(d), record, length);
+}
+
+/* What is no limited Set, or is limited to no version; then the one that is, which shows in its version alone. */
+static void limit(struct drawing *d) {
+    uint8_t record[LIMITED];
+    memcpy(record, limited, sizeof record);
+    printf("edit 0.3 without its member: %d\n", hand_in(d, limited, LISTED));
+    printf("edit 0.3 in its place: %d\n", hand_in(d, limited, sizeof limited));
+    record[COUNT] = 0;
+    printf("edit 0.3 limited to no version: %d\n", hand_in(d, record, LISTED));
+    record[COUNT] = 1;
+    printf("edit 0.3 limited to 1.1: %d\n", hand_in(d, record, LIMITED));
+    print_counters(d);
+    print_list(d);
+    struct spireslate_write_answer w = spireslate_write(d->counters, TABLES(d), output, BLOCK + LIMITED, 0);
+    printf("write: %d, %zu bytes\n", w.number, w.bytes);
+    load(d, output, w.bytes);
+}
+
 /* Tables one element short, one after another, then a damaged group, and a number of sites that is none. */
 static void refuse_tables(struct drawing *d) {
     struct spireslate_counters *c = &d->counters;
@@ -205,6 +236,7 @@ int main(void) {
     store_old();
     load_old(&third, &second);
     print_counters(&third);
+    limit(&third);
     refuse_tables(&second);
     refuse_edits(&second);
     refuse_outputs(&second);

@@ -30,31 +30,49 @@ enum {
     SPIRESLATE_BAD_FILE = 10,     /* the file is over the limit, or its trailer is unfit */
     SPIRESLATE_NO_ROOM = 11,      /* the output has no room at the start given, or is not 32 groups long */
     SPIRESLATE_NO_LINE = 12,      /* the list has no line of that number */
+    SPIRESLATE_NO_VERSION = 16,   /* a limited Set lists no version of its object among the edits that it has seen */
     SPIRESLATE_TOO_MANY_SETS = 18 /* the object has more than 20 Sets */
 };
 
-/* The kinds of edit records. The last two are layer edits: to-top puts a box above the others in the list; to-bottom is
-   withdrawn, and is taken and stored without an effect on the list. */
-enum { SPIRESLATE_CREATE = 1, SPIRESLATE_SET = 2, SPIRESLATE_TOP = 4, SPIRESLATE_BOTTOM = 5 };
+/* The kinds of edit records. A Set shows in every version of its object that it is not in conflict with; a limited Set
+   in one version that its author had before him, and in those that come of it. The last two are layer edits: to-top
+   puts a box above the others in the list; to-bottom is withdrawn, and is taken and stored without an effect on the
+   list. */
+enum {
+    SPIRESLATE_CREATE = 1,
+    SPIRESLATE_SET = 2,
+    SPIRESLATE_LIMITED = 3,
+    SPIRESLATE_TOP = 4,
+    SPIRESLATE_BOTTOM = 5
+};
 
-/* Lengths: of the three tables and of an output of groups in elements, all others in bytes. */
+/* Lengths: of the three tables and of an output of groups in elements, all others in bytes. A limited Set has behind
+   the bytes of a Set the count of its members (2 bytes), two zero bytes, and each member: site, zero, sequence number
+   (2). The members are the edits that tell the version from the others, as its line of the list has them behind the
+   Create, but that only conflicts between edits that the author has seen count; they ascend by site, then by sequence
+   number. A limited Set without members is no plain Set: it names the one version of an object of which the author has
+   seen nothing in dispute. */
 enum {
     SPIRESLATE_SITES = 16,             /* entries of a vector, and the most sites of a drawing */
-    SPIRESLATE_RECORD = 44,            /* an edit record */
-    SPIRESLATE_PLACE = 44,             /* a place of the records' table, which holds one record */
-    SPIRESLATE_RECORDS_LENGTH = 11264, /* the records' table: 256 places */
+    SPIRESLATE_RECORD = 44,            /* an edit record, but a limited Set */
+    SPIRESLATE_LIMITED_RECORD = 48,    /* a limited Set, and SPIRESLATE_MEMBER more for each of its members */
+    SPIRESLATE_MEMBER = 4,             /* a member of a limited Set */
+    SPIRESLATE_MEMBERS = 16,           /* how many members a limited Set has at most */
+    SPIRESLATE_PLACE = 112,            /* a place of the records' table, which has room for the longest record */
+    SPIRESLATE_RECORDS_LENGTH = 28672, /* the records' table: 256 places */
     SPIRESLATE_OBJECTS_LENGTH = 192,   /* the objects' table: 64 entries of 3 numbers */
     SPIRESLATE_GROUPS_LENGTH = 2048,   /* the groups' table: 64 rows of 32 groups */
     SPIRESLATE_ROW = 32,               /* the groups of one object, and the output for them */
     SPIRESLATE_TRAILER = 8,            /* the trailer of a block */
-    SPIRESLATE_BLOCK = 11272,          /* the longest block: 256 records and the trailer */
+    SPIRESLATE_BLOCK = 28680,          /* no block is longer: 256 of the longest records and the trailer */
     SPIRESLATE_FILE_LIMIT = 65536,     /* the longest file that is read */
     SPIRESLATE_LINE = 874,             /* no line of the list is longer */
     SPIRESLATE_LIST = 1790826          /* no list is longer: 2,049 lines */
 };
 
 /* The form of a block, which is the fourth byte of its trailer. Blocks are written in the long form, and read in both.
-   Only a stored block has old records: one that arrives is a long one, and so is one in the table. */
+   Only a stored block has old records, which are Creates and Sets: one that arrives is a long one, and so is one in
+   the table. */
 enum {
     SPIRESLATE_OLD_FORM = 0,
     SPIRESLATE_LONG_FORM = 1,
@@ -64,9 +82,10 @@ enum {
 
 /* The counters of a drawing, which the caller keeps beside its three tables: N, the records and the objects held, how
    many edits of each site are held, and the sum of all words of the records held, which wraps at 32 bits: different
-   sums mean different edits, equal sums promise nothing. The tables are: the records' bytes in arrival order; for each
-   object the place of its Create among the records, its number of Sets and its number of groups; and for each object
-   32 groups, where bit i stands for the object's i-th Set. What is not used is zero. */
+   sums mean different edits, equal sums promise nothing. The tables are: the records in arrival order, each at the
+   front of its place with zeros behind; for each object the place of its Create among the records, its number of Sets,
+   limited ones among them, and its number of groups; and for each object 32 groups, where bit i stands for the
+   object's i-th Set. What is not used is zero. */
 struct spireslate_counters {
     uint8_t sites;
     uint16_t records;
@@ -107,14 +126,15 @@ struct spireslate_located {
 uint8_t spireslate_open(struct spireslate_counters *counters, uint8_t *records, size_t records_length,
                         uint16_t *objects, size_t objects_length, uint64_t *groups, size_t groups_length, uint8_t n);
 
-/* Takes an edit record: 8, then 1 to 7, the first that applies. One that is not SPIRESLATE_RECORD long is 1. */
+/* Takes an edit record: 8, then 1 to 5, 16, 6 and 7, the first that applies. A record that is not as long as its kind,
+   or a limited Set's count of members, says is 1. */
 uint8_t spireslate_arrive(struct spireslate_counters *counters, uint8_t *records, size_t records_length,
                           uint16_t *objects, size_t objects_length, uint64_t *groups, size_t groups_length,
                           const uint8_t *record, size_t record_length);
 
 /* Reads a file whose last bytes are a block, of either form, into the tables: 8 for lengths alone, 10, 9, then the
-   answer to the first record that is refused, 1 to 7, in which case the tables are left as an empty drawing of the
-   file's sites. */
+   answer to the first record that is refused, 1 to 7 or 16, in which case the tables are left as an empty drawing of
+   the file's sites. */
 struct spireslate_file_answer spireslate_read(struct spireslate_counters *counters, uint8_t *records,
                                               size_t records_length, uint16_t *objects, size_t objects_length,
                                               uint64_t *groups, size_t groups_length, const uint8_t *file,
@@ -158,7 +178,8 @@ struct spireslate_groups_answer spireslate_groups(struct spireslate_counters cou
                                                   size_t out_length);
 
 /* Locates the block of a file: 10, then 9. Its records stand one after another in the file, from the start on, each of
-   SPIRESLATE_RECORD bytes, or of SPIRESLATE_OLD_RECORD in the old form. */
+   SPIRESLATE_RECORD bytes, or of SPIRESLATE_OLD_RECORD in the old form; in the long form a limited Set has
+   SPIRESLATE_LIMITED_RECORD bytes and SPIRESLATE_MEMBER more for each member that it counts. */
 struct spireslate_located spireslate_locate(const uint8_t *file, size_t file_length);
 
 #ifdef __cplusplus

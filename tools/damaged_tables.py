@@ -5,9 +5,10 @@ soundness finds it. A kind that tables have no place for gives None.
 """
 from independent_tables import (ENTRY, OBJECTS, PLACE, RECORD, RECORDS, SETS, SITES, VERSIONS, built, history,
                                 records_in, row, rules)
-from random_calls import BYTE, HALF, astray, lowered, malformed, random_tables
-from random_files import full
-from stored import old
+from random_calls import BYTE, HALF, another_list, astray, lowered, malformed, random_tables
+from random_edits import full
+from random_files import spoilt_list
+from stored import LIMITED, old
 
 
 def changed(values, at, value):
@@ -66,9 +67,9 @@ def unused_count(rng, t):
 
 
 def first_misfit(n, records):
-    """The answer, 1 to 5, to the first record that does not fit those before it; 0 where all fit."""
+    """The answer, 1 to 5 or 16, to the first record that does not fit those before it; 0 where all fit."""
     for i, record in enumerate(records):
-        misfit = rules.Drawing(n, history(n, b"".join(records[:i]))).misfit(record)
+        misfit = rules.Drawing(n, history(n, records[:i])).misfit(record)
         if misfit:
             return misfit
     return 0
@@ -77,28 +78,61 @@ def first_misfit(n, records):
 def spoilt(rng, n, records, number):
     """The records with one changed, or left out, in a way that may be answered with this number."""
     at = rng.randrange(len(records))
-    if number == 1:
-        return records[:at] + [malformed(rng, n, records[at])] + records[at + 1:]
     if number == 2:
-        return records[:-1] + [rng.choice(records[:-1] or records)]
+        return records[:-1] + (rng.choice(records[:-1] or records),)
     if number == 3:
         return records[:at] + records[at + 1:]
-    other = lowered if number == 4 else astray
-    return records[:at] + [other(rng, records[at])] + records[at + 1:]
+    change = {1: lambda r: malformed(rng, n, r), 4: lambda r: lowered(rng, r), 5: lambda r: astray(rng, r),
+              16: lambda r: another_list(rng, n, r)}[number]
+    return records[:at] + (change(records[at]),) + records[at + 1:]
 
 
 def record_damage(number):
     """A record in place that fails with this number, in tables that have counted it as any other."""
     def damage(rng, t):
-        data = records_in(t)
-        records = [data[at:at + RECORD] for at in range(0, len(data), RECORD)]
+        records = records_in(t)
         for _ in range(10 if records else 0):
             bad = spoilt(rng, t.sites, records, number)
             if first_misfit(t.sites, bad) == number:
-                edits = tuple(rules.decode(r) for r in bad)
-                objects = sum(e.kind == rules.CREATE for e in edits)
-                return built(t.sites, b"".join(bad), edits, [(0,)] * objects) if objects <= OBJECTS else None
+                return counted(t.sites, bad)
         return None
+    return damage
+
+
+def counted(n, records):
+    """Tables that hold these records, whether or not they fit; None where they are more than tables hold."""
+    edits = tuple(rules.Edit(r) for r in records)
+    objects = sum(e.kind == rules.CREATE for e in edits)
+    return built(n, records, edits, [(0,)] * objects) if objects <= OBJECTS else None
+
+
+def limited_places(t):
+    """Which of the records are limited Sets."""
+    return [i for i in range(t.records) if t.places[PLACE * i] == LIMITED]
+
+
+def list_damage(rng, t):
+    """A limited Set in place whose count, zero bytes or members are as no record has them."""
+    records, places = records_in(t), limited_places(t)
+    for _ in range(10 if places else 0):
+        at = rng.choice(places)
+        # with more members than can be listed it would not fit its place
+        bad = records[:at] + (spoilt_list(rng, records[at])[:PLACE],) + records[at + 1:]
+        if first_misfit(t.sites, bad) == 1:
+            return counted(t.sites, bad)
+    return None
+
+
+def rest_damage(limited, last):
+    """A nonzero byte behind a record in its place, a limited Set or another, at the rest's front or at its end."""
+    def damage(rng, t):
+        places = [i for i in range(t.records) if (i in limited_places(t)) == limited]
+        rests = [(PLACE * i + len(records_in(t)[i]), PLACE * (i + 1)) for i in places]
+        rests = [(first, end) for first, end in rests if first < end]
+        if not rests:
+            return None
+        first, end = rng.choice(rests)
+        return t._replace(places=changed(t.places, end - 1 if last else first, rng.randrange(1, BYTE)))
     return damage
 
 
@@ -114,8 +148,8 @@ def old_set(rng, t):
 
 def of_one_site(made, rows):
     """Tables that hold these edits of one site, with these groups."""
-    records = [e[2] for e in made]
-    return built(1, b"".join(records), tuple(rules.decode(r) for r in records), rows)
+    records = tuple(e[2] for e in made)
+    return built(1, records, tuple(rules.Edit(r) for r in records), rows)
 
 
 def too_many_objects(rng, t):
@@ -250,8 +284,13 @@ KINDS = {
     "a count at or past N": unused_count,
     "a wrong sum": counter("sum", lambda rng, t: (t.sum + rng.choice((1, 1 << 16, 1 << 31, -1))) % rules.WRAP),
     "the sum of no records": counter("sum", lambda rng, t: 0 if t.sum else -1),
-    **{"a record fails %d" % number: record_damage(number) for number in range(1, 6)},
+    **{"a record fails %d" % number: record_damage(number) for number in (*range(1, 6), 16)},
     "a Set as an old record": old_set,
+    "a limited Set's list": list_damage,
+    "first byte behind a record in its place": rest_damage(False, False),
+    "last byte behind a record in its place": rest_damage(False, True),
+    "first byte behind a limited Set": rest_damage(True, False),
+    "last byte behind a limited Set": rest_damage(True, True),
     "65 Creates": too_many_objects,
     "65 Sets of an object": too_many_sets,
     "a Create's place": place_damage,

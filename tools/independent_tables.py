@@ -1,21 +1,18 @@
 """An independent reading of documents 01 and 02 of the calls on lent tables: what each answers, and what it leaves.
 
-It stands on the rules of tools/independent and shares nothing with the crates. Tables are what the caller lends, of
-any lengths and contents. On true tables the groups after an arrival are the enumerated maximal sets, and the step of
-document 01 must give the same; on other sound tables they are what that step says.
+It stands on the rules of independent_rules.py, and shares nothing with tools/independent nor with the crates. Tables
+are what the caller lends, of any lengths and contents. On true tables the groups after an arrival are the enumerated
+maximal sets, and the step of document 01 must give the same; on other sound tables they are what that step says.
 """
 import struct
 from collections import namedtuple
 from functools import lru_cache
 
-from comparing import module
+import independent_rules as rules
 
-rules = module("independent")
-RECORD, TRAILER, SITES = rules.RECORD, rules.TRAILER, rules.SITES
+RECORD, PLACE, TRAILER, SITES = rules.RECORD, rules.PLACE, rules.TRAILER.size, rules.SITES
 RECORDS, OBJECTS, SETS, VERSIONS = rules.RECORDS, rules.OBJECTS, rules.SETS, rules.VERSIONS
 ENTRY = 3
-# the bytes of a place in the table of records
-PLACE = RECORD
 # the most Sets of a box whose groups are enumerated
 DECIDED = 20
 # the room that the call for all lines asks for: 2,049 lines of 874 bytes
@@ -40,64 +37,78 @@ def empty(n):
                   filled((), OBJECTS * VERSIONS))
 
 
-def placed(data):
+def placed(records):
     """The table of records that holds these, each at the front of its place."""
-    places = [data[at:at + RECORD].ljust(PLACE, b"\0") for at in range(0, len(data), RECORD)]
-    return b"".join(places).ljust(RECORDS * PLACE, b"\0")
+    return b"".join(r.ljust(PLACE, b"\0") for r in records).ljust(RECORDS * PLACE, b"\0")
+
+
+@lru_cache(maxsize=64)
+def records_at(places, number):
+    """The records at the front of the first places, so many, each as long as it says, but no longer than its place."""
+    held = [places[at:at + PLACE] for at in range(0, PLACE * number, PLACE)]
+    return tuple(place[:rules.length(place)] for place in held)
 
 
 def records_in(t):
-    """The records in the used places, one after another."""
-    return b"".join(t.places[PLACE * i:PLACE * i + RECORD] for i in range(t.records))
+    """The records in the used places."""
+    return records_at(t.places, t.records)
+
+
+def block_length(t):
+    """The bytes of the block that these tables are written as."""
+    return sum(map(len, records_in(t))) + TRAILER
 
 
 @lru_cache(maxsize=20000)
-def history(n, data):
-    """The edits of these records, where each passes 1 to 5 after those before it; else None."""
-    if not data:
+def history(n, records):
+    """The edits of these records, where each passes 1 to 5 and 16 after those before it; else None."""
+    if not records:
         return ()
-    before, last = history(n, data[:-RECORD]), data[-RECORD:]
+    before, last = history(n, records[:-1]), records[-1]
     if before is None or rules.Drawing(n, before).misfit(last):
         return None
-    return before + (rules.decode(last),)
+    return before + (rules.Edit(last),)
 
 
 @lru_cache(maxsize=20000)
-def is_accepted(n, data):
+def is_accepted(n, records):
     """Whether an empty drawing takes all these records in turn."""
-    if not data:
-        return True
-    before, last = data[:-RECORD], data[-RECORD:]
-    return is_accepted(n, before) and rules.Drawing(n, history(n, before)).answer(last) == 0
+    return not records or is_accepted(n, records[:-1]) and answer(n, records[:-1], records[-1]) == 0
+
+
+@lru_cache(maxsize=20000)
+def answer(n, before, record):
+    """The answer to a record that arrives after these, which are accepted."""
+    return rules.Drawing(n, history(n, before)).answer(record)
 
 
 @lru_cache(maxsize=20000)
 def maximal_groups(sets):
-    """The groups of the definition, as ascending numbers."""
-    return sorted(sum(1 << i for i in places) for places in rules.maximal_sets(sets, VERSIONS + 1))
+    """The groups of the definition, as ascending numbers: bit i of a group stands for the i-th Set."""
+    return sorted(sum(1 << i for i, e in enumerate(sets) if e in group) for group in rules.maximal_sets(sets))
 
 
-def built(n, data, edits, rows):
+def built(n, records, edits, rows):
     """The tables that hold these records, with these groups for each object."""
     drawing = rules.Drawing(n, edits)
     places = [i for i, e in enumerate(edits) if e.kind == rules.CREATE]
     entries, groups = [], []
     for place, numbers in zip(places, rows):
-        entries += [place, len(drawing.sets(rules.name(edits[place]))), len(numbers)]
+        entries += [place, len(drawing.sets(edits[place].name)), len(numbers)]
         groups += filled(numbers, VERSIONS)
     held = tuple(drawing.count(s) for s in range(SITES))
-    return Tables(n, len(edits), len(rows), held, drawing.sum(), placed(data), filled(entries, OBJECTS * ENTRY),
+    return Tables(n, len(edits), len(rows), held, drawing.sum(), placed(records), filled(entries, OBJECTS * ENTRY),
                   filled(groups, OBJECTS * VERSIONS))
 
 
 @lru_cache(maxsize=2000)
-def replayed(n, data):
+def replayed(n, records):
     """The tables that these records give from an empty drawing; None where one of them is refused."""
-    if not is_accepted(n, data):
+    if not is_accepted(n, records):
         return None
-    drawing = rules.Drawing(n, history(n, data))
-    rows = [maximal_groups(tuple(drawing.sets(rules.name(c)))) for c in drawing.creates()]
-    return built(n, data, history(n, data), rows)
+    drawing = rules.Drawing(n, history(n, records))
+    rows = [maximal_groups(drawing.sets(c.name)) for c in drawing.creates()]
+    return built(n, records, history(n, records), rows)
 
 
 def row(t, k):
@@ -122,9 +133,9 @@ def sound_edits(t):
     """The edits of sound tables; None where the tables are unsound, or not of the stated lengths."""
     if not has_lengths(t) or not 1 <= t.sites <= SITES or t.records > RECORDS or t.objects > OBJECTS:
         return None
-    data = records_in(t)
-    edits = history(t.sites, data)
-    if edits is None or t.places != placed(data):
+    records = records_in(t)
+    edits = history(t.sites, records)
+    if edits is None or t.places != placed(records):
         return None
     drawing = rules.Drawing(t.sites, edits)
     creates = [i for i, e in enumerate(edits) if e.kind == rules.CREATE]
@@ -134,14 +145,14 @@ def sound_edits(t):
         return None
     if any(t.entries[ENTRY * t.objects:]) or any(t.groups[VERSIONS * t.objects:]):
         return None
-    sets = [len(drawing.sets(rules.name(edits[i]))) for i in creates]
+    sets = [len(drawing.sets(edits[i].name)) for i in creates]
     return edits if all(is_object_sound(t, k, i, sets[k]) for k, i in enumerate(creates)) else None
 
 
 def stepped(groups, sets, new):
     """Document 01's step for a new Set: bit i of a group stands for the object's i-th Set."""
-    bit = 1 << len(sets)
-    compatible = sum(1 << i for i, s in enumerate(sets) if not rules.conflict(s, new))
+    bit, foes = 1 << len(sets), rules.foes_in(sets + (new,))[new]
+    compatible = sum(1 << i for i, s in enumerate(sets) if s not in foes)
     staying = {g for g in groups if g & ~compatible}
     holding = {g & compatible | bit for g in groups}
     largest = {g for g in holding if not any(g != h and g & h == g for h in holding)}
@@ -156,28 +167,27 @@ def arrived(t, record):
     misfit = drawing.misfit(record)
     if misfit:
         return Outcome(misfit)
-    new = rules.decode(record)
+    new = rules.Edit(record)
     if drawing.is_full(new):
         return Outcome(6)
-    after = taken(t, drawing, new, record)
-    data = records_in(t)
-    if t == replayed(t.sites, data) and after != replayed(t.sites, data + record):
+    after = taken(t, drawing, new)
+    records = records_in(t)
+    if t == replayed(t.sites, records) and after != replayed(t.sites, records + (record,)):
         raise AssertionError("the step from true groups does not give those of the definition")
     return Outcome(0, tables=after) if after else Outcome(7)
 
 
-def taken(t, drawing, new, record):
+def taken(t, drawing, new):
     """The tables with this edit after those held; None where the step gives more groups than a row has."""
-    creates = drawing.creates()
     rows = [row(t, k) for k in range(t.objects)]
     if new.kind == rules.CREATE:
         rows.append((0,))
-    elif new.kind == rules.SET:
-        k = [rules.name(c) for c in creates].index(new.target)
+    elif new.sets():
+        k = [c.name for c in drawing.creates()].index(new.target)
         rows[k] = stepped(rows[k], drawing.sets(new.target), new)
         if len(rows[k]) > VERSIONS:
             return None
-    return built(t.sites, records_in(t) + record, tuple(drawing.edits) + (new,), rows)
+    return built(t.sites, records_in(t) + (new.record,), drawing.edits + (new,), rows)
 
 
 def opened(t, n):
@@ -190,13 +200,14 @@ def read(t, data):
     if not has_lengths(t):
         return Outcome(8)
     try:
-        n, *stretch = rules.locate(data)
-        rules.read(data)
+        n, records = rules.locate(data)[0], rules.records_of(data)
     except rules.Refused as refusal:
-        # 1 to 7 are of a record, and leave an empty drawing
-        after = empty(n) if refusal.number < 8 else None
-        return Outcome(refusal.number, value=refusal.index, tables=after)
-    return Outcome(0, tables=replayed(n, b"".join(rules.long_records(data, *stretch))))
+        return Outcome(refusal.number)
+    for i, record in enumerate(records):
+        number = answer(n, records[:i], record)
+        if number:
+            return Outcome(number, value=i, tables=empty(n))
+    return Outcome(0, tables=replayed(n, records))
 
 
 def located(data):
@@ -225,9 +236,9 @@ def enumerated(t, box, output):
     if len(output) != len(as_numbers((0,) * VERSIONS)):
         return Outcome(11)
     drawing = rules.Drawing(t.sites, edits)
-    if box not in [rules.name(c) for c in drawing.creates()]:
+    if box not in [c.name for c in drawing.creates()]:
         return Outcome(5)
-    sets = tuple(drawing.sets(box))
+    sets = drawing.sets(box)
     if len(sets) > DECIDED:
         return Outcome(18)
     groups = maximal_groups(sets)
@@ -246,19 +257,19 @@ def put(data, room, output, start):
 def written(t, output, start):
     if sound_edits(t) is None:
         return Outcome(8)
-    data = records_in(t)
-    trailer = t.records.to_bytes(2, "little") + bytes((t.sites, rules.LONG)) + len(data).to_bytes(4, "little")
-    return put(data + trailer, len(data) + TRAILER, output, start)
+    data = b"".join(records_in(t))
+    block = data + rules.TRAILER.pack(t.records, t.sites, rules.LONG, len(data))
+    return put(block, len(block), output, start)
 
 
 @lru_cache(maxsize=64)
 def lines(t):
     """All lines of sound tables, as bytes."""
     drawing = rules.Drawing(t.sites, sound_edits(t))
-    rows = {rules.name(c): row(t, k) for k, c in enumerate(drawing.creates())}
-    boxes = [(c, rows[rules.name(c)]) for c in drawing.ordered()]
-    members = [(c, [[i for i in range(SETS) if g >> i & 1] for g in groups]) for c, groups in boxes]
-    return [line.encode() + b"\n" for line in drawing.lines_of(members)]
+    rows = {c.name: row(t, k) for k, c in enumerate(drawing.creates())}
+    boxes = [line for c in drawing.ordered() for line in drawing.box_lines(c, rows[c.name])]
+    head = "sites %d objects %d versions %d sum %d" % (t.sites, t.objects, len(boxes), t.sum)
+    return [line.encode() + b"\n" for line in [head] + boxes]
 
 
 def line_put(t, number, output, start):

@@ -1,8 +1,10 @@
 """Random input for the calls: drawings, sound tables whose groups are not true, records that are refused, outputs."""
 from independent_tables import (ENTRY, OBJECTS, PLACE, RECORD, RECORDS, SETS, SITES, VERSIONS, Tables, as_numbers,
                                 built, history, replayed, row, rules, sound_edits)
-from random_files import disputed, edited, full, no_kind, pairs
-from stored import KEY, OLD_SITES, TARGET_SEQ, TARGET_SITE, VALUE, VECTOR, old
+from random_edits import disputed, edited, full, long_lists, pairs, recoloured, settled
+from random_files import no_kind, spoilt_list
+from stored import (COUNT, KEY, LIMITED, MEMBER, MEMBERS, OLD_SITES, TARGET_SEQ, TARGET_SITE, VALUE, VECTOR, limited,
+                    old)
 from stored import record as stored_record
 
 BYTE, HALF, LARGEST = 1 << 8, 1 << 16, (1 << 64) - 1
@@ -18,18 +20,21 @@ NAMELESS = ("a Set", "the next edit of a site", "sequence number 0", "no site of
 
 def random_drawing(rng):
     """N and the records of a drawing in an order of arrival; now and then one that goes past a limit."""
-    shape = rng.random()
-    if shape < 0.15:
+    shape, sites = rng.random(), rng.randint(2, SITES)
+    if shape < 0.12:
         made, sites = pairs(rng, rng.choice((3, 4, 5, 6, 6)), rng.randrange(4)), 3
+    elif shape < 0.26:
+        made = disputed(rng, sites, 4, 3, rng.choice((0.0, 0.5)))
     elif shape < 0.3:
-        sites = rng.randint(2, SITES)
-        made = disputed(rng, sites, 4, 3)
-    elif shape < 0.35:
         made, sites = full(*rng.choice(((257, 5, 64), (257, 64, 3), (65, 65, 0), (80, 2, 65)))), 1
+    elif shape < 0.34:
+        made, sites = rng.choice((settled(64), long_lists(rng, rng.choice((15, 16, 17))))), 3
+    elif shape < 0.54:
+        made = recoloured(rng, sites)
     else:
         sites = rng.randint(1, rng.choice((OLD_SITES, SITES)))
         made = edited(rng, sites, rng.randrange(8, 60), rng.choice((1, 2, 4, 16)), rng.choice((2, 3, 1 << 32)),
-                      rng.choice((0.0, 0.1, 0.4)))
+                      rng.choice((0.0, 0.1, 0.4)), rng.choice((0.0, 0.5)))
     # a site more than there are authors, where it can be
     return min(SITES, sites + rng.choice((0, 1, 1))), [e[2] for e in made]
 
@@ -56,16 +61,16 @@ def random_row(rng, sets, true):
 
 def untrue_tables(rng, n, records):
     """Sound tables of these records with groups of any kind; None where no sound tables hold these records."""
-    data = b"".join(records)
-    edits = history(n, data)
+    records = tuple(records)
+    edits = history(n, records)
     if edits is None or len(records) > RECORDS:
         return None
     drawing = rules.Drawing(n, edits)
-    sets = [len(drawing.sets(rules.name(c))) for c in drawing.creates()]
+    sets = [len(drawing.sets(c.name)) for c in drawing.creates()]
     if len(sets) > OBJECTS or any(s > SETS for s in sets):
         return None
-    true = replayed(n, data)
-    return built(n, data, edits, [random_row(rng, s, row(true, k) if true else ()) for k, s in enumerate(sets)])
+    true = replayed(n, records)
+    return built(n, records, edits, [random_row(rng, s, row(true, k) if true else ()) for k, s in enumerate(sets)])
 
 
 def altered(record, changes):
@@ -87,10 +92,27 @@ def malformed(rng, n, record):
     if record[0] in rules.AIMED:
         choices.append({TARGET_SEQ: 0, TARGET_SEQ + 1: 0})
     if record[0] in rules.LAYERS:
-        choices.append({rng.choice((KEY, *range(VALUE, 0))): rng.randrange(1, 16)})
+        choices.append({rng.choice((KEY, *range(VALUE, RECORD))): rng.randrange(1, 16)})
     if record[0] == rules.CREATE:
-        choices.append({rng.randrange(TARGET_SITE, 0): rng.randrange(1, BYTE)})
+        choices.append({rng.randrange(TARGET_SITE, RECORD): rng.randrange(1, BYTE)})
+    if record[0] == LIMITED:
+        zeros = [COUNT + 2, COUNT + 3, *range(MEMBERS + 1, len(record), MEMBER)]
+        choices += [{rng.choice(zeros): rng.randrange(1, BYTE)}, {COUNT: record[COUNT] + 1}, {COUNT + 1: 1}]
     return altered(record, rng.choice(choices))
+
+
+def another_list(rng, n, record, held=()):
+    """The record as a Set limited to what is likely no version: a name less, more or other than it lists, some of its
+    box among these records, or any."""
+    e = rules.Edit(record)
+    target = e.target if e.kind != rules.CREATE else e.name
+    names = [(site, seq) for site, _, seq in e.members]
+    others = [a.name for a in map(rules.Edit, held) if a.sets() and a.target == target]
+    some = [(rng.randrange(n), rng.randrange(1, 9)) for _ in range(rng.randrange(1, 4))]
+    members = rng.choice((names[1:], names[:-1], names + some[:1], names[1:] + some[:1], some, [],
+                          names[1:] + rng.sample(others, min(1, len(others))),
+                          rng.sample(others, min(rng.randrange(1, 6), len(others)))))
+    return limited(e.site, e.vector, target, e.key % 16, e.value, sorted(set(members))[:rules.MEMBERS])
 
 
 def lowered(rng, record):
@@ -109,35 +131,41 @@ def astray(rng, record):
     target = rng.choice(((250, 1), (record[1], record[2]), (site, seq + 1), (site, 200),
                          (rng.randrange(SITES), rng.randrange(1, 9))))
     kind = rng.choice(rules.AIMED)
-    empty = {at: 0 for at in (KEY, *range(VALUE, 0))} if kind in rules.LAYERS else {}
-    return altered(record, {0: kind, TARGET_SITE: target[0], TARGET_SEQ: target[1] or 1, **empty})
+    empty = {at: 0 for at in (KEY, *range(VALUE, RECORD))} if kind in rules.LAYERS else {}
+    behind = record[RECORD:] or bytes(MEMBERS - RECORD) if kind == LIMITED else b""
+    return altered(record[:RECORD] + behind, {0: kind, TARGET_SITE: target[0], TARGET_SEQ: target[1] or 1, **empty})
 
 
 def late(rng, t):
     """A Set by a site of which no edit is held, and which has seen a box and nothing since: it disputes what others
-    set there. None where these sound tables have no such site, or no Sets."""
+    set there. It is a plain one, or limited to the one version that it has seen. None where these sound tables have no
+    such site, or no Sets."""
     edits = sound_edits(t)
     silent = [s for s in range(t.sites) if t.held[s] == 0]
-    sets = [e for e in edits if e.kind == rules.SET]
+    sets = [e for e in edits if e.sets()]
     if not silent or not sets:
         return None
     site, other = rng.choice(silent), rng.choice(sets)
-    create = next(e for e in edits if rules.name(e) == other.target)
+    create = next(e for e in edits if e.name == other.target)
     vector = [1 if s == site else seen for s, seen in enumerate(create.vector)]
-    return stored_record(rules.SET, site, vector, other.target, other.key, rng.randrange(BYTE))
+    what = site, vector, other.target, other.key, rng.randrange(BYTE)
+    return rng.choice((stored_record(rules.SET, *what), limited(*what, [])))
 
 
 def tries(rng, n, held, coming):
     """Records that may arrive when these are held and these are to come; most are refused."""
     one = coming[0] if coming else held[-1] if held else bytes(RECORD)
     out = [one[:-1], one + b"\0", b"", old(one), rng.randbytes(RECORD), malformed(rng, n, one), lowered(rng, one),
-           lowered(rng, one), astray(rng, one), rng.choice(coming or [one]), rng.choice(held or [one])]
+           lowered(rng, one), astray(rng, one), rng.choice(coming or [one]), rng.choice(held or [one]),
+           another_list(rng, n, one, held), another_list(rng, n, one, held), one.ljust(PLACE, b"\0"), bytes(PLACE)]
+    if one[0] == LIMITED:
+        out += [spoilt_list(rng, one), spoilt_list(rng, one), one[:RECORD], one[:MEMBERS]]
     return rng.sample(out, 3)
 
 
 def no_creates(rng, t):
     """A name of each kind that no Create of these sound tables has; of a Set only where there is one."""
-    sets = [rules.name(e) for e in sound_edits(t) if e.kind == rules.SET]
+    sets = [e.name for e in sound_edits(t) if e.sets()]
     site = rng.randrange(t.sites)
     names = {"a Set": rng.choice(sets) if sets else None, "the next edit of a site": (site, t.held[site] + 1),
              "sequence number 0": (site, 0), "no site of the drawing": (t.sites, 1),

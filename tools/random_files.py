@@ -1,115 +1,45 @@
-"""Random stored drawings in both forms: laptops that edit and merge, orders of one set of edits, and damage of every
-kind."""
-from stored import (BOTTOM, CREATE, KEY, LONG, OLD, OLD_RECORD, OLD_SITES, RECORD, SET, SITES, TARGET_SEQ, TARGET_SITE,
-                    TOP, VECTOR, block, forms, old, record, trailer)
-
-
-class Edits:
-    """The edits of some laptops, each with the vector of what its author had applied."""
-
-    def __init__(self, sites):
-        self.sites = sites
-        self.seen = [[0] * SITES for _ in range(sites)]
-        self.boxes = [[] for _ in range(sites)]
-        self.made = []
-
-    def make(self, site, kind, target=(0, 0), key=0, value=0):
-        self.seen[site][site] += 1
-        vector = tuple(self.seen[site])
-        self.made.append((site, vector, record(kind, site, vector, target, key, value)))
-        if kind == CREATE:
-            self.boxes[site].append((site, vector[site]))
-
-    def merge(self, to, source):
-        self.seen[to] = [max(a, b) for a, b in zip(self.seen[to], self.seen[source])]
-        self.boxes[to] = sorted(set(self.boxes[to]) | set(self.boxes[source]))
-
-
-def edited(rng, sites, steps, keys, values, layers=0.0):
-    """Laptops that edit and merge at random; this part of the edits of a box are layer edits."""
-    edits = Edits(sites)
-    for _ in range(steps):
-        site = rng.randrange(sites)
-        if not edits.boxes[site] or rng.random() < 0.12:
-            edits.make(site, CREATE)
-        elif rng.random() < 0.3:
-            edits.merge(site, rng.randrange(sites))
-        elif rng.random() < layers:
-            edits.make(site, rng.choice((TOP, BOTTOM)), rng.choice(edits.boxes[site]))
-        else:
-            # near values too, some of them in one square of the grid
-            value = rng.randrange(values) * rng.choice((1, 5, 8)) % (1 << 32)
-            edits.make(site, SET, rng.choice(edits.boxes[site]), rng.randrange(keys), value)
-    return edits.made
-
-
-def disputed(rng, sites, keys, values):
-    """Laptops that all have one box and seldom see each other."""
-    edits = Edits(sites)
-    edits.make(0, CREATE)
-    for site in range(1, sites):
-        edits.merge(site, 0)
-    for _ in range(rng.randrange(6, 24)):
-        if rng.random() < 0.3:
-            edits.merge(rng.randrange(sites), rng.randrange(sites))
-        edits.make(rng.randrange(sites), SET, (0, 1), rng.randrange(keys), rng.randrange(values))
-    return edits.made
-
-
-def shuffled(rng, made):
-    """The same edits in another order, each after all that its author had seen."""
-    left, held, out = list(made), [0] * SITES, []
-    while left:
-        ready = [e for e in left if all(
-            v <= held[s] + (s == e[0]) for s, v in enumerate(e[1])) and e[1][e[0]] == held[e[0]] + 1]
-        one = rng.choice(ready)
-        left.remove(one)
-        held[one[0]] += 1
-        out.append(one)
-    return out
-
-
-def pairs(rng, number, extra):
-    """Sites 1 and 2, neither seeing the other, set so many keys to different values: 2 to that power versions."""
-    edits = Edits(3)
-    edits.make(0, CREATE)
-    edits.merge(1, 0)
-    edits.merge(2, 0)
-    for key in range(number):
-        for site in (1, 2):
-            edits.make(site, SET, (0, 1), key, 10 * site)
-    for _ in range(extra):
-        edits.make(0, SET, (0, 1), rng.randrange(8, 16), rng.randrange(4))
-    return edits.made
-
-
-def full(records, boxes, sets):
-    """Site 0 alone: so many boxes, so many Sets of the first one, and Sets of the others up to so many records."""
-    edits = Edits(1)
-    for _ in range(boxes):
-        edits.make(0, CREATE)
-    for i in range(sets):
-        edits.make(0, SET, (0, 1), i % 16, i)
-    i = 0
-    while len(edits.made) < records:
-        edits.make(0, SET, (0, 2 + i % (boxes - 1)), i % 16, i)
-        i += 1
-    return edits.made
+"""Random stored drawings in both forms, and damage of every kind."""
+from random_edits import disputed, edited, full, long_lists, pairs, recoloured, settled
+from stored import (BOTTOM, COUNT, EARLIER, KEY, LIMITED, LONG, MEMBER, MEMBERS, MOST_MEMBERS, OLD, OLD_RECORD,
+                    OLD_SITES, RECORD, SITES, TARGET_SEQ, TARGET_SITE, TOP, VECTOR, block, closed, forms, old, trailer)
 
 
 def no_kind(rng, form=LONG):
     """A first byte that no record in this form has."""
-    return rng.choice((0, 3, rng.randrange(6, 256)) + ((TOP, BOTTOM) if form == OLD else ()))
+    return rng.choice((0, rng.randrange(6, 256)) + ((LIMITED, TOP, BOTTOM) if form == OLD else ()))
+
+
+def spoilt_list(rng, record):
+    """A limited Set whose list is none, or most likely that of no version; now and then its count is not that of its
+    bytes."""
+    members = [record[at:at + MEMBER] for at in range(MEMBERS, len(record), MEMBER)]
+    at, other = rng.randrange(len(members) + 1), bytes((rng.randrange(4), 0, rng.randrange(1, 9), 0))
+    changed = rng.choice((
+        members[:at] + members[at + 1:], members[:at] + [other] + members[at:], members[::-1], members + members[-1:],
+        # one more than can be listed, in order
+        [bytes((2, 0, seq, 0)) for seq in range(1, MOST_MEMBERS + 2)],
+        [bytes((0, 0, seq, 0)) for seq in range(1, rng.randrange(2, MOST_MEMBERS + 2))]))
+    count = rng.choice((len(changed),) * 6 + (len(changed) + 1, len(members), 256, 65535))
+    bad = bytearray(record[:COUNT] + count.to_bytes(2, "little") + record[COUNT + 2:MEMBERS] + b"".join(changed))
+    zeros = [COUNT + 2, COUNT + 3, *range(MEMBERS + 1, len(bad), MEMBER)]
+    if rng.random() < 0.3:
+        bad[rng.choice(zeros)] = rng.randrange(1, 256)
+    return bytes(bad)
 
 
 def damaged(rng, sites, records, form):
     """One thing wrong among the records, or in the trailer of a block in this form."""
     records = [old(r) for r in records] if form == OLD else list(records)
+    listing = [i for i, r in enumerate(records) if r[0] == LIMITED]
+    if listing and rng.random() < 0.4:
+        i = rng.choice(listing)
+        records[i] = spoilt_list(rng, records[i])
+        return closed(sites, records, form)
     i = rng.randrange(len(records))
-    bad = bytearray(records[i])
+    bad, earlier = bytearray(records[i]), EARLIER if form == OLD else 0
     kind = rng.randrange(13)
     if kind == 0:
-        bad[rng.choice((1, KEY))] = rng.choice((0, 3, 16, 200))
+        bad[rng.choice((1, KEY - earlier))] = rng.choice((0, 3, 16, 200))
     elif kind == 1:
         bad[rng.randrange(len(bad))] ^= 1 << rng.randrange(8)
     elif kind == 2:
@@ -123,19 +53,15 @@ def damaged(rng, sites, records, form):
     elif kind in (5, 6):
         return torn(rng, sites, records, form)
     elif kind == 7:
-        bad[TARGET_SITE], bad[TARGET_SEQ] = rng.choice((
-            (bad[TARGET_SITE], bad[TARGET_SEQ] + 1 & 255), (250, 1), (bad[1], bad[2]), (bad[TARGET_SITE], 0)))
+        site, seq = TARGET_SITE - earlier, TARGET_SEQ - earlier
+        bad[site], bad[seq] = rng.choice((
+            (bad[site], bad[seq] + 1 & 255), (250, 1), (bad[1], bad[2]), (bad[site], 0)))
     elif kind == 8:
         bad[0] = no_kind(rng, form)
     else:
         return bad_trailer(rng, sites, records, form)
     records[i] = bytes(bad)
     return closed(sites, records, form)
-
-
-def closed(sites, stored, form):
-    """Records that are in this form already, and their trailer."""
-    return b"".join(stored) + trailer(len(stored), sites, form)
 
 
 def torn(rng, sites, records, form):
@@ -153,18 +79,20 @@ def torn(rng, sites, records, form):
 def bad_trailer(rng, sites, records, form):
     """The records with another trailer than theirs, or cut."""
     body, number = b"".join(records), len(records)
-    right, switched = trailer(number, sites, form), LONG if form == OLD else OLD
-    own, other = (OLD_RECORD, RECORD) if form == OLD else (RECORD, OLD_RECORD)
+    size, switched, other = len(body), LONG if form == OLD else OLD, RECORD if form == OLD else OLD_RECORD
+    right = trailer(number, sites, form, size)
     wrong = rng.choice((
         # N: none, one too many, and more than an old block has
-        trailer(number, 0, form), trailer(number, SITES + 1, form), trailer(number, 255, form),
-        trailer(number, rng.randint(OLD_SITES + 1, SITES), form),
+        trailer(number, 0, form, size), trailer(number, SITES + 1, form, size), trailer(number, 255, form, size),
+        trailer(number, rng.randint(OLD_SITES + 1, SITES), form, size),
         # the form: none, or the other one
-        trailer(number, sites, 2, own * number), trailer(number, sites, rng.randint(2, 255), own * number),
-        trailer(number, sites, switched, own * number), trailer(number, sites, switched),
+        trailer(number, sites, 2, size), trailer(number, sites, rng.randint(2, 255), size),
+        trailer(number, sites, switched, size), trailer(number, sites, switched),
         # the distance and the number of records
-        trailer(number, sites, form, own * number - 1), trailer(number, sites, form, other * number),
-        trailer(number + 1, sites, form), trailer(257, sites, form), trailer(257, sites, form, own * number)))
+        trailer(number, sites, form, size - 1), trailer(number, sites, form, size + 4),
+        trailer(number, sites, form, other * number), trailer(number, sites, form, size - len(records[0])),
+        trailer(number + 1, sites, form, size), trailer(number - 1, sites, form, size),
+        trailer(257, sites, form), trailer(257, sites, form, size)))
     # bytes ahead, so that a distance does not reach before the start
     more = bytes(RECORD * (number + 1)) if rng.random() < 0.5 else b""
     return rng.choice((more + body + wrong,) * 6 + (body, body[1:] + right, b"", b"1234567", (body + right)[:-1]))
@@ -177,24 +105,35 @@ def ahead(rng, stored):
     return rng.randbytes(size) + stored
 
 
+def random_edits(rng):
+    """N and the edits of a file; the third says whether they are few enough to be damaged."""
+    sites = rng.randint(1, rng.choice((OLD_SITES, SITES)))
+    shape, wrong = rng.random(), rng.choice((0.0, 0.0, 0.1))
+    if shape < 0.08:
+        return 3, pairs(rng, rng.choice((1, 2, 4, 5, 5, 6, 6)), rng.randrange(5)), False
+    if shape < 0.13:
+        return 1, full(*rng.choice(((256, 2, 64), (256, 64, 3), (65, 65, 0), (80, 2, 65), (130, 65, 2)))), False
+    if shape < 0.15:
+        return 1, settled(rng.choice((1, 62, 63, 64)), rng.choice(((), ((0, 2),)))), False
+    if shape < 0.17:
+        return 3, long_lists(rng, rng.choice((3, 15, 16, 17))), True
+    if shape < 0.29:
+        return sites, disputed(rng, sites, rng.choice((1, 3, 4)), rng.choice((3, 99)), rng.choice((0.0, 0.3, 0.7)),
+                               wrong), True
+    if shape < 0.5:
+        return sites, recoloured(rng, sites, wrong), True
+    return sites, edited(rng, sites, rng.randrange(1, 60), rng.choice((1, 2, 4, 16)), rng.choice((1, 2, 3, 1 << 32)),
+                         rng.choice((0.0, 0.0, 0.1, 0.5)), rng.choice((0.0, 0.0, 0.3, 0.8)), wrong), True
+
+
 def random_file(rng):
     """One file, and whether other orders of the same edits may be tried: then its sites and edits."""
-    sites = rng.randint(1, rng.choice((OLD_SITES, SITES)))
-    shape = rng.random()
-    if shape < 0.08:
-        made, sites = pairs(rng, rng.choice((1, 2, 4, 5, 5, 6, 6)), rng.randrange(5)), 3
-    elif shape < 0.13:
-        made, sites = full(*rng.choice(((256, 2, 64), (256, 64, 3), (65, 65, 0), (80, 2, 65), (130, 65, 2)))), 1
-    elif shape < 0.25:
-        made = disputed(rng, sites, rng.choice((1, 3, 4)), rng.choice((3, 99)))
-    else:
-        made = edited(rng, sites, rng.randrange(1, 60), rng.choice((1, 2, 4, 16)), rng.choice((1, 2, 3, 1 << 32)),
-                      rng.choice((0.0, 0.0, 0.1, 0.5)))
+    sites, made, may_be_damaged = random_edits(rng)
     records = [e[2] for e in made]
     form = rng.choice(forms(sites, records))
     if not made:
         return block(sites, [], form), None
-    if shape >= 0.13 and rng.random() < 0.5:
+    if may_be_damaged and rng.random() < 0.4:
         return damaged(rng, sites, records, form), None
     stored = block(sites, records, form)
     if rng.random() < 0.08:

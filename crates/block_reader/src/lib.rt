@@ -61,8 +61,7 @@ pub fn take(stretch: &[u8], form: u8, place: usize) -> Taken
         let given = Given { found: false, edit };
         return Taken { given, place };
     }
-    let long = edit_form::long_from(&stretch[place..], form);
-    let edit = edit_record::decode(&long);
+    let edit = edit_form::edit_from(&stretch[place..], form);
     let given = Given { found: true, edit };
     Taken {
         given,

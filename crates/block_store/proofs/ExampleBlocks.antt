@@ -5,11 +5,12 @@ use Prim.Native.Nat.{ℕ}
 use lib.ListN.{replicate}
 use Rattle.math_lists.specs.NumbersBelow.{some}
 use Rattle.math_lists.specs.SortedLists.{any, filter}
-use Rattle.edit_record.specs.RecordBytes.{counts, countBytes, spanOf}
-use Rattle.edit_record.specs.Answer1.{nonzeroPast, unfit, malformed}
+use Rattle.edit_record.specs.RecordBytes.{counts, countBytes, firstFours, spanOf}
+use Rattle.edit_record.specs.Answer1.{nonzeroPast, listUnfit, unfit, malformed}
 use Rattle.edit_form.specs.OldForm.{chained}
 use Rattle.edit_history.specs.EditsHeld.{editsOf, countFrom}
 use Rattle.edit_history.specs.Answers2to5.{isRepeated, isEarly, isTorn, isAstray}
+use Rattle.edit_history.specs.Answer16.{namelessAmong}
 use Rattle.table_drawing.specs.Tables.{emptyDrawing}
 use Rattle.table_arrival.specs.Answers6and7.{isFull, isCrowded, firstOf, answerTo}
 use Rattle.table_arrival.specs.Arrival.{withCreate, acceptanceOf}
@@ -28,5 +29,6 @@ pub example-blocks :
 unfolding chained blockOf trailerOf countBytes emptyDrawing withCreate acceptanceOf answerTo firstOf isFull isCrowded
     spanOf
 example-blocks =
-    unfold malformed unfit nonzeroPast isRepeated isEarly isTorn isAstray some any filter counts editsOf countFrom in
+    unfold malformed unfit listUnfit nonzeroPast isRepeated isEarly isTorn isAstray namelessAmong some any filter counts
+    firstFours editsOf countFrom in
     (refl, refl, refl)

@@ -14,6 +14,7 @@ use Rattle.edit_record.proofs.NumbersInBytes.{Bytes}
 use Rattle.edit_form.specs.OldForm.{longForm, startOf, storedIn, chained}
 use Rattle.edit_form.proofs.Stretches.{chained-same, chained-again}
 use Rattle.edit_history.specs.EditsHeld.{bytesAt}
+use Rattle.edit_sum.proofs.SumOfRecords.{passing-fit}
 use Rattle.table_drawing.specs.Tables.{Tables, emptyDrawing, lengthsRight, sitesRight}
 use Rattle.table_soundness.specs.Sound.{sound}
 use Rattle.table_replay.specs.Replay.{Replayed, replayed, replayOf}
@@ -44,7 +45,8 @@ written-and-read-back sites rs right n t g ahead room u lengths =
     ∙ ap₂ (λ (x y : ℕ). replayOf x (bytesAt (t .records)) y) (sym (h .sites-are)) (sym (h .count)) in
     let front : replayed 0 0 t ≡ replayOf (c .sites) (storedIn longForm (recordBytes t)) (c .records)
     = own
-    ∙ sym (replay-held (c .sites) (t .records) (c .records) (omega (arith, s .records-long, s .few-records))) in
+    ∙ sym (replay-held (c .sites) (t .records) (c .records) (omega (arith, s .records-long, s .few-records))
+    (passing-fit (c .sites) (t .records) (c .records) (s .pass))) in
     sym (file-read u file lengths 0 (c .sites) longForm (c .records) (sym (ap (λ (l : Located). l .trailer) at)) refl
     (recordBytes t) (sym (ap (λ (l : Located). l .stretch) at)) (replayed 0 0 t)
     (all-taken (c .sites) longForm (recordBytes t) (c .records) 0 0 t front refl))

@@ -14,6 +14,7 @@ use Rattle.edit_record.proofs.RecordSpans.{span-most, span-own}
 use Rattle.edit_form.specs.OldForm.{chained}
 use Rattle.edit_history.specs.EditsHeld.{bytesAt}
 use Rattle.edit_history.proofs.FieldsInPlace.{bytes-whole}
+use Rattle.edit_sum.specs.WordSum.{ListsFit}
 use Rattle.table_drawing.specs.Tables.{Tables}
 use Rattle.table_soundness.specs.Sound.{sound}
 use Rattle.block_trailer.proofs.TrailerBytes.{trailer-long}
@@ -24,10 +25,10 @@ use Rattle.table_output.proofs.OutputOutcomes.{lent-back, not-put, put-whole}
 
 -- ---- the block
 
-module _ (rs : List ℕ) (n : ℕ) (there : n * placeLength ≤ length rs) where
+module _ (rs : List ℕ) (n : ℕ) (there : n * placeLength ≤ length rs) (fit : ListsFit rs n) where
   -- the bytes of each record that is held, from its place
   pub held-whole : (p : ℕ) → p < n → length (bytesAt rs p) ≡ spanOf (bytesAt rs p)
-  held-whole p l = bytes-whole rs p (omega arith)
+  held-whole p l = bytes-whole rs p (omega arith) (fit p l)
 
   module _ (p : ℕ) (l : p < n) (w : ℕ) where
     abbrev lent : List ℕ
@@ -41,7 +42,7 @@ module _ (rs : List ℕ) (n : ℕ) (there : n * placeLength ≤ length rs) where
 
     pub place-there : w ≡ spanOf lent → w ≤ length lent
     place-there h =
-        rw (h, lent-is) (omega (arith, length-drop (p * placeLength) rs, span-most place))
+        rw (h, lent-is) (omega (arith, length-drop (p * placeLength) rs, span-most place (fit p l)))
 
     pub held-long : w ≡ spanOf lent → length (bytesAt rs p) ≡ w
     held-long h = held-whole p l ∙ span-own place ∙ sym (h ∙ ap spanOf lent-is)
@@ -65,7 +66,8 @@ module _ (rs : List ℕ) (n : ℕ) (there : n * placeLength ≤ length rs) where
         held-most k (omega arith),
         length-append (chained (bytesAt rs) k) (bytesAt rs k),
         held-whole k l,
-        span-most (bytesAt rs k),
+        span-own (drop (k * placeLength) rs),
+        span-most (drop (k * placeLength) rs) (fit k l),
       )
 
 block-long : (t : Tables) → length (blockOf t) ≡ length (recordBytes t) + trailerLength

@@ -16,6 +16,8 @@ use Rattle.edit_form.specs.OldForm.{longForm, startOf, storedIn, chained}
 use Rattle.edit_form.proofs.Stretches.{chained-starts, chained-stored}
 use Rattle.edit_record.proofs.NumbersInBytes.{Bytes, two-drop, bytes-drop}
 use Rattle.edit_history.specs.EditsHeld.{mostRecords, bytesAt}
+use Rattle.edit_sum.specs.WordSum.{ListsFit}
+use Rattle.edit_sum.proofs.SumOfRecords.{passing-fit}
 use Rattle.table_drawing.specs.Tables.{Tables, sitesRight}
 use Rattle.table_soundness.specs.Sound.{sound}
 use Rattle.table_soundness.proofs.SoundFacts.{sound-at}
@@ -84,7 +86,8 @@ block-located t ok ahead room =
     and-on (leb 1 sites) (leb sites mostSites) (le-leb 1 sites (s .some-sites))
     (le-leb sites mostSites (s .few-sites)) in
     let n = t .counters .records in
-    let whole = held-whole (t .records) n (omega (arith, s .records-long, s .few-records)) in
+    let whole = held-whole (t .records) n (omega (arith, s .records-long, s .few-records))
+    (passing-fit sites (t .records) n (s .pass)) in
     records-located (recordBytes t) n sites (chained-starts (bytesAt (t .records)) n whole n (omega arith))
     (s .few-records) right ahead room
 
@@ -148,8 +151,8 @@ module _ (file : List ℕ) where
 -- ---- the stretch holds the records that the table holds
 
 pub replay-held :
-    (sites : ℕ) (rs : List ℕ) (n : ℕ) → n * placeLength ≤ length rs →
+    (sites : ℕ) (rs : List ℕ) (n : ℕ) → n * placeLength ≤ length rs → ListsFit rs n →
     replayOf sites (storedIn longForm (chained (bytesAt rs) n)) n ≡ replayOf sites (bytesAt rs) n
-replay-held sites rs n there =
+replay-held sites rs n there fit =
     replay-same sites (storedIn longForm (chained (bytesAt rs) n)) (bytesAt rs) n
-    (chained-stored (bytesAt rs) n (held-whole rs n there))
+    (chained-stored (bytesAt rs) n (held-whole rs n there fit))

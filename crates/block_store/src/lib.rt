@@ -14,6 +14,7 @@ ghost use lib.ListN.{length, drop};
 ghost use Rattle.edit_record.specs.Layout.{placeLength};
 ghost use Rattle.edit_form.specs.OldForm.{startOf, chained};
 ghost use Rattle.edit_history.specs.EditsHeld.{mostRecords, bytesAt};
+ghost use Rattle.edit_sum.specs.WordSum.{ListsFit};
 ghost use Rattle.table_drawing.specs.Tables.{tablesOf, lengthsRight, sitesRight};
 ghost use Rattle.table_drawing.specs.AnswerNumbers.{numberOf};
 ghost use Rattle.table_replay.specs.Replay.{replayed};
@@ -24,7 +25,7 @@ ghost use Rattle.block_store.specs.Reading.{recordsRead, readingOf};
 
 // The bytes of the first n records of a table.
 fn record_bytes(records: &[u8], n: usize) -> usize
-    requires { ⌜ (n ≤ mostRecords) × (n * placeLength ≤ length (now records)) ⌝ }
+    requires { ⌜ (n ≤ mostRecords) × (n * placeLength ≤ length (now records)) × ListsFit (now records) n ⌝ }
     ensures { λ r. ⌜ r ≡ length (chained (bytesAt (now (records .entry))) n) ⌝ }
 {
     let mut bytes: usize = 0;
@@ -39,7 +40,7 @@ fn record_bytes(records: &[u8], n: usize) -> usize
 
 // The first n records of a table at the start of out, each from its place, one behind the other.
 fn write_records(out: &mut [u8], records: &[u8], n: usize)
-    requires { ⌜ (n ≤ mostRecords) × (n * placeLength ≤ length (now records))
+    requires { ⌜ (n ≤ mostRecords) × (n * placeLength ≤ length (now records)) × ListsFit (now records) n
         × (length (chained (bytesAt (now records)) n) ≤ length (now out)) ⌝ }
     ensures { λ r. ⌜ now (out .exit) ≡ chained (bytesAt (now (records .entry))) n
         ++ drop (length (chained (bytesAt (now (records .entry))) n)) (now (out .entry)) ⌝ }
@@ -58,7 +59,7 @@ fn write_records(out: &mut [u8], records: &[u8], n: usize)
 
 // The block of n records of so many bytes, of a drawing of so many sites, at the start of out.
 fn write_block(out: &mut [u8], records: &[u8], n: u16, sites: u8, end: usize)
-    requires { ⌜ (n ≤ mostRecords) × (n * placeLength ≤ length (now records))
+    requires { ⌜ (n ≤ mostRecords) × (n * placeLength ≤ length (now records)) × ListsFit (now records) n
         × (end ≡ length (chained (bytesAt (now records)) n))
         × (end + trailerLength ≤ length (now out)) ⌝ }
     ensures { λ r. ⌜ now (out .exit) ≡ (chained (bytesAt (now (records .entry))) n ++ trailerOf n sites end)

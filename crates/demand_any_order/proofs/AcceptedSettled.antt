@@ -1,7 +1,7 @@
 -- A list of edits that is accepted throughout is settled, and its order is causal. Assumes at most sixteen sites.
-use mathlib.Core.Path.{_≡_, refl, sym, subst, _∙_}
+use mathlib.Core.Path.{_≡_, refl, sym, ap, subst, _∙_}
 use mathlib.Core.Logic.{inl, inr}
-use mathlib.Core.Bool.{true, false, not, and-false}
+use mathlib.Core.Bool.{Bool, true, false, not, _&&_, and-false}
 use mathlib.Core.List.{
   List,
   [],
@@ -17,28 +17,37 @@ use native.Mathlib.Omega.{arith}
 use lib.ListN.{length, getD, length-append}
 use lib.Seq.{append-snoc}
 use lib.Dec.{ltb}
-use borrow.Author.Tests.{lt-leb, le-ltb}
-use Rattle.math_lists.specs.SortedLists.{filter, Asc}
-use Rattle.math_lists.proofs.Booleans.{clash, decide, off, both}
+use lib.Dec.{eqb}
+use borrow.Author.Tests.{lt-leb, le-ltb, eqb-true}
+use Rattle.math_lists.specs.SortedLists.{any, filter, Asc}
+use Rattle.math_lists.proofs.Booleans.{clash, decide, off, both, neither}
+use Rattle.math_lists.proofs.Elements as numbers
+use Rattle.math_lists.proofs.GrownAtEnd.{filter-few}
 use Rattle.math_lists.proofs.NumbersBelow.{some-off}
 use Rattle.edit_record.specs.declared.Edit.{Edit}
 use Rattle.edit_record.specs.Layout.{mostSites}
-use Rattle.edit_record.specs.Answer1.{isCreate, isSet, unfit}
+use Rattle.edit_record.specs.Answer1.{isCreate, isSet, unfit, nameOf}
 use Rattle.edit_record.proofs.WellFormed.{WellFormed, well-formed}
 use Rattle.edit_causal.specs.Causal.{sameEdit, comesBefore, hasSeen}
-use Rattle.edit_history.specs.EditsHeld.{creates, isSetOn, setsOn, mostRecords}
+use Rattle.math_contexts.specs.NamedVersions.{namesNone}
+use Rattle.edit_causal.specs.Conflict.{listedBy, boxOn}
+use Rattle.edit_causal.specs.ConflictForms.{saw}
+use Rattle.edit_history.specs.EditsHeld.{countFrom, creates, isSetOn, setsOn, mostRecords}
+use Rattle.edit_history.specs.Answer16.{isStrange, namelessAmong}
 use Rattle.edit_history.specs.Answers2to5.{largerSomewhere, tears}
 use Rattle.group_step.specs.GroupRows.{mostObjects, mostSets, mostGroups}
 use Rattle.group_true.specs.TrueGroups.{trueGroups}
 use Rattle.edit_causal.proofs.Identities.{same-parts}
 use Rattle.table_arrival.proofs.UntouchedSound.{creates-snoc, sets-snoc}
 use Rattle.group_true.proofs.TrueGroups.{groups-same, groups-first}
+use Rattle.group_true.proofs.ProperSets.{Orderly, orderly-none, orderly-more}
 use Rattle.math_lists.specs.Rearranged.{Mem}
-use Rattle.demand_any_order.specs.Settled.{named, AllAccepted, MayPrecede, Causal, Differ, Apart, Settled}
-use Rattle.math_lists.proofs.ListMembers.{split-mem, mem-along, mem-middle, fronts}
+use Rattle.demand_any_order.specs.Settled.{named, AllAccepted, MayPrecede, Causal, Differ, Apart}
+use Rattle.demand_any_order.specs.Settled.{Numbered, Known, Settled}
+use Rattle.math_lists.proofs.ListMembers.{any-at, chosen-at, split-mem, mem-along, mem-middle, fronts}
 use Rattle.math_lists.proofs.PairsInList.{pairs-snoc, pairs-cross, pairs-weaken}
 use Rattle.demand_any_order.proofs.Identities.{same-at, seen-on, one-object}
-use Rattle.demand_any_order.proofs.AnswerNought.{Fine, fine-at}
+use Rattle.demand_any_order.proofs.AnswerNought.{Fine, fine-at, fine-passes}
 use Rattle.demand_any_order.proofs.CountsInTurn.{Counted, counted-none, counted-more}
 
 -- a's author had not applied b
@@ -118,6 +127,40 @@ module _ (n : ℕ) (few : n ≤ mostSites) (es : List Edit) (t : AllAccepted n e
         ]
       ]
 
+  -- ---- what the limited Sets list
+
+  orderly : Orderly es
+  orderly =
+      over Orderly orderly-none
+      (λ us x f o. orderly-more n few us x o (fine-passes n us x f) (f .names))
+
+  numbered : Numbered es
+  numbered e m =
+      let (us, vs, q) = split-mem m in
+      let f = fine-at n us e (t us vs e q) in
+      let few : countFrom (e .site .0) us ≤ length us
+      = unfold countFrom in filter-few (λ a. eqb (a .site .0) (e .site .0)) us in
+      omega (arith, f .inTurn .next, f .room)
+
+  known : Known es
+  unfolding setsOn namelessAmong
+  known e m limited x listed =
+      let (us, vs, q) = split-mem m in
+      let f = fine-at n us e (t us vs e q) in
+      let on = isSetOn (e .tsite) (e .tseq) in
+      let ms = filter on us in
+      let (strange, _) = neither (any (isStrange ms e) (listedBy e)) (namesNone (boxOn (ms ++ (e ∷ []))) (length ms))
+      (rw limited at (f .names)) in
+      let hit : Edit → Bool = λ a. saw e a && eqb (nameOf a) x in
+      let met : any hit ms ≡ true = elim (decide (any hit ms)) [
+        | inl h ↦ h
+        | inr h ↦ clash (numbers.any-on (isStrange ms e) (listedBy e) x listed (ap not h)) strange
+      ] in
+      let (a, k, h) = any-at hit ms met in
+      let (mem, its) = chosen-at on a us k in
+      let (seen, name) = both (saw e a) (eqb (nameOf a) x) h in
+      (a, mem-along (sym q) (Memᴰ·append-left (e ∷ vs) mem), its, seen, eqb-true (nameOf a) x name)
+
   -- ---- the limits
 
   few-objects : length (creates es) ≤ mostObjects
@@ -161,6 +204,9 @@ module _ (n : ℕ) (few : n ≤ mostSites) (es : List Edit) (t : AllAccepted n e
         let (xs, ys, q) = split-mem m in
         let (c, i, a) = fine-at n xs e (t xs ys e q) .aimed k in
         (c, mem-along (sym q) (Memᴰ·append-left (e ∷ ys) i), a);
+    numbered = numbered;
+    known = known;
+    versions = λ s q. orderly .boxes s q .named;
     few-records =
         over (λ us. length us ≤ mostRecords) (omega arith)
         (λ us x f h. omega (arith, f .room, length-append us (x ∷ [])));

@@ -15,12 +15,13 @@ use Rattle.edit_record.specs.declared.Edit.{Edit}
 use Rattle.edit_record.specs.Layout.{mostSites}
 use Rattle.edit_record.specs.Answer1.{isCreate, isSet, isAimed, unfit}
 use Rattle.edit_history.specs.EditsHeld.{countFrom, creates, setsOn, isTarget, mostRecords}
-use Rattle.edit_history.specs.Answers2to5.{isRepeated, isEarly, tears, isTorn, isAstray}
+use Rattle.edit_history.specs.Answers2to5.{isRepeated, isEarly, tears, isTorn, isAstray, passes}
+use Rattle.edit_history.specs.Answer16.{isNameless}
 use Rattle.edit_history.proofs.RecordsPassed.{InTurn, in-turn}
 use Rattle.group_step.specs.GroupRows.{mostObjects, mostSets, mostGroups}
-use Rattle.table_arrival.specs.Answers6and7.{firstOf}
+use Rattle.table_arrival.specs.Answers6and7.{firstOf, inTurn}
 use Rattle.group_true.specs.TrueGroups.{trueGroups}
-use Rattle.table_arrival.proofs.FirstReason.{none-present}
+use Rattle.table_arrival.proofs.FirstReason.{none-present, numbers-above}
 use Rattle.math_lists.specs.Rearranged.{Mem}
 use Rattle.demand_any_order.specs.Settled.{named, fullOver, crowdedOver, listReasons, listAnswer}
 use Rattle.math_lists.proofs.ListMembers.{any-on, any-at}
@@ -30,6 +31,7 @@ pub record Fine (n : ℕ) (es : List Edit) (e : Edit) : Type 0 where
   pub inTurn : InTurn n es e
   pub whole : (a : Edit) → Mem a es → tears e a ≡ false
   pub aimed : isAimed e ≡ true → (c : Edit) × Mem c es × (isTarget e c ≡ true)
+  pub names : isNameless es e ≡ false
   pub room : length es < mostRecords
   pub create-room : isCreate e ≡ true → length (creates es) < mostObjects
   pub set-room : isSet e ≡ true → length (setsOn (e .tsite) (e .tseq) es) < mostSets
@@ -54,8 +56,9 @@ module _ (n : ℕ) (es : List Edit) (e : Edit) where
   pub fine-at : listAnswer n es e ≡ 0 → Fine n es e
   unfolding listAnswer isTorn isAstray fullOver crowdedOver
   fine-at h =
-      let no : (i : ℕ) → getD (listReasons n es e) i false ≡ false = none-present 0 (listReasons n es e) h in
-      let (rc, s) = neither (records? || objects?) sets? (no 5) in
+      let no : (i : ℕ) → getD (listReasons n es e) i false ≡ false
+      = none-present inTurn (listReasons n es e) (omega arith) numbers-above h in
+      let (rc, s) = neither (records? || objects?) sets? (no 6) in
       let (r, c) = neither records? objects? rc in
       record {
         fit = no 0;
@@ -64,10 +67,11 @@ module _ (n : ℕ) (es : List Edit) (e : Edit) where
         aimed =
             λ k. any-at (isTarget e) es
             (not-false (any (isTarget e) es) (then-off (isAimed e) (not (any (isTarget e) es)) k (no 4)));
+        names = no 5;
         room = leb-false mostRecords (length es) r;
         create-room = λ k. leb-false mostObjects (length (creates es)) (then-off (isCreate e) _ k c);
         set-room = λ k. leb-false mostSets (length (setsOn (e .tsite) (e .tseq) es)) (then-off (isSet e) _ k s);
-        few = λ k. ltb-false mostGroups groups (then-off (isSet e) (ltb mostGroups groups) k (no 6));
+        few = λ k. ltb-false mostGroups groups (then-off (isSet e) (ltb mostGroups groups) k (no 7));
       }
 
   -- ---- the facts give an answer of 0: no reason is present
@@ -112,4 +116,8 @@ module _ (n : ℕ) (es : List Edit) (e : Edit) where
 
     pub fine-on : listAnswer n es e ≡ 0
     unfolding listAnswer firstOf
-    fine-on = rw (f .fit, not-repeated, not-early, not-torn, not-astray, not-full, not-crowded)
+    fine-on = rw (f .fit, not-repeated, not-early, not-torn, not-astray, f .names, not-full, not-crowded)
+
+    pub fine-passes : passes n es e ≡ true
+    unfolding passes
+    fine-passes = rw (f .fit, not-repeated, not-early, not-torn, not-astray)

@@ -29,7 +29,8 @@ accepted-exactly n few es = (
 any-order :
     (n : ℕ) → n ≤ mostSites → (es fs : List Edit) → Rearranged es fs → Causal fs → AllAccepted n es → AllAccepted n fs
 any-order n few es fs r c a =
-    settled-accepted n few fs (settled-in-any-order n es fs r (accepted-settled n few es a)) c
+    settled-accepted n few fs
+    (settled-in-any-order n few es fs r (accepted-settled n few es a) (accepted-causal n few es a) c) c
 
 -- ---- records
 

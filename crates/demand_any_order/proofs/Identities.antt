@@ -2,13 +2,14 @@
 -- and the Sets of an object differ. Assumes nothing.
 use mathlib.Core.Path.{_≡_, refl, ap, ap₂, _∙_}
 use mathlib.Core.Logic.{inl, inr}
-use mathlib.Core.Bool.{true}
+use mathlib.Core.Bool.{true, _&&_}
 use mathlib.Core.List.{List, [], _∷_}
 use Prim.Native.Nat.{ℕ, zero, suc, _≤_}
 use native.Mathlib.Omega.{arith}
-use lib.ListN.{getD, drop}
+use lib.ListN.{getD}
 use lib.Dec.{eqb}
 use borrow.Author.Tests.{eqb-true, eq-eqb, le-leb}
+use Rattle.math_lists.specs.NumbersBelow.{sameList}
 use Rattle.math_lists.specs.SortedLists.{filter}
 use Rattle.math_lists.proofs.Booleans.{clash, both}
 use Rattle.edit_record.specs.declared.Site.{Site}
@@ -54,26 +55,35 @@ differ-turned a b h = same-symmetric (b .site) (b .seq) (a .site) (a .seq) ∙ h
 
 -- ---- equality in every field
 
-made : List ℕ → Edit
-made l =
+made : List ℕ → List ℕ → List ℕ → Edit
+made l v m =
     record {
       kind = getD l 0 0;
       site = record { 0 = getD l 1 0 };
       seq = record { 0 = getD l 2 0 };
-      vector = drop 7 l;
+      vector = v;
       tsite = record { 0 = getD l 3 0 };
       key = getD l 4 0;
       tseq = record { 0 = getD l 5 0 };
       value = getD l 6 0;
+      count = getD l 7 0;
+      members = m;
     }
 
 pub equal-at : (a b : Edit) → isEqual a b ≡ true → a ≡ b
 unfolding isEqual made
-equal-at a b h = ap made (list-equal (fieldsOf a) (fieldsOf b) h)
+equal-at a b h =
+    let fields? = sameList (fieldsOf a) (fieldsOf b) in
+    let vector? = sameList (a .vector) (b .vector) in
+    let (fv, m) = both (fields? && vector?) (sameList (a .members) (b .members)) h in
+    let (f, v) = both fields? vector? fv in
+    ap₂ (λ (l : List ℕ) (w : List ℕ). made l w (a .members)) (list-equal (fieldsOf a) (fieldsOf b) f)
+    (list-equal (a .vector) (b .vector) v)
+    ∙ ap (made (fieldsOf b) (b .vector)) (list-equal (a .members) (b .members) m)
 
 pub equal-self : (a : Edit) → isEqual a a ≡ true
 unfolding isEqual
-equal-self a = same-self (fieldsOf a)
+equal-self a = rw (same-self (fieldsOf a), same-self (a .vector), same-self (a .members))
 
 pub has-on : {x : Edit} {xs : List Edit} → Mem x xs → has isEqual xs x ≡ true
 has-on {x} m = any-on (isEqual x) m (equal-self x)

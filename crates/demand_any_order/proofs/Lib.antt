@@ -2,11 +2,12 @@ pub mod Identities
 pub mod AnswerNought
 pub mod CountsInTurn
 pub mod AcceptedSettled
+pub mod SettledBoxes
 pub mod SettledAccepted
+pub mod SameGroups
 pub mod SettledAnyOrder
 pub mod AnswerOverList
 pub mod ReplayAccepted
 pub mod AnyOrderAccepted
-pub mod SameGroups
 pub mod SameDrawings
 pub mod SumAnyOrder

@@ -16,17 +16,18 @@ use Rattle.table_drawing.specs.Tables.{Tables, placeAt, heldBy}
 use Rattle.table_arrival.specs.Answers6and7.{rowOf}
 use Rattle.edit_record.specs.RecordBytes.{noEdit}
 use Rattle.group_true.specs.TrueGroups.{trueGroups}
-use Rattle.table_arrival.proofs.ObjectsByNumber.{object-create}
+use Rattle.table_soundness.proofs.ObjectsByNumber.{object-create}
 use Rattle.table_arrival.proofs.Faithful.{Faithful}
 use Rattle.table_replay.specs.Replay.{replayOf, editsIn}
 use Rattle.table_replay.proofs.ReplayFaithful.{replay-faithful}
 use Rattle.math_lists.specs.Rearranged.{Rearranged}
 use Rattle.demand_any_order.specs.Records.{recordsOf}
-use Rattle.demand_any_order.specs.Settled.{Apart}
+use Rattle.demand_any_order.specs.Settled.{AllAccepted, Causal, Apart, Settled}
 use Rattle.math_lists.proofs.ListMembers.{mem-place, place-of}
 use Rattle.math_lists.proofs.Rearranged.{same-length, same-members, chosen-rearranged}
 use Rattle.demand_any_order.proofs.Identities.{one-object}
-use Rattle.demand_any_order.proofs.AcceptedSettled.{accepted-apart}
+use Rattle.demand_any_order.proofs.AcceptedSettled.{accepted-apart, accepted-causal, accepted-settled}
+use Rattle.demand_any_order.proofs.SettledBoxes.{ordered}
 use Rattle.demand_any_order.proofs.ReplayAccepted.{replay-holds, refuses-none-exactly}
 use Rattle.demand_any_order.proofs.AnyOrderAccepted.{edits-rearranged}
 use Rattle.demand_any_order.proofs.SameGroups.{membersOf, same-keys}
@@ -54,10 +55,28 @@ module _ (sites : ℕ) (some : 1 ≤ sites) (few : sites ≤ mostSites) (rs rs�
   held-rearranged =
       rw (replay-holds sites some few rs n h .0, replay-holds sites some few rs′ n h′ .0) (edits-rearranged rs rs′ n r)
 
+  -- what holds of the edits of an accepted list holds of those that a drawing holds
+  held-by :
+      (P : List Edit → Type 0) (qs : ℕ → List ℕ) → replayOf sites qs n .answer ≡ 0 →
+      ((es : List Edit) → AllAccepted sites es → P es) → P (heldBy (replayOf sites qs n .after))
+  held-by P qs k f =
+      subst P (sym (replay-holds sites some few qs n k .0))
+      (f (editsIn qs n) (refuses-none-exactly sites some few qs n .0 k .1))
+
   pub held-apart : Apart (heldBy t)
-  held-apart =
-      subst Apart (sym (replay-holds sites some few rs n h .0))
-      (accepted-apart sites few (editsIn rs n) (refuses-none-exactly sites some few rs n .0 h .1))
+  held-apart = held-by Apart rs h (accepted-apart sites few)
+
+  pub held-settled : Settled sites (heldBy t)
+  held-settled = held-by (Settled sites) rs h (accepted-settled sites few)
+
+  pub held-settled-too : Settled sites (heldBy t′)
+  held-settled-too = held-by (Settled sites) rs′ h′ (accepted-settled sites few)
+
+  pub held-causal : Causal (heldBy t)
+  held-causal = held-by Causal rs h (accepted-causal sites few)
+
+  pub held-causal-too : Causal (heldBy t′)
+  held-causal-too = held-by Causal rs′ h′ (accepted-causal sites few)
 
   -- ---- the objects
 
@@ -94,5 +113,7 @@ module _ (sites : ℕ) (some : 1 ≤ sites) (few : sites ≤ mostSites) (rs rs�
       let row : rowOf t o ≡ trueGroups (heldBy t) c = f .rows o l in
       let row′ : rowOf t′ o′ ≡ trueGroups (heldBy t′) c
       = f′ .rows o′ l′ ∙ one-object (heldBy t′) (createIn t′ o′) c (sym p) (sym q) in
-      same-keys (heldBy t) (heldBy t′) held-rearranged held-apart c lt irr tr key ks ks′ a a′
+      same-keys sites few (heldBy t) (heldBy t′) held-rearranged (ordered sites (heldBy t) held-settled)
+      (ordered sites (heldBy t′) held-settled-too) held-causal held-causal-too c
+      (held-settled .versions (c .site) (c .seq)) lt irr tr key ks ks′ a a′
       (rw row at k) (rw (row′, ← p, ← q) at k′)

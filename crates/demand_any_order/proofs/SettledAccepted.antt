@@ -1,7 +1,7 @@
 -- A settled list in a causal order is accepted throughout. Assumes at most sixteen sites.
 use mathlib.Core.Path.{_≡_, sym, ap, ap₂, subst, _∙_}
 use mathlib.Core.Logic.{inl, inr}
-use mathlib.Core.Bool.{true}
+use mathlib.Core.Bool.{true, false, not, _&&_}
 use mathlib.Core.List.{
   List,
   [],
@@ -16,35 +16,54 @@ use native.Mathlib.Omega.{arith}
 use native.Mathlib.Decide.{decLt}
 use lib.ListN.{length, getD, length-append}
 use lib.Seq.{append-snoc}
-use Rattle.math_lists.specs.SortedLists.{filter}
-use Rattle.math_lists.proofs.Booleans.{clash, off}
+use lib.Dec.{eqb}
+use borrow.Author.Tests.{eq-eqb}
+use Rattle.math_lists.specs.SortedLists.{any, elem, filter}
+use Rattle.math_lists.proofs.Booleans.{clash, off, both, or-off, off-where}
+use Rattle.math_lists.proofs.Elements as numbers
+use Rattle.math_lists.proofs.GrownAtEnd.{filter-append}
+use Rattle.math_contexts.specs.NamedVersions.{namesNone}
+use Rattle.math_contexts.specs.Versions.{AllNamed}
+use Rattle.math_contexts.proofs.ConflictsNamed.{names-none-later}
 use Rattle.edit_record.specs.declared.Site.{Site}
 use Rattle.edit_record.specs.declared.Seq.{Seq}
 use Rattle.edit_record.specs.declared.Edit.{Edit}
 use Rattle.edit_record.specs.Layout.{mostSites}
-use Rattle.edit_record.specs.Answer1.{isCreate, isSet, isAimed}
-use Rattle.edit_record.proofs.WellFormed.{WellFormed, well-formed, set-aimed, aimed-not-create}
+use Rattle.edit_record.specs.Answer1.{isCreate, isSet, isLimited, isAimed, nameOf}
+use Rattle.edit_record.proofs.WellFormed.{WellFormed, well-formed, set-aimed, limited-set, aimed-not-create}
 use Rattle.edit_causal.specs.Causal.{sameEdit, hasSeen}
+use Rattle.edit_causal.specs.Conflict.{listedBy, boxOn}
+use Rattle.edit_causal.specs.ConflictForms.{NoneItself, Proper, saw}
 use Rattle.edit_causal.proofs.CausalLaws.{same-reflexive}
-use Rattle.edit_causal.proofs.ConflictsAmongSets.{none-itself}
+use Rattle.edit_causal.proofs.ConflictsAmongSets.{none-itself, first-sets}
 use Rattle.edit_history.specs.EditsHeld.{countFrom, creates, isSetOn, setsOn}
+use Rattle.edit_history.specs.Answer16.{isStrange, namelessAmong, isNameless}
 use Rattle.edit_history.proofs.EditsHeld.{Target, target-parts}
 use Rattle.edit_history.proofs.RecordsPassed.{InTurn}
 use Rattle.group_step.specs.GroupRows.{mostSets, mostGroups}
 use Rattle.group_true.specs.TrueGroups.{trueGroups}
-use Rattle.group_true.proofs.TrueGroups.{groups-grow}
+use Rattle.group_true.proofs.TrueGroups.{sets-more, groups-grow}
 use Rattle.edit_causal.proofs.Identities.{same-site, same-seq}
 use Rattle.math_lists.specs.Rearranged.{Mem}
 use Rattle.demand_any_order.specs.Settled.{named, AllAccepted, MayPrecede, Causal, Differ, Apart, Settled}
-use Rattle.math_lists.proofs.ListMembers.{here, chosen-more, mem-along, mem-middle, fronts}
+use Rattle.math_lists.proofs.ListMembers.{here, any-on, chosen-on, chosen-more, mem-along, mem-middle, fronts}
 use Rattle.math_lists.proofs.PairsInList.{pairs-cross}
 use Rattle.demand_any_order.proofs.Identities.{same-on, same-at, seen-on, before-on, one-edit, one-object}
+use Rattle.demand_any_order.proofs.SettledBoxes.{ordered, box-lawful}
 use Rattle.demand_any_order.proofs.AnswerNought.{Fine, fine-on}
 use Rattle.demand_any_order.proofs.CountsInTurn.{Counted, counted-none, counted-more}
+
+sets-append : (x : Site) (q : Seq) (us vs : List Edit) → setsOn x q (us ++ vs) ≡ setsOn x q us ++ setsOn x q vs
+unfolding setsOn
+sets-append x q us vs = filter-append (isSetOn x q) us vs
 
 module _ (n : ℕ) (few : n ≤ mostSites) (es : List Edit) (s : Settled n es) (causal : Causal es) where
   formed : (e : Edit) → Mem e es → WellFormed n e
   formed e m = well-formed n e (s .fit e m)
+
+  -- the Sets of every object are proper
+  proper : (x : Site) (q : Seq) → Proper (setsOn x q es)
+  proper x q = record { lawful = box-lawful n few es (ordered n es s) causal x q; named = s .versions x q }
 
   -- ---- e stands after xs
 
@@ -154,8 +173,48 @@ module _ (n : ℕ) (few : n ≤ mostSites) (es : List Edit) (s : Settled n es) (
             omega (
               arith,
               ap (λ (l : List Edit). length (trueGroups l (named e))) split,
-              groups-grow front ys (named e) (none-itself (setsOn (named e .site) (named e .seq) (front ++ ys))),
+              groups-grow front ys (named e) (subst (λ (l : List Edit). NoneItself (setsOn (e .tsite) (e .tseq) l))
+                  split
+                  (none-itself (setsOn (e .tsite) (e .tseq) es) (proper (e .tsite) (e .tseq)))),
             )
+
+        -- ---- what it lists
+
+        module _ (limited : isLimited e ≡ true) where
+          abbrev mates : List Edit
+          mates = setsOn (e .tsite) (e .tseq) xs
+
+          known-here : (x : ℕ) → elem x (listedBy e) ≡ true → isStrange mates e x ≡ false
+          unfolding setsOn
+          known-here x listed =
+              let (m, mem, on, seen, name) = s .known e self limited x listed in
+              let d : Differ m e = off (sameEdit (m .site) (m .seq) (e .site) (e .seq)) (λ h.
+              clash seen (rw h)) in
+              let (_, sees) = both (not (sameEdit (m .site) (m .seq) (e .site) (e .seq)))
+              (hasSeen (e .vector) (m .site) (m .seq)) seen in
+              let k = chosen-on (isSetOn (e .tsite) (e .tseq)) (prior m mem d sees) on in
+              ap not (any-on (λ a. saw e a && eqb (nameOf a) x) k (rw (seen, eq-eqb (nameOf m) x name)))
+
+          version-here : namesNone (boxOn (mates ++ (e ∷ []))) (length mates) ≡ false
+          version-here =
+              let ms = mates ++ (e ∷ []) in
+              let more = setsOn (e .tsite) (e .tseq) ys in
+              let all : setsOn (e .tsite) (e .tseq) es ≡ ms ++ more
+              = ap (setsOn (e .tsite) (e .tseq)) split
+              ∙ sets-append (e .tsite) (e .tseq) front ys
+              ∙ ap (λ (l : List Edit). l ++ more) (sets-more xs e (limited-set e limited)) in
+              let long : length mates < length ms = omega (arith, length-append mates (e ∷ [])) in
+              sym (names-none-later (first-sets ms more) (length mates) long)
+              ∙ subst (λ (l : List Edit). AllNamed (boxOn l) (length l)) all (s .versions (e .tsite) (e .tseq))
+              (length mates) (omega (arith, length-append ms more))
+
+      named-here : isNameless xs e ≡ false
+      unfolding namelessAmong
+      named-here = off-where (isLimited e) _ (λ limited.
+          let k = set-aimed e (limited-set e limited) in
+          or-off (any (isStrange (setsOn (e .tsite) (e .tseq) xs) e) (listedBy e)) _
+          (numbers.any-off (isStrange (setsOn (e .tsite) (e .tseq) xs) e) (listedBy e) (known-here k limited))
+          (version-here k limited))
 
       fine-here : Fine n xs e
       fine-here = record {
@@ -163,6 +222,7 @@ module _ (n : ℕ) (few : n ≤ mostSites) (es : List Edit) (s : Settled n es) (
         inTurn = in-turn-here;
         whole = λ a m. s .whole a e (left a m) self;
         aimed = λ k. (target k, target-prior k, s .aimed e self k .2);
+        names = named-here;
         room = omega (arith, s .few-records, ap length q, length-append xs (e ∷ ys));
         create-room = λ k.
             unfold creates in omega (

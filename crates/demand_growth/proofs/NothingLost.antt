@@ -9,12 +9,14 @@ use Rattle.math_lists.specs.SortedLists.{elem}
 use Rattle.math_lists.proofs.Elements.{elem→mem, mem→elem}
 use Rattle.edit_record.specs.declared.Edit.{Edit}
 use Rattle.edit_record.specs.Layout.{mostSites}
+use Rattle.edit_causal.specs.ConflictForms.{NoneItself, Proper}
 use Rattle.edit_causal.proofs.ConflictsAmongSets.{none-itself}
 use Rattle.group_true.specs.TrueGroups.{groupsOf, trueGroups}
 use Rattle.group_true.proofs.GroupsGrow.{lies-in-later, never-fewer-groups}
 use Rattle.table_drawing.specs.Tables.{Tables, emptyDrawing}
 use Rattle.table_arrival.specs.Answers6and7.{rowOf}
 use Rattle.table_arrival.proofs.Faithful.{Faithful, empty-faithful}
+use Rattle.table_arrival.proofs.ProperWith.{proper-held}
 use Rattle.table_replay.specs.Replay.{replayOf}
 use Rattle.table_replay.proofs.ReplayFaithful.{replay-faithful}
 use Rattle.list_version.specs.Identifier.{identifierOf}
@@ -59,9 +61,18 @@ module _ (t u : Tables) (f : Faithful t) (w : Faithful u) (r : Later t u) (o : �
   differ : NamesDiffer (ms ++ more)
   differ = rw grown at (held-names-differ u (w .kept .isSound) (createOf u o))
 
+  -- at both moments the Sets are proper
+  proper : Proper ms
+  proper = proper-held t (f .kept .isSound) (createOf t o .site) (createOf t o .seq)
+
+  apart : NoneItself (ms ++ more)
+  apart =
+      none-itself (ms ++ more)
+      (rw grown at (proper-held u (w .kept .isSound) (createOf u o .site) (createOf u o .seq)))
+
   container : (g : ℕ) → IsVersion t o g → (k : ℕ) × IsVersion u o k × Contains t u o g k
   container g e =
-      let (k, i, sub) = lies-in-later ms more (none-itself (ms ++ more)) g (before g e) in (
+      let (k, i, sub) = lies-in-later ms more apart g (before g e) in (
         k,
         rw row-grown i,
         record {
@@ -82,9 +93,10 @@ module _ (t u : Tables) (f : Faithful t) (w : Faithful u) (r : Later t u) (o : �
         let over : (g : ℕ) → Within (identifierAt t o g) (identifierAt u o k) → (x : ℕ) →
         elem x (identifierOf ms g) ≡ true → elem x (identifierOf (ms ++ more) k) ≡ true
         = λ g p x e. rw grown at (mem→elem (p x (elem→mem x (identifierOf ms g) e))) in
-        identifiers-never-in-one ms more differ g h k (before g eg) (before h eh) (after k ek) (over g p) (over h q);
+        identifiers-never-in-one ms more differ g h k (before g eg) (before h eh) (after k ek) proper (over g p)
+        (over h q);
     neverFewer = rw (row-is t f o l, row-grown)
-        (never-fewer-groups ms more (none-itself (ms ++ more)));
+        (never-fewer-groups ms more apart);
   }
 
 -- ---- records that arrive

@@ -14,16 +14,16 @@ use Rattle.table_replay.specs.Replay.{replayOf, editsIn}
 use Rattle.table_replay.proofs.ReplayFaithful.{replay-faithful}
 use Rattle.math_lists.specs.Rearranged.{Rearranged}
 use Rattle.demand_any_order.specs.Records.{recordsOf}
-use Rattle.demand_any_order.specs.Settled.{Causal, Apart}
+use Rattle.demand_any_order.specs.Settled.{Causal, Settled}
 use Rattle.math_lists.proofs.Rearranged.{same-length, chosen-rearranged}
 use Rattle.demand_any_order.proofs.SumAnyOrder.{sum-any-order}
 use Rattle.demand_any_order.proofs.ReplayAccepted.{replay-holds}
 use Rattle.demand_any_order.proofs.AnyOrderAccepted.{any-order-accepted}
-use Rattle.demand_any_order.proofs.SameDrawings.{held-rearranged, held-apart}
+use Rattle.demand_any_order.proofs.SameDrawings.{held-rearranged, held-settled, held-causal}
+use Rattle.demand_any_order.proofs.SameDrawings.{held-causal-too}
 use Rattle.list_text.specs.HeadAndRefusal.{headLine}
-use Rattle.list_version.proofs.NeverShared.{held-numbered}
 use Rattle.list_version.proofs.RanksStrict.{held-ranked}
-use Rattle.list_line.proofs.AnyOrderLines.{Numbered, any-order-lines}
+use Rattle.list_line.proofs.AnyOrderLines.{any-order-lines}
 use Rattle.list_order.specs.Moves.{layeredOrder}
 use Rattle.list_order.proofs.Deciding.{AllRanked}
 use Rattle.list_order.proofs.AnyOrder.{layered-any-order}
@@ -35,13 +35,14 @@ use Rattle.demand_list.proofs.ListOverEdits.{lines-over-list}
 
 -- ---- lists of edits
 
-module _ (es fs : List Edit) (r : Rearranged es fs) (u : Apart es) (small : Numbered es)
-    (ranked : AllRanked es) where
+module _ (sites : ℕ) (few : sites ≤ mostSites) (es fs : List Edit) (r : Rearranged es fs) (s : Settled sites es)
+    (causal : Causal es) (causal′ : Causal fs) (ranked : AllRanked es) where
   same-version-lines : versionLines es ≡ versionLines fs
   unfolding versionLines linesIn
   same-version-lines =
-      flat-same (linesIn es) (linesIn fs) (layeredOrder es) (λ c m. any-order-lines es fs r u small c)
-      ∙ ap (flatMap (linesIn fs)) (layered-any-order es fs r ranked u)
+      flat-same (linesIn es) (linesIn fs) (layeredOrder es)
+      (λ c m. any-order-lines sites few es fs r s causal causal′ c)
+      ∙ ap (flatMap (linesIn fs)) (layered-any-order es fs r ranked (s .apart))
 
   same-lines-over : (n : ℕ) → linesOver n es ≡ linesOver n fs
   unfolding linesOver creates
@@ -72,8 +73,9 @@ module _ (sites : ℕ) (some : 1 ≤ sites) (few : sites ≤ mostSites) (rs rs�
       let s = f .kept .isSound in
       lines-over-list t f
       ∙ ap (λ (k : ℕ). linesOver k (heldBy t)) (replay-holds sites some few rs n h .1)
-      ∙ same-lines-over (heldBy t) (heldBy t′) (held-rearranged sites some few rs rs′ n r h accepted-too)
-      (held-apart sites some few rs rs′ n r h accepted-too) (held-numbered t s) (held-ranked t s) sites
+      ∙ same-lines-over sites few (heldBy t) (heldBy t′) (held-rearranged sites some few rs rs′ n r h accepted-too)
+      (held-settled sites some few rs rs′ n r h accepted-too) (held-causal sites some few rs rs′ n r h accepted-too)
+      (held-causal-too sites some few rs rs′ n r h accepted-too) (held-ranked t s) sites
       ∙ ap (λ (k : ℕ). linesOver k (heldBy t′)) (sym (replay-holds sites some few rs′ n accepted-too .1))
       ∙ sym (lines-over-list t′ f′)
 

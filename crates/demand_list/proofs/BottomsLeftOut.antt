@@ -4,14 +4,12 @@ use mathlib.Core.Path.{_≡_, sym, ap, ap₂, _∙_}
 use mathlib.Core.Bool.{true, false}
 use mathlib.Core.List.{List, _∷_, flatMap}
 use Prim.Native.Nat.{ℕ}
-use native.Mathlib.Omega.{arith}
 use lib.ListN.{length}
-use borrow.Author.Tests.{eqb-true}
 use Rattle.math_lists.specs.SortedLists.{any, filter}
-use Rattle.math_lists.proofs.Booleans.{both, off}
+use Rattle.math_lists.proofs.Booleans.{clash, both, off, or-right}
 use Rattle.edit_record.specs.declared.Edit.{Edit}
-use Rattle.edit_record.specs.Layout.{setKind, bottomKind}
-use Rattle.edit_record.specs.Answer1.{isSet, isCreate, isBottom}
+use Rattle.edit_record.specs.Answer1.{isSet, isCreate, isTop, isBottom}
+use Rattle.edit_record.proofs.WellFormed.{layer-not-set}
 use Rattle.edit_causal.specs.Causal.{sameEdit}
 use Rattle.edit_history.specs.EditsHeld.{creates, isSetOn, setsOn}
 use Rattle.edit_sum.specs.SumOfEdits.{sumOver}
@@ -48,7 +46,7 @@ lists-as-before n es none =
 
 set-not-bottom : (e : Edit) → isSet e ≡ true → isBottom e ≡ false
 set-not-bottom e h =
-    off (isBottom e) (λ k. omega (arith, eqb-true (e .kind) setKind h, eqb-true (e .kind) bottomKind k))
+    off (isBottom e) (λ k. clash h (layer-not-set e (or-right (isTop e) (isBottom e) k)))
 
 -- the text of the lines hangs on the Sets alone
 left-text : (es : List Edit) (c : Edit) → linesIn es c ≡ linesIn (leftIn es) c

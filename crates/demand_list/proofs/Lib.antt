@@ -4,6 +4,8 @@ pub mod ListOverEdits
 pub mod AnyOrderSameList
 pub mod LayersInList
 pub mod BottomsLeftOut
+pub mod NoneLimited
 pub mod OtherBoxes
 pub mod ReplayAnswered
 pub mod WorkedCases
+pub mod WorkedStory

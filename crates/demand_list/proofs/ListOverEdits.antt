@@ -3,7 +3,7 @@ use mathlib.Core.Path.{_≡_, sym, ap, ap₂, _∙_}
 use mathlib.Core.List.{List, _∷_, flatMap}
 use Prim.Native.Nat.{ℕ}
 use lib.ListN.{length}
-use Rattle.edit_sum.proofs.SumOfRecords.{held-sum}
+use Rattle.edit_sum.proofs.SumOfRecords.{held-sum, passing-fit}
 use Rattle.table_drawing.specs.Tables.{Tables, heldBy}
 use Rattle.table_arrival.proofs.Faithful.{Faithful}
 use Rattle.list_text.specs.HeadAndRefusal.{headLine}
@@ -35,4 +35,6 @@ module _ (t : Tables) (f : Faithful t) where
       ap₂ (λ (k : ℕ) (ls : List (List ℕ)).
       headLine (t .counters .sites) (t .counters .objects) k (t .counters .sum) ∷ ls) total versions-over
       ∙ ap₂ (λ (m k : ℕ). headLine (t .counters .sites) m (length (versionLines held)) k ∷ versionLines held)
-      (s .objects) (s .sum ∙ held-sum (t .records) (t .counters .records))
+      (s .objects) (s .sum
+      ∙ held-sum (t .records) (t .counters .records)
+      (passing-fit (t .counters .sites) (t .records) (t .counters .records) (s .pass)))

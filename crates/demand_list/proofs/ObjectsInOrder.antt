@@ -14,7 +14,7 @@ use Rattle.edit_record.specs.Answer1.{isCreate, isTop}
 use Rattle.edit_history.specs.EditsHeld.{creates, isTarget, objectOf}
 use Rattle.table_drawing.specs.Tables.{Tables, heldBy}
 use Rattle.table_soundness.proofs.SoundFacts.{Sound}
-use Rattle.table_arrival.proofs.ObjectsByNumber.{target-object}
+use Rattle.table_soundness.proofs.ObjectsByNumber.{target-object}
 use Rattle.math_lists.specs.Rearranged.{Mem, Rearranged}
 use Rattle.demand_any_order.specs.Settled.{Differ}
 use Rattle.math_lists.proofs.Rearranged.{same-members}

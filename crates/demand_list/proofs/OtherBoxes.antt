@@ -97,7 +97,7 @@ module _ (t : Tables) (b : List ℕ) (k : Kept t) (a : Accepted t b) where
   create-stays : (o : ℕ) → o < m →
       recordAt (putRecord (t .records) (t .counters .records) b) (placeAt (t .objects) o) ≡ createOf t o
   create-stays o l =
-      put-before (t .records) (t .counters .records) b (a .admitted .whole) (room t b s (k .wide) (a .admitted))
+      put-before (t .records) (t .counters .records) b (room t b s (k .wide) (a .admitted))
       (placeAt (t .objects) o) (s .object o l .entry .place)
 
   as-many : (own : ℕ) (u : Tables) → u .counters .objects ≡ m →

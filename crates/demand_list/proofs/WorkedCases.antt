@@ -8,16 +8,20 @@ use native.Mathlib.Omega.{arith}
 use lib.Dec.{eqb}
 use lib.ListN.{length, length-map, drop}
 use Rattle.math_lists.specs.NumbersBelow.{some, all, sum, keep}
+use Rattle.math_maximal.specs.MaximalSets.{with}
+use Rattle.math_contexts.specs.BoxByArrival.{rel}
+use Rattle.math_contexts.specs.NamedVersions.{conflictsBy, contextsNamed}
 use Rattle.math_lists.specs.SortedLists.{any, filter, insertBy, gatherBy, insert, gather}
 use Rattle.edit_record.specs.declared.Edit.{Edit}
 use Rattle.edit_form.specs.OldForm.{longForm, longFrom, startOf, storedIn}
 use Rattle.edit_form.proofs.Stretches.{stored-whole}
-use Rattle.edit_record.specs.RecordBytes.{counts, countBytes, spanOf}
+use Rattle.edit_record.specs.RecordBytes.{counts, countBytes, firstFours, spanOf}
 use Rattle.edit_record.specs.Answer1.{nonzeroPast, unfit}
 use Rattle.edit_causal.specs.Conflict.{conflictsIn}
 use Rattle.edit_causal.specs.TotalOrder.{vectorSum}
 use Rattle.edit_history.specs.EditsHeld.{countFrom, creates, setsOn}
 use Rattle.edit_history.specs.Answers2to5.{isRepeated, isEarly, largerSomewhere, isTorn, isAstray}
+use Rattle.edit_history.specs.Answer16.{namelessAmong}
 use Rattle.edit_sum.specs.SumOfEdits.{wordsIn, wordsOver, sumOver}
 use Rattle.math_maximal.specs.Groups.{bit, fits, isMaximal, groups}
 use Rattle.table_arrival.specs.Answers6and7.{firstOf}
@@ -62,7 +66,7 @@ head-with objects versions es =
 
 -- the edits that its records give; and what they are answered and print: the lines of the versions are computed once,
 -- and line 0 from their number
-abbrev Gives : List Edit → ℕ → Expected → Type 0
+abbrev pub Gives : List Edit → ℕ → Expected → Type 0
 Gives es k (refused a) = (answerOver sites es k ≡ 0) × (answerOver sites es (suc k) ≡ a) × (eqb a 0 ≡ false)
 Gives es k (prints []) = ⊥
 Gives es k (prints (l ∷ ls)) =
@@ -70,7 +74,7 @@ Gives es k (prints (l ∷ ls)) =
     × (versionLines es ≡ map bytesOf ls)
     × (headWith (length (creates es)) (length ls) (lastDigits wordDigits (sumOver es)) ≡ bytesOf l)
 
-abbrev Computed : Case → Type 0
+abbrev pub Computed : Case → Type 0
 Computed c =
     let es = c .arrivals in
     (length es ≡ suc (length es - 1))
@@ -78,7 +82,7 @@ Computed c =
     × (editsIn (storedIn longForm (recordBytes es)) (length es) ≡ es)
     × Gives es (length es - 1) (c .expected)
 
-abbrev AllComputed : List Case → Type 0
+abbrev pub AllComputed : List Case → Type 0
 AllComputed [] = Unit {0}
 AllComputed (c ∷ cs) = Computed c × AllComputed cs
 
@@ -129,22 +133,22 @@ by-computing c (some-edit, long, are, gives) = go (c .expected) gives
         ∙ head-with (length (creates es)) (length ls) es ∙ head) in
         (all, printed sites (omega arith) (omega arith) rs n records-whole es are all ∙ whole)
 
-all-by-computing : (cs : List Case) → AllComputed cs → AllHold cs
+pub all-by-computing : (cs : List Case) → AllComputed cs → AllHold cs
 all-by-computing [] h = tt
 all-by-computing (c ∷ cs) (h, hs) = (by-computing c h, all-by-computing cs hs)
 
 -- ---- the cases
 
 infixr 20 _also_
-abbrev _also_ : {A B : Type 0} → A → B → A × B
+abbrev pub _also_ : {A B : Type 0} → A → B → A × B
 _also_ a b = (a, b)
 
 -- P10 to P12, and the example of 'The printed list'
 computed-last : AllComputed (drop 14 cases)
-unfolding cases bytesOf flatMap countBytes counts editsIn longFrom startOf spanOf answerOver listAnswer firstOf unfit
-    nonzeroPast isRepeated isEarly countFrom isTorn largerSomewhere isAstray fullOver crowdedOver some all sum keep any
-    filter creates setsOn trueGroups groupsOf groups isMaximal fits conflictsIn bit linesOver versionLines linesIn
-    layeredOrder
+unfolding cases bytesOf flatMap countBytes counts firstFours editsIn longFrom startOf spanOf answerOver listAnswer
+    firstOf unfit nonzeroPast isRepeated isEarly countFrom isTorn largerSomewhere isAstray namelessAmong fullOver
+    crowdedOver some all sum keep any filter creates setsOn trueGroups groupsOf groups isMaximal fits conflictsIn
+    conflictsBy contextsNamed rel with bit linesOver versionLines linesIn layeredOrder
     standing deciding lastOn inOrder gatherBy insertBy gather insert vectorSum objectLines versionsOf isAhead lex
     identifierOf membersOf isDisputed versionLine identifierText settingsText settingText lastWith lastAfter later
     headLine decimal lastDigits sumOver wordsOver wordsIn
@@ -157,10 +161,10 @@ computed-last =
 
 -- P8 and P9
 computed-later : AllComputed (drop 12 cases)
-unfolding cases bytesOf flatMap countBytes counts editsIn longFrom startOf spanOf answerOver listAnswer firstOf unfit
-    nonzeroPast isRepeated isEarly countFrom isTorn largerSomewhere isAstray fullOver crowdedOver some all sum keep any
-    filter creates setsOn trueGroups groupsOf groups isMaximal fits conflictsIn bit linesOver versionLines linesIn
-    layeredOrder
+unfolding cases bytesOf flatMap countBytes counts firstFours editsIn longFrom startOf spanOf answerOver listAnswer
+    firstOf unfit nonzeroPast isRepeated isEarly countFrom isTorn largerSomewhere isAstray namelessAmong fullOver
+    crowdedOver some all sum keep any filter creates setsOn trueGroups groupsOf groups isMaximal fits conflictsIn
+    conflictsBy contextsNamed rel with bit linesOver versionLines linesIn layeredOrder
     standing deciding lastOn inOrder gatherBy insertBy gather insert vectorSum objectLines versionsOf isAhead lex
     identifierOf membersOf isDisputed versionLine identifierText settingsText settingText lastWith lastAfter later
     headLine decimal lastDigits sumOver wordsOver wordsIn
@@ -171,10 +175,10 @@ computed-later =
 
 -- P7 in all six orders
 computed-seventh : AllComputed (drop 6 cases)
-unfolding cases bytesOf flatMap countBytes counts editsIn longFrom startOf spanOf answerOver listAnswer firstOf unfit
-    nonzeroPast isRepeated isEarly countFrom isTorn largerSomewhere isAstray fullOver crowdedOver some all sum keep any
-    filter creates setsOn trueGroups groupsOf groups isMaximal fits conflictsIn bit linesOver versionLines linesIn
-    layeredOrder
+unfolding cases bytesOf flatMap countBytes counts firstFours editsIn longFrom startOf spanOf answerOver listAnswer
+    firstOf unfit nonzeroPast isRepeated isEarly countFrom isTorn largerSomewhere isAstray namelessAmong fullOver
+    crowdedOver some all sum keep any filter creates setsOn trueGroups groupsOf groups isMaximal fits conflictsIn
+    conflictsBy contextsNamed rel with bit linesOver versionLines linesIn layeredOrder
     standing deciding lastOn inOrder gatherBy insertBy gather insert vectorSum objectLines versionsOf isAhead lex
     identifierOf membersOf isDisputed versionLine identifierText settingsText settingText lastWith lastAfter later
     headLine decimal lastDigits sumOver wordsOver wordsIn
@@ -189,10 +193,10 @@ computed-seventh =
 
 -- P1 to P6
 computed : AllComputed cases
-unfolding cases bytesOf flatMap countBytes counts editsIn longFrom startOf spanOf answerOver listAnswer firstOf unfit
-    nonzeroPast isRepeated isEarly countFrom isTorn largerSomewhere isAstray fullOver crowdedOver some all sum keep any
-    filter creates setsOn trueGroups groupsOf groups isMaximal fits conflictsIn bit linesOver versionLines linesIn
-    layeredOrder
+unfolding cases bytesOf flatMap countBytes counts firstFours editsIn longFrom startOf spanOf answerOver listAnswer
+    firstOf unfit nonzeroPast isRepeated isEarly countFrom isTorn largerSomewhere isAstray namelessAmong fullOver
+    crowdedOver some all sum keep any filter creates setsOn trueGroups groupsOf groups isMaximal fits conflictsIn
+    conflictsBy contextsNamed rel with bit linesOver versionLines linesIn layeredOrder
     standing deciding lastOn inOrder gatherBy insertBy gather insert vectorSum objectLines versionsOf isAhead lex
     identifierOf membersOf isDisputed versionLine identifierText settingsText settingText lastWith lastAfter later
     headLine decimal lastDigits sumOver wordsOver wordsIn

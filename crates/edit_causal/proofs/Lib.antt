@@ -2,3 +2,4 @@ pub mod CausalLaws
 pub mod VectorSums
 pub mod Identities
 pub mod ConflictsAmongSets
+pub mod PlainMarks

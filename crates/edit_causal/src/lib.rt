@@ -1,7 +1,6 @@
 // The causal tests of document 01: before, concurrent, conflict; the values that conflict compares; and the sum by
 // which the total order goes first. Each answers what the definition says for every edit, well formed or not.
 use edit_record::Edit;
-use edit_record::SET;
 use edit_record::SITES;
 use edit_record::Seq;
 use edit_record::Site;
@@ -60,8 +59,8 @@ pub fn shown(key: u8, value: u32) -> u32
 pub fn is_conflict(a: Edit, b: Edit) -> bool
     ensures { λ r. ⌜ r ≡ doConflict a b ⌝ }
 {
-    (a.kind == SET)
-        & (b.kind == SET)
+    edit_record::is_set_kind(a.kind)
+        & edit_record::is_set_kind(b.kind)
         & is_concurrent(a, b)
         & is_same(a.tsite, a.tseq, b.tsite, b.tseq)
         & (a.key == b.key)

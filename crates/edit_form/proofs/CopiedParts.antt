@@ -10,9 +10,10 @@ use lib.ListN.{length, getD, set, take, drop, replicate, length-append, length-d
 use lib.ListN.{List·getD-append}
 use lib.Seq.{paste, paste-suc, length-take-le, take-at, drop-at, take-take, take-add, getD-take, getD-drop}
 use Rattle.math_lists.proofs.ReplacedPart.{put}
-use Rattle.edit_record.specs.Layout.{kindAt, siteAt, vectorAt, recordLength, placeLength}
+use Rattle.edit_record.specs.Layout.{kindAt, siteAt, vectorAt, recordLength, membersAt, memberLength, twoBytes}
 use Rattle.edit_record.specs.RecordBytes.{spanOf}
-use Rattle.edit_record.proofs.RecordSpans.{span-least, span-most}
+use Rattle.edit_record.proofs.NumbersInBytes.{Bytes}
+use Rattle.edit_record.proofs.RecordSpans.{span-least, span-below}
 use Rattle.edit_form.specs.OldForm.{oldForm, oldSites, lacking, oldLength, lengthFrom, widened, hasOldForm}
 use Rattle.edit_form.specs.OldForm.{longOf, longFrom}
 
@@ -35,9 +36,9 @@ pub length-least : (form : ℕ) (rest : List ℕ) → oldLength ≤ lengthFrom f
 length-least form rest =
     by-form (λ w. oldLength ≤ w) form rest (omega arith) (omega (arith, span-least rest))
 
-pub length-most : (form : ℕ) (rest : List ℕ) → lengthFrom form rest ≤ placeLength
-length-most form rest =
-    by-form (λ w. w ≤ placeLength) form rest (omega (arith, span-least rest, span-most rest)) (span-most rest)
+pub length-below : (form : ℕ) (rest : List ℕ) → Bytes rest → lengthFrom form rest < membersAt + twoBytes * memberLength
+length-below form rest h =
+    by-form (λ w. w < membersAt + twoBytes * memberLength) form rest (omega arith) (span-below rest h)
 
 -- ---- one byte more
 

@@ -2,23 +2,27 @@
 -- form is a long one; and the edit in an old record, with zeros for the entries that its vector lacks. What is said of
 -- entries holds for any number of them. Assumes nothing.
 use mathlib.Core.Path.{_≡_, refl, sym, ap, ap₂, _∙_}
+use mathlib.Core.Logic.{_⊎_, inl, inr}
 use mathlib.Core.Bool.{Bool, true, false, not, _&&_, cond, and-false, or-false}
 use mathlib.Core.List.{List, [], _∷_, _++_, append-assoc}
 use Prim.Native.Nat.{ℕ, zero, suc, _+_, _-_, _*_, _≤_, _<_}
 use native.Mathlib.Omega.{arith}
 use lib.Dec.{eqb, leb, lit<}
+use borrow.Author.Tests.{eqb-true}
 use lib.ListN.{length, getD, take, drop, replicate, length-append, length-drop, List·getD-append}
 use lib.Seq.{length-take-le, drop-at, drop-append-le, drop-drop, getD-drop, getD-append-add}
 use Rattle.math_lists.specs.NumbersBelow.{some}
 use Rattle.math_lists.proofs.NumbersBelow.{some-same}
-use Rattle.math_lists.proofs.Booleans.{or-right}
+use Rattle.math_lists.proofs.Booleans.{decide, either, or-right}
 use Rattle.math_lists.proofs.ByPlaces.{zero-anywhere}
 use Rattle.edit_record.specs.declared.Edit.{Edit}
 use Rattle.edit_record.specs.Layout.{mostSites, kindAt, siteAt, seqAt, vectorAt, targetAt, keyAt, targetSeqAt, valueAt}
-use Rattle.edit_record.specs.Layout.{recordLength}
-use Rattle.edit_record.specs.RecordBytes.{two, four, counts, decodeOf, spanOf}
+use Rattle.edit_record.specs.Layout.{recordLength, membersAt, mostMembers, createKind, setKind, limitedKind}
+use Rattle.edit_record.specs.RecordBytes.{two, four, counts, limits, decodeOf, spanOf}
 use Rattle.edit_record.specs.Answer1.{nonzeroPast, unfit, malformed}
 use Rattle.edit_record.proofs.NumbersInBytes.{counts-length}
+use Rattle.edit_record.proofs.FoursInBytes.{fours-none}
+use Rattle.edit_record.proofs.AgreeingBytes.{span-plain}
 use Rattle.edit_record.proofs.EntriesPastSites.{isPast}
 use Rattle.edit_record.proofs.RecordSpans.{span-own}
 use Rattle.edit_form.specs.OldForm.{oldForm, oldSites, lacking, oldLength, lengthFrom, widened, hasOldForm}
@@ -46,10 +50,32 @@ longOf-long b long = go (hasOldForm (getD b kindAt 0))
     go true = widened-long b long
     go false = refl
 
--- an old record is of no kind that is longer
-old-span : (b : List ℕ) → spanOf (longOf b) ≡ recordLength
-unfolding spanOf
-old-span b = refl
+-- a kind that has an old form limits to no version
+old-plain : (k : ℕ) → hasOldForm k ≡ true → eqb k limitedKind ≡ false
+old-plain k h =
+    elim (either (eqb k createKind) (eqb k setKind) h) [
+      | inl e ↦ rw (eqb-true k createKind e)
+      | inr e ↦ rw (eqb-true k setKind e)
+    ]
+
+-- so an old record is of no kind that is longer
+old-span : (b : List ℕ) → length b ≡ oldLength → spanOf (longOf b) ≡ recordLength
+old-span b long = elim (decide (hasOldForm (getD b kindAt 0))) [
+  | inl on ↦
+      let kind : getD (widened b) kindAt 0 ≡ getD b kindAt 0 = widened-before b kindAt (omega arith) (lit< tt) in
+      rw on (span-plain (widened b) (rw kind (old-plain (getD b kindAt 0) on)))
+  | inr off ↦ rw off (span-plain (replicate recordLength 0) refl)
+]
+
+-- a long record is there as it stands, and an old one is widened
+pub long-own :
+    (form : ℕ) (rest : List ℕ) → eqb form oldForm ≡ false → longFrom form rest ≡ take (lengthFrom form rest) rest
+unfolding longFrom
+long-own form rest long = rw long
+
+pub long-old : (form : ℕ) (rest : List ℕ) → eqb form oldForm ≡ true → longFrom form rest ≡ longOf (take oldLength rest)
+unfolding longFrom
+long-old form rest old = rw old
 
 -- the record that is taken is a whole one
 pub long-from-whole :
@@ -63,7 +89,8 @@ long-from-whole form rest h = go (eqb form oldForm) h
 
     go : (o : Bool) → cond o oldLength (spanOf rest) ≤ length rest → length (taken o) ≡ spanOf (taken o)
     go true l =
-        longOf-long (take oldLength rest) (length-take-le oldLength rest l) ∙ sym (old-span (take oldLength rest))
+        let long = length-take-le oldLength rest l in
+        longOf-long (take oldLength rest) long ∙ sym (old-span (take oldLength rest) long)
     go false l = length-take-le (spanOf rest) rest l ∙ sym (span-own rest)
 
 -- ---- counts
@@ -112,7 +139,7 @@ counts-padded m k s r room =
 
 -- ---- the edit in an old record
 
--- its fields, read where an old record has them, with zeros for the entries that its vector lacks
+-- its fields, read where an old record has them, with zeros for the entries that its vector lacks; it lists nothing
 abbrev pub oldEdit : List ℕ → Edit
 oldEdit b =
     record {
@@ -124,16 +151,20 @@ oldEdit b =
       key = getD b (keyAt - lacking) 0;
       tseq = record { 0 = two b (targetSeqAt - lacking) };
       value = four b (valueAt - lacking);
+      count = 0;
+      members = replicate mostMembers 0;
     }
 
 -- bytes that have a record's fields where it has them
 read-so :
     (b w : List ℕ) → ((i : ℕ) → i < oldEnd → getD w i 0 ≡ getD b i 0) →
     ((i : ℕ) → getD w (targetAt + i) 0 ≡ getD b (oldEnd + i) 0) →
-    counts mostSites (drop vectorAt w) ≡ oldEdit b .vector → decodeOf w ≡ oldEdit b
-read-so b w f g v =
+    counts mostSites (drop vectorAt w) ≡ oldEdit b .vector → limits w ≡ false → decodeOf w ≡ oldEdit b
+read-so b w f g v plain =
     rw (
       v,
+      plain,
+      fours-none mostMembers (drop membersAt w),
       f kindAt (lit< tt),
       f siteAt (lit< tt),
       f seqAt (lit< tt),
@@ -174,8 +205,11 @@ module _ (b : List ℕ) (long : length b ≡ oldLength) where
       ap (counts mostSites) from
       ∙ counts-padded oldSites (mostSites - oldSites) own (drop oldEnd b) (simp length-drop (omega arith))
 
-  pub widened-edit : decodeOf (widened b) ≡ oldEdit b
-  widened-edit = read-so b (widened b) (λ i l. widened-before b i end-inside l) widened-behind widened-vector
+  pub widened-edit : hasOldForm (getD b kindAt 0) ≡ true → decodeOf (widened b) ≡ oldEdit b
+  widened-edit old =
+      let f : (i : ℕ) → i < oldEnd → getD (widened b) i 0 ≡ getD b i 0 = λ i l. widened-before b i end-inside l in
+      read-so b (widened b) f widened-behind widened-vector
+      (rw (f kindAt (lit< tt)) (old-plain (getD b kindAt 0) old))
 
 -- ---- answer 1 of an old record
 

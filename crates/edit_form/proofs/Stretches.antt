@@ -8,11 +8,12 @@ use native.Mathlib.Omega.{arith}
 use lib.ListN.{length, take, drop, length-append, length-drop}
 use lib.Seq.{take-add, take-all, take-at, drop-at}
 use Rattle.math_lists.proofs.LastBelow.{last}
-use Rattle.edit_record.specs.Layout.{placeLength}
+use Rattle.edit_record.specs.Layout.{membersAt, memberLength, twoBytes}
 use Rattle.edit_record.specs.RecordBytes.{spanOf}
+use Rattle.edit_record.proofs.NumbersInBytes.{Bytes, bytes-drop}
 use Rattle.edit_record.proofs.RecordSpans.{span-front}
 use Rattle.edit_form.specs.OldForm.{longForm, lengthFrom, longFrom, startOf, storedIn, chained}
-use Rattle.edit_form.proofs.CopiedParts.{length-most}
+use Rattle.edit_form.proofs.CopiedParts.{length-below}
 use Rattle.edit_form.proofs.OldRecords.{long-from-whole}
 
 -- ---- where records start
@@ -25,11 +26,6 @@ module _ (form : ℕ) (s : List ℕ) where
   pub start-next : (k : ℕ) → startOf form s (suc k) ≡ startOf form s k + lengthFrom form (restFrom k)
   unfolding startOf
   start-next k = refl
-
-  pub start-most : (k : ℕ) → startOf form s k ≤ k * placeLength
-  unfolding startOf
-  start-most zero = omega arith
-  start-most (suc k) = omega (arith, start-most k, length-most form (restFrom k))
 
   -- a record ends before or where a later one starts
   pub ends-before :
@@ -63,8 +59,8 @@ module _ (form : ℕ) (s : List ℕ) (i at : ℕ) (is : at ≡ startOf form s i)
   pub next-start : (w : ℕ) → w ≡ lengthFrom form lent → at + w ≡ startOf form s (suc i)
   next-start w h = ap₂ (λ (x y : ℕ). x + y) is (h ∙ ap (lengthFrom form) lent-rest) ∙ sym (start-next form s i)
 
-  pub few-bytes : (w : ℕ) → w ≡ lengthFrom form lent → w ≤ placeLength
-  few-bytes w h = rw h (length-most form lent)
+  pub few-bytes : Bytes s → (w : ℕ) → w ≡ lengthFrom form lent → w < membersAt + twoBytes * memberLength
+  few-bytes b w h = rw (h, lent-rest) (length-below form (restFrom form s i) (bytes-drop (startOf form s i) s b))
 
   module _ (n : ℕ) (l : i < n) (fits : startOf form s n ≤ length s) where
     pub start-inside : at ≤ length s

@@ -1,9 +1,10 @@
 // The old and the long form of a stored record: how many bytes the record at the front of what is left of a stretch
-// has, and that record as a long one.
+// has, an old one as a long one, and the edit and the site in it.
 use edit_record::AT_KIND;
 use edit_record::AT_SITE;
 use edit_record::AT_VECTOR;
 use edit_record::CREATE;
+use edit_record::Edit;
 use edit_record::RECORD;
 use edit_record::SET;
 use edit_record::SITES;
@@ -12,6 +13,7 @@ ghost use mathlib.Core.List.{_++_};
 ghost use Prim.Native.Nat.{_+_, _≤_};
 ghost use lib.ListN.{length, getD, take, drop};
 ghost use Rattle.edit_record.specs.Layout.{siteAt, recordLength};
+ghost use Rattle.edit_record.specs.RecordBytes.{decodeOf};
 ghost use Rattle.edit_form.specs.OldForm.{sitesBy, lengthFrom, oldLength, hasOldForm, longOf, longFrom};
 
 // The forms, by the number that a trailer has for each.
@@ -72,7 +74,7 @@ fn has_old_form(kind: u8) -> bool
 }
 
 // The old record at the front of a stretch as a long one; of a kind that has no old form, zeros alone.
-fn widened_from(rest: &[u8]) -> [u8; RECORD]
+pub fn widened_from(rest: &[u8]) -> [u8; RECORD]
     requires { ⌜ oldLength ≤ length (now rest) ⌝ }
     ensures { λ r. ⌜ r ≡ longOf (take oldLength (now (rest .entry))) ⌝ }
 {
@@ -89,15 +91,16 @@ fn widened_from(rest: &[u8]) -> [u8; RECORD]
     )
 }
 
-// That record as a long one, where it is there whole.
-pub fn long_from(rest: &[u8], form: u8) -> [u8; RECORD]
+// The edit in that record, where it is there whole: a long one is read where it stands.
+pub fn edit_from(rest: &[u8], form: u8) -> Edit
     requires { ⌜ lengthFrom form (now rest) ≤ length (now rest) ⌝ }
-    ensures { λ r. ⌜ r ≡ longFrom form (now (rest .entry)) ⌝ }
+    ensures { λ r. ⌜ r ≡ decodeOf (longFrom form (now (rest .entry))) ⌝ }
 {
     if form == OLD {
-        return widened_from(rest);
+        let wide = widened_from(rest);
+        return edit_record::decode(&wide);
     }
-    with_part([0u8; RECORD], 0, rest, 0, RECORD)
+    edit_record::decode(rest)
 }
 
 // The site of that record, read where it stands.

@@ -6,26 +6,27 @@ use native.Mathlib.Omega.{arith}
 use lib.ListN.{length, getD, drop, length-drop}
 use lib.Seq.{length-take-le, getD-drop, getD-take}
 use Rattle.edit_record.specs.Layout.{mostSites, kindAt, siteAt, seqAt, vectorAt, targetAt, keyAt, targetSeqAt}
-use Rattle.edit_record.specs.Layout.{placeLength}
+use Rattle.edit_record.specs.Layout.{placeLength, mostMembers}
 use Rattle.edit_record.specs.RecordBytes.{two, counts, decodeOf, spanOf}
 use Rattle.edit_record.proofs.AgreeingBytes.{decode-agree}
 use Rattle.edit_record.proofs.NumbersInBytes.{two-drop}
-use Rattle.edit_record.proofs.RecordSpans.{span-least, span-most, span-own}
+use Rattle.edit_record.proofs.RecordSpans.{span-most, span-own}
 use Rattle.edit_history.specs.EditsHeld.{bytesAt, recordAt}
 
 -- a record's own bytes give its edit
 pub bytes-decoded : (rs : List ℕ) (p : ℕ) → decodeOf (bytesAt rs p) ≡ recordAt rs p
 bytes-decoded rs p =
     let d = drop (p * placeLength) rs in
-    decode-agree (bytesAt rs p) d (λ i l. getD-take (spanOf d) d i 0 (omega (arith, span-least d)))
+    sym (decode-agree d (bytesAt rs p) (λ i l. sym (getD-take (spanOf d) d i 0 l)))
 
--- and they are a whole record, where the place is there
+-- and they are a whole record, where the place is there and the members that are listed have room in it
 pub bytes-whole :
-    (rs : List ℕ) (p : ℕ) → p * placeLength + placeLength ≤ length rs → length (bytesAt rs p) ≡ spanOf (bytesAt rs p)
-bytes-whole rs p there =
+    (rs : List ℕ) (p : ℕ) → p * placeLength + placeLength ≤ length rs → recordAt rs p .count ≤ mostMembers →
+    length (bytesAt rs p) ≡ spanOf (bytesAt rs p)
+bytes-whole rs p there few =
     let d = drop (p * placeLength) rs in
     let long : length d ≡ length rs - p * placeLength = length-drop (p * placeLength) rs in
-    length-take-le (spanOf d) d (omega (arith, span-most d)) ∙ sym (span-own d)
+    length-take-le (spanOf d) d (omega (arith, span-most d few)) ∙ sym (span-own d)
 
 counts-at : (n : ℕ) (s : List ℕ) (i : ℕ) → i < n → getD (counts n s) i 0 ≡ two s (2 * i)
 unfolding counts

@@ -4,20 +4,20 @@ use mathlib.Core.Path.{_≡_, sym, _∙_}
 use mathlib.Core.Logic.{_⊎_, inl, inr}
 use mathlib.Core.Bool.{Bool, true, false, not, _&&_, _||_}
 use mathlib.Core.List.{List}
-use Prim.Native.Nat.{ℕ, zero, suc, _+_, _≤_, _<_}
+use Prim.Native.Nat.{ℕ, zero, suc, _+_, _*_, _≤_, _<_}
 use native.Mathlib.Omega.{arith}
 use native.Mathlib.Decide.{decLt, decLe}
 use lib.Dec.{eqb, ltb}
-use lib.ListN.{getD}
+use lib.ListN.{getD, drop}
 use borrow.Author.Tests.{eqb-true, ne-eqb, leb-false, ltb-false, not-true, not-false}
 use Rattle.math_lists.specs.NumbersBelow.{some}
 use Rattle.math_lists.specs.SortedLists.{any, filter}
 use Rattle.math_lists.proofs.Booleans.{decide, both, neither, eqb-self}
 use Rattle.math_lists.proofs.NumbersBelow.{all-at, none-at}
 use Rattle.edit_record.specs.declared.Edit.{Edit}
-use Rattle.edit_record.specs.Layout.{mostSites}
+use Rattle.edit_record.specs.Layout.{mostSites, mostMembers, placeLength}
 use Rattle.edit_record.specs.Answer1.{isSet, isAimed, unfit}
-use Rattle.edit_record.proofs.WellFormed.{WellFormed, well-formed, set-aimed}
+use Rattle.edit_record.proofs.WellFormed.{WellFormed, well-formed, set-aimed, few-members}
 use Rattle.edit_causal.specs.Causal.{sameEdit}
 use Rattle.edit_history.specs.EditsHeld.{recordAt, editsOf, countFrom, isSetOn, isTarget}
 use Rattle.edit_history.specs.Answers2to5.{isRepeated, isEarly, isTorn, isAstray, passes, recordsPass}
@@ -57,6 +57,18 @@ pub record Passed (sites : ℕ) (es : List Edit) (e : Edit) : Type 0 where
   pub whole : isTorn es e ≡ false
   pub aimed : isAimed e ≡ true → any (isTarget e) es ≡ true
 
+pub passes-fit : (sites : ℕ) (es : List Edit) (e : Edit) → passes sites es e ≡ true → unfit sites e ≡ false
+unfolding passes
+passes-fit sites es e h =
+    let a = unfit sites e in
+    let b = isRepeated es e in
+    let c = isEarly es e in
+    let d = isTorn es e in
+    let (h4, _) = neither (a || b || c || d) (isAstray es e) (not-true (a || b || c || d || isAstray es e) h) in
+    let (h3, _) = neither (a || b || c) d h4 in
+    let (h2, _) = neither (a || b) c h3 in
+    neither a b h2 .0
+
 pub passed : (sites : ℕ) (es : List Edit) (e : Edit) → passes sites es e ≡ true → Passed sites es e
 unfolding passes isAstray
 passed sites es e h =
@@ -83,6 +95,16 @@ module _ (sites : ℕ) (rs : List ℕ) (n : ℕ) (pass : recordsPass sites rs n 
   passed-at p l =
       passed sites (editsOf rs p) (recordAt rs p)
       (all-at n (λ q. passes sites (editsOf rs q) (recordAt rs q)) pass p l)
+
+  pub fit-at : (p : ℕ) → p < n → unfit sites (recordAt rs p) ≡ false
+  unfolding recordsPass
+  fit-at p l =
+      passes-fit sites (editsOf rs p) (recordAt rs p)
+      (all-at n (λ q. passes sites (editsOf rs q) (recordAt rs q)) pass p l)
+
+  -- so that what each lists has room in its place
+  pub few-at : (p : ℕ) → p < n → recordAt rs p .count ≤ mostMembers
+  few-at p l = few-members sites (drop (p * placeLength) rs) (fit-at p l)
 
   pub formed-at : (p : ℕ) → p < n → WellFormed sites (recordAt rs p)
   formed-at p l = passed-at p l .inTurn .formed

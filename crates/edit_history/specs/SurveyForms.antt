@@ -11,8 +11,9 @@ use Rattle.math_lists.specs.SortedLists.{any}
 use Rattle.edit_record.specs.declared.Site.{Site}
 use Rattle.edit_record.specs.declared.Edit.{Edit}
 use Rattle.edit_record.specs.Layout.{mostSites}
-use Rattle.edit_record.specs.Answer1.{isCreate, entryOf}
-use Rattle.edit_causal.specs.Conflict.{doConflict, conflictsWith}
+use Rattle.edit_record.specs.Answer1.{isCreate, isLimited, entryOf}
+use Rattle.edit_causal.specs.Conflict.{doConflict}
+use Rattle.edit_causal.specs.ConflictForms.{plainMarks}
 use Rattle.edit_history.specs.EditsHeld.{mostRecords, countFrom, isSetOn, setsOn, isTarget, objectOf}
 use Rattle.edit_history.specs.Answers2to5.{tears, isTorn}
 use Rattle.edit_history.specs.declared.Surveyed.{Surveyed}
@@ -52,7 +53,8 @@ surveyOf es e =
       found = any (isTarget e) es;
       object = objectOf e es;
       sets = length (setsOn (e .tsite) (e .tseq) es);
-      conflicts = conflictsWith e (setsOn (e .tsite) (e .tseq) es);
+      plain = plainMarks e (setsOn (e .tsite) (e .tseq) es);
+      limited = any isLimited (setsOn (e .tsite) (e .tseq) es);
     }
 
 -- the same with one edit more
@@ -63,11 +65,12 @@ surveyWith v a e =
       found = v .found || isTarget e a;
       object = v .object + cond (isCreate a && not (v .found || isTarget e a)) 1 0;
       sets = v .sets + cond (isSetOn (e .tsite) (e .tseq) a) 1 0;
-      conflicts = v .conflicts + cond (isSetOn (e .tsite) (e .tseq) a && doConflict a e) (2 ^ v .sets) 0;
+      plain = v .plain + cond (isSetOn (e .tsite) (e .tseq) a && doConflict a e) (2 ^ v .sets) 0;
+      limited = v .limited || isSetOn (e .tsite) (e .tseq) a && isLimited a;
     }
 
 -- the counts of a survey have room for one edit more
 pub record Room (v : Surveyed) (a e : Edit) : Type 0 where
   pub object : v .object < mostRecords
   pub sets : v .sets + cond (isSetOn (e .tsite) (e .tseq) a) 1 0 ≤ markBits
-  pub conflicts : v .conflicts < 2 ^ v .sets
+  pub plain : v .plain < 2 ^ v .sets

@@ -6,8 +6,8 @@ use edit_causal::is_same;
 use edit_record::AT_KIND;
 use edit_record::CREATE;
 use edit_record::Edit;
+use edit_record::LIMITED;
 use edit_record::PLACE;
-use edit_record::SET;
 use edit_record::SITES;
 use edit_record::Seq;
 use edit_record::Site;
@@ -25,13 +25,15 @@ ghost use Rattle.edit_history.specs.SurveyForms.{markBits, surveyOf, sur
 pub const RECORDS: usize = 256;
 
 // What an arriving edit asks of the edits held: whether 4 applies, whether its target is held, the number of its
-// object, how many Sets that has, and which of them conflict with it, bit i for the i-th.
+// object, how many Sets that has, which of them conflict with it by document 01's rule, bit i for the i-th, and whether
+// one of them is limited.
 pub struct Surveyed {
     pub torn: bool,
     pub found: bool,
     pub object: usize,
     pub sets: usize,
-    pub conflicts: u64,
+    pub plain: u64,
+    pub limited: bool,
 }
 
 // The edit in place p of a table of records; a place past the end holds zeros.
@@ -132,7 +134,7 @@ fn is_target(e: Edit, a: Edit) -> bool
 fn is_set_on(s: Site, q: Seq, e: Edit) -> bool
     ensures { λ r. ⌜ r ≡ isSetOn s q e ⌝ }
 {
-    (e.kind == SET) & is_same(e.tsite, e.tseq, s, q)
+    edit_record::is_set_kind(e.kind) & is_same(e.tsite, e.tseq, s, q)
 }
 
 // 1 where b holds, else 0.
@@ -160,13 +162,15 @@ fn survey_with(v: Surveyed, a: Edit, e: Edit) -> Surveyed
     let set = is_set_on(e.tsite, e.tseq, a);
     let object = v.object + one_if((a.kind == CREATE) & !found);
     let sets = v.sets + one_if(set);
-    let conflicts = marked_if(set & is_conflict(a, e), v.conflicts, v.sets);
+    let plain = marked_if(set & is_conflict(a, e), v.plain, v.sets);
+    let limited = v.limited | (set & (a.kind == LIMITED));
     Surveyed {
         torn,
         found,
         object,
         sets,
-        conflicts,
+        plain,
+        limited,
     }
 }
 
@@ -180,7 +184,8 @@ pub fn survey(recs: &[u8], n: usize, e: Edit) -> Surveyed
         found: false,
         object: 0,
         sets: 0,
-        conflicts: 0,
+        plain: 0,
+        limited: false,
     };
     let mut i: usize = 0;
     while i < n {

@@ -8,9 +8,9 @@ use edit_record::AT_TARGET;
 use edit_record::AT_TARGET_SEQ;
 use edit_record::CREATE;
 use edit_record::PLACE;
-use edit_record::SET;
 use edit_record::Seq;
 use edit_record::Site;
+use edit_record::is_set_kind;
 ghost use mathlib.Core.Path.{_≡_};
 ghost use mathlib.Core.List.{map};
 ghost use Prim.Native.Nat.{_≤_, _<_};
@@ -57,7 +57,7 @@ fn is_set_at(recs: &[u8], p: usize, s: Site, q: Seq) -> bool
     }
     let kind = edit_record::byte_at(recs, at + AT_KIND);
     let seq = edit_record::two_at(recs, at + AT_TARGET_SEQ);
-    (kind == SET) & is_same(Site(site), Seq(seq), s, q)
+    is_set_kind(kind) & is_same(Site(site), Seq(seq), s, q)
 }
 
 // Puts the places of the Sets on the Create s.q, of the first n records, at the front of out; says how many they are.

@@ -1,7 +1,9 @@
 pub mod NumbersInBytes
+pub mod FoursInBytes
 pub mod Encoding
 pub mod PaddedBytes
 pub mod EntriesPastSites
+pub mod MembersTested
 pub mod RoundTrip
 pub mod WellFormed
 pub mod AgreeingBytes

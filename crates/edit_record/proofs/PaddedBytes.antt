@@ -1,17 +1,15 @@
 -- A record is decoded by its own bytes: lists that have the same byte everywhere give one edit, as a record that is not
 -- there whole and the same with zeros after it. Assumes nothing.
-use mathlib.Core.Path.{_≡_, refl, sym, ap, _∙_}
-use mathlib.Core.List.{List, [], _∷_, _++_}
-use Prim.Native.Nat.{ℕ, zero, suc, _+_, _*_, _<_}
+use mathlib.Core.Path.{_≡_, sym, _∙_}
+use mathlib.Core.List.{List}
+use Prim.Native.Nat.{ℕ, _+_, _<_}
 use native.Mathlib.Omega.{arith}
-use lib.ListN.{length, getD, set, take, drop, replicate, List·getD-eq-default}
+use lib.ListN.{length, getD, set, take, replicate, List·getD-eq-default}
 use lib.Seq.{getD-set-same, getD-set-other, getD-take, length-take-le}
 use native.Mathlib.Decide.{decLt, ℕ-discrete}
 use Rattle.math_lists.proofs.ByPlaces.{zero-anywhere}
-use Rattle.edit_record.specs.Layout.{mostSites, kindAt, siteAt, seqAt, vectorAt, targetAt, keyAt, targetSeqAt}
-use Rattle.edit_record.specs.Layout.{valueAt}
-use Rattle.edit_record.specs.RecordBytes.{two, counts, decodeOf}
-use Rattle.edit_record.proofs.NumbersInBytes.{counts-more, two-drop}
+use Rattle.edit_record.specs.RecordBytes.{decodeOf}
+use Rattle.edit_record.proofs.AgreeingBytes.{decode-agree}
 
 -- s and t have the same byte everywhere; past the end stands 0
 abbrev pub Same : List ℕ → List ℕ → Type 0
@@ -51,32 +49,5 @@ one-more s t n l m h i = go (decLt i n) (ℕ-discrete i n)
 
 -- ---- read
 
-two-same : (s t : List ℕ) → Same s t → (i : ℕ) → two s i ≡ two t i
-two-same s t h i = rw (h i, h (i + 1))
-
-counts-same : (n k : ℕ) (s t : List ℕ) → Same s t → counts n (drop k s) ≡ counts n (drop k t)
-unfolding counts
-counts-same zero k s t h = refl
-counts-same (suc n) k s t h =
-    let e : two (drop k s) (2 * n) ≡ two (drop k t) (2 * n) = two-drop k s (2 * n)
-    ∙ two-same s t h (k + 2 * n)
-    ∙ sym (two-drop k t (2 * n)) in
-    counts-more n (drop k s)
-    ∙ ap (λ (x : ℕ). counts n (drop k s) ++ (x ∷ [])) e
-    ∙ ap (λ (l : List ℕ). l ++ (two (drop k t) (2 * n) ∷ [])) (counts-same n k s t h)
-    ∙ sym (counts-more n (drop k t))
-
 pub decode-same : (s t : List ℕ) → Same s t → decodeOf s ≡ decodeOf t
-decode-same s t h =
-    let w = two-same s t h in
-    rw (
-      w seqAt,
-      w targetSeqAt,
-      w valueAt,
-      w (valueAt + 2),
-      counts-same mostSites vectorAt s t h,
-      h kindAt,
-      h siteAt,
-      h targetAt,
-      h keyAt,
-    )
+decode-same s t h = decode-agree s t (λ i l. h i)

@@ -4,28 +4,34 @@ use mathlib.Core.Path.{_≡_}
 use mathlib.Core.Bool.{true, false, not, _&&_, _||_, and-assoc}
 use mathlib.Core.Logic.{_⊎_, inl, inr}
 use mathlib.Core.List.{List}
-use Prim.Native.Nat.{ℕ, _+_, _≤_, _<_}
+use Prim.Native.Nat.{ℕ, _+_, _/_, _%_, _≤_, _<_}
 use native.Mathlib.Omega.{arith}
 use lib.ListN.{getD}
-use lib.Dec.{eqb, leb}
-use borrow.Author.Tests.{eqb-true, eqb-false, eq-eqb, leb-false, le-leb, not-false}
-use Rattle.math_lists.specs.NumbersBelow.{all}
-use Rattle.math_lists.proofs.Booleans.{clash, same-test, both, either, or-left, or-right, neither, off}
+use lib.Dec.{eqb, leb, ltb}
+use borrow.Author.Tests.{eqb-true, eqb-false, eq-eqb, leb-false, le-leb, ltb-false, lt-ltb, not-false}
+use Rattle.math_lists.specs.NumbersBelow.{all, some}
+use Rattle.math_lists.proofs.Booleans.{clash, decide, same-test, both, either, or-left, or-right, neither, off}
+use Rattle.math_lists.proofs.Booleans.{then-off}
 use Rattle.math_lists.proofs.NumbersBelow.{none-at}
 use Rattle.edit_record.specs.Layout.{mostSites, keys, targetAt, targetSeqAt, valueAt, createKind, setKind}
-use Rattle.edit_record.specs.RecordBytes.{two, four, decodeOf}
-use Rattle.edit_record.specs.Answer1.{isCreate, isSet, isLayer, isAimed, entryOf, nonzeroPast}
-use Rattle.edit_record.specs.Answer1.{lastEightZero, unfit}
+use Rattle.edit_record.specs.Layout.{topKind, bottomKind, mostMembers}
+use Rattle.edit_record.specs.RecordBytes.{two, four, limits, decodeOf}
+use Rattle.edit_record.specs.Answer1.{isCreate, isLimited, isSet, isTop, isBottom, isLayer, isAimed, entryOf}
+use Rattle.edit_record.specs.Answer1.{nonzeroPast, lastEightZero, nameIn, listUnfit, unfit}
 use Rattle.edit_record.specs.declared.Edit.{Edit}
+use Rattle.edit_record.proofs.MembersTested.{hasWrongByte, isOutOfOrder}
 
 -- ---- the kinds
 
 pub create-not-set : (e : Edit) → isCreate e ≡ true → isSet e ≡ false
-create-not-set e h = off (isSet e) (λ k. omega (arith, eqb-true (e .kind) createKind h, eqb-true (e .kind) setKind k))
+create-not-set e h = off (isSet e) (λ k. clash k (rw (eqb-true (e .kind) createKind h)))
 
 pub set-not-create : (e : Edit) → isSet e ≡ true → isCreate e ≡ false
-set-not-create e h =
-    off (isCreate e) (λ k. omega (arith, eqb-true (e .kind) setKind h, eqb-true (e .kind) createKind k))
+set-not-create e h = off (isCreate e) (λ k. clash h (rw (eqb-true (e .kind) createKind k)))
+
+-- a limited Set is a Set
+pub limited-set : (e : Edit) → isLimited e ≡ true → isSet e ≡ true
+limited-set e h = or-right (eqb (e .kind) setKind) (isLimited e) h
 
 pub set-aimed : (e : Edit) → isSet e ≡ true → isAimed e ≡ true
 set-aimed e h = or-left (isSet e) (isLayer e) h
@@ -42,7 +48,11 @@ aimed-not-create e h =
     off (isCreate e) (λ k. clash h (rw (eqb-true (e .kind) createKind k)))
 
 pub layer-not-set : (e : Edit) → isLayer e ≡ true → isSet e ≡ false
-layer-not-set e h = off (isSet e) (λ k. clash h (rw (eqb-true (e .kind) setKind k)))
+layer-not-set e h =
+    elim (either (isTop e) (isBottom e) h) [
+      | inl t ↦ rw (eqb-true (e .kind) topKind t)
+      | inr b ↦ rw (eqb-true (e .kind) bottomKind b)
+    ]
 
 -- ---- a well-formed edit
 
@@ -77,7 +87,9 @@ well-formed n e h =
     let aimed = isAimed e && eqb (e .tseq .0) 0 in
     let create = isCreate e && not (lastEightZero e) in
     let layer = isLayer e && not (eqb (e .key) 0 && eqb (e .value) 0) in
-    let (h8, _) = neither (not kind || site || past || zero || not own || key || aimed || create) layer h in
+    let list = isLimited e && listUnfit e in
+    let (h9, _) = neither (not kind || site || past || zero || not own || key || aimed || create || layer) list h in
+    let (h8, _) = neither (not kind || site || past || zero || not own || key || aimed || create) layer h9 in
     let (h7, _) = neither (not kind || site || past || zero || not own || key || aimed) create h8 in
     let (h6, _) = neither (not kind || site || past || zero || not own || key) aimed h7 in
     let (h5, key-off) = neither (not kind || site || past || zero || not own) key h6 in
@@ -108,13 +120,66 @@ create-aims-nowhere n e h create =
     || isAimed e && eqb (e .tseq .0) 0 in
     let zeros = lastEightZero e in
     let create-off = isCreate e && not zeros in
-    let (start, _) = neither (rest || create-off) (isLayer e && not (eqb (e .key) 0 && eqb (e .value) 0)) h in
+    let layer = isLayer e && not (eqb (e .key) 0 && eqb (e .value) 0) in
+    let (most, _) = neither (rest || create-off || layer) (isLimited e && listUnfit e) h in
+    let (start, _) = neither (rest || create-off) layer most in
     let (_, last) = neither rest create-off start in
     let front = eqb (e .tsite .0) 0 && eqb (e .key) 0 in
     let seq = eqb (e .tseq .0) 0 in
     let (three, _) = both (front && seq) (eqb (e .value) 0) (not-false zeros (rw create at last)) in
     let (_, zero) = both front seq three in
     eqb-true (e .tseq .0) 0 zero
+
+-- ---- the list of a limited Set
+
+-- there are as many members as a list may have, each with its zero byte, and their names ascend
+pub record Listed (e : Edit) : Type 0 where
+  pub few : e .count ≤ mostMembers
+  pub zero : (i : ℕ) → i < mostMembers → getD (e .members) i 0 / 256 % 256 ≡ 0
+  pub ascending : (i : ℕ) → i + 1 < e .count → nameIn (getD (e .members) i 0) < nameIn (getD (e .members) (i + 1) 0)
+
+list-fit : (n : ℕ) (e : Edit) → unfit n e ≡ false → isLimited e ≡ true → listUnfit e ≡ false
+unfolding unfit
+list-fit n e h limited =
+    let rest =
+    not (isCreate e || isAimed e)
+    || leb n (e .site .0)
+    || nonzeroPast n (e .vector)
+    || eqb (e .seq .0) 0
+    || not (eqb (e .seq .0) (entryOf (e .vector) (e .site) .0))
+    || leb keys (e .key)
+    || isAimed e && eqb (e .tseq .0) 0
+    || isCreate e && not (lastEightZero e)
+    || isLayer e && not (eqb (e .key) 0 && eqb (e .value) 0) in
+    let (_, list) = neither rest (isLimited e && listUnfit e) h in
+    then-off (isLimited e) (listUnfit e) limited list
+
+pub listed-well : (n : ℕ) (e : Edit) → unfit n e ≡ false → isLimited e ≡ true → Listed e
+unfolding listUnfit
+listed-well n e h limited =
+    let m = e .members in
+    let many = ltb mostMembers (e .count) in
+    let byte = hasWrongByte m in
+    let order = isOutOfOrder (e .count) m in
+    let fit = list-fit n e h limited in
+    let (front, order-off) = neither (many || some mostMembers byte) (some mostMembers order) fit in
+    let (many-off, byte-off) = neither many (some mostMembers byte) front in
+    let few = ltb-false mostMembers (e .count) many-off in
+    record {
+      few = few;
+      zero = λ i l. eqb-true (getD m i 0 / 256 % 256) 0
+          (not-false (eqb (getD m i 0 / 256 % 256) 0) (none-at mostMembers byte byte-off i l));
+      ascending = λ i l. leb-false (nameIn (getD m (i + 1) 0)) (nameIn (getD m i 0))
+          (then-off (ltb (i + 1) (e .count)) (leb (nameIn (getD m (i + 1) 0)) (nameIn (getD m i 0)))
+          (lt-ltb (i + 1) (e .count) l) (none-at mostMembers order order-off i (omega arith)));
+    }
+
+-- whatever its kind, an edit that is no misfit has no more members
+pub few-members : (n : ℕ) (s : List ℕ) → unfit n (decodeOf s) ≡ false → decodeOf s .count ≤ mostMembers
+few-members n s h = elim (decide (limits s)) [
+  | inl on ↦ listed-well n (decodeOf s) h on .few
+  | inr off ↦ rw off (omega arith)
+]
 
 -- ---- the last eight bytes
 

@@ -19,6 +19,10 @@ createKind = 1
 abbrev pub setKind : ℕ
 setKind = 2
 
+-- a Set that is limited to one version
+abbrev pub limitedKind : ℕ
+limitedKind = 3
+
 abbrev pub topKind : ℕ
 topKind = 4
 
@@ -51,10 +55,25 @@ targetSeqAt = targetAt + 2
 abbrev pub valueAt : ℕ
 valueAt = targetAt + 4
 
--- the bytes of a record
+-- the bytes of a record, but that a limited Set goes on
 abbrev pub recordLength : ℕ
 recordLength = valueAt + 4
 
--- the bytes of a place in the table of records
+-- ---- what a limited Set lists: the count of its members, two zero bytes, and the members
+
+abbrev pub countAt : ℕ
+countAt = recordLength
+
+abbrev pub membersAt : ℕ
+membersAt = countAt + 4
+
+-- the bytes of a member, and the most members
+abbrev pub memberLength : ℕ
+memberLength = 4
+
+abbrev pub mostMembers : ℕ
+mostMembers = 16
+
+-- the bytes of a place in the table of records, which has room for the longest
 abbrev pub placeLength : ℕ
-placeLength = recordLength
+placeLength = membersAt + memberLength * mostMembers

@@ -1,12 +1,21 @@
 // The edit record of document 01: sites and sequence numbers, a record's bytes to an edit and back, and answer 1.
+mod lists;
+mod writing;
+
+use lists::count_of;
+use lists::is_list_unfit;
+use lists::members_of;
+use writing::encode_fields;
+use writing::with_list;
 ghost use mathlib.Core.Path.{_≡_};
 ghost use Prim.Native.Nat.{ℕ, _+_, _*_, _≤_, _<_, _^_};
-ghost use mathlib.Core.List.{[], _∷_, _++_};
-ghost use lib.ListN.{length, getD, take, drop};
-ghost use Rattle.edit_record.specs.Layout.{mostSites, vectorAt, targetAt, recordLength};
-ghost use Rattle.edit_record.specs.RecordBytes.{two, counts, countBytes, decodeOf, encodeOf, spanOf};
-ghost use Rattle.edit_record.specs.Answer1.{isLayer, isAimed, entryOf, nonzeroPast, lastEightZero, unfit};
-ghost use Rattle.edit_record.specs.Answer1.{malformed};
+ghost use lib.ListN.{length, getD, drop};
+ghost use mathlib.Core.Bool.{_||_};
+ghost use lib.Dec.{eqb};
+ghost use Rattle.edit_record.specs.Layout.{mostSites, vectorAt, recordLength, setKind, limitedKind};
+ghost use Rattle.edit_record.specs.RecordBytes.{two, four, counts, decodeOf, placed, spanOf};
+ghost use Rattle.edit_record.specs.Answer1.{isLayer, isAimed, entryOf, nonzeroPast, lastEightZero, nameIn};
+ghost use Rattle.edit_record.specs.Answer1.{unfit, malformed};
 
 // The sites that a drawing has at most: the entries of a vector.
 pub const SITES: usize = 16;
@@ -17,6 +26,9 @@ pub const KEYS: u8 = 16;
 pub const CREATE: u8 = 1;
 
 pub const SET: u8 = 2;
+
+// A Set that is limited to one version.
+pub const LIMITED: u8 = 3;
 
 pub const TOP: u8 = 4;
 
@@ -39,11 +51,21 @@ pub const AT_TARGET_SEQ: usize = AT_TARGET + 2;
 
 const AT_VALUE: usize = AT_TARGET + 4;
 
-// The bytes of a record.
+// The bytes of a record, but that a limited Set goes on.
 pub const RECORD: usize = AT_VALUE + 4;
 
-// The bytes of a place in the table of records.
-pub const PLACE: usize = RECORD;
+// Where a limited Set has the count of its members, with two zero bytes, and where the members.
+pub const AT_COUNT: usize = RECORD;
+
+const AT_MEMBERS: usize = AT_COUNT + 4;
+
+// The bytes of a member, and the most members.
+const MEMBER: usize = 4;
+
+pub const MEMBERS: usize = 16;
+
+// The bytes of a place in the table of records, which has room for the longest.
+pub const PLACE: usize = AT_MEMBERS + MEMBER * MEMBERS;
 
 // The number of a laptop. It is never taken for a sequence number.
 pub struct Site(pub u8);
@@ -51,7 +73,8 @@ pub struct Site(pub u8);
 // The number of an edit among those of its site, from 1 on; in a vector, how many of them were applied.
 pub struct Seq(pub u16);
 
-// An edit, field by field in the record's order; `tsite` and `tseq` name the target.
+// An edit, field by field in the record's order; `tsite` and `tseq` name the target. A member is the number in its
+// four bytes, and `count` that in the four where the count and the zero bytes stand: zeros but in a limited Set.
 pub struct Edit {
     pub kind: u8,
     pub site: Site,
@@ -61,6 +84,8 @@ pub struct Edit {
     pub key: u8,
     pub tseq: Seq,
     pub value: u32,
+    pub count: u32,
+    pub members: [u32; MEMBERS],
 }
 
 // The byte at i, and 0 past the end.
@@ -78,6 +103,14 @@ pub fn two_at(s: &[u8], i: usize) -> u16
     byte_at(s, i) as u16 + byte_at(s, i + 1) as u16 * 256
 }
 
+// The number in the four bytes from i on.
+pub fn four_at(s: &[u8], i: usize) -> u32
+    requires { ⌜ i < 2 ^ 47 ⌝ }
+    ensures { λ r. ⌜ r ≡ four (now (s .entry)) i ⌝ }
+{
+    two_at(s, i) as u32 + two_at(s, i + 2) as u32 * 65536
+}
+
 // The number in two bytes.
 fn both(low: u8, high: u8) -> u16
     ensures { λ r. ⌜ r ≡ low + high * 256 ⌝ }
@@ -93,10 +126,13 @@ pub fn pair_at(s: &[u8], i: usize) -> u16
     both(s[i], s[i + 1])
 }
 
-// The bytes of the record at the front of rec: as many for every kind.
+// How many bytes the record at the front of rec has: a limited Set by the count that is stored.
 pub fn span_of(rec: &[u8]) -> usize
     ensures { λ r. ⌜ r ≡ spanOf (now (rec .entry)) ⌝ }
 {
+    if byte_at(rec, AT_KIND) == LIMITED {
+        return AT_MEMBERS + two_at(rec, AT_COUNT) as usize * MEMBER;
+    }
     RECORD
 }
 
@@ -130,6 +166,8 @@ fn decode_whole(rec: &[u8]) -> Edit
         key: rec[AT_KEY],
         tseq: Seq(pair_at(rec, AT_TARGET_SEQ)),
         value: low as u32 + high as u32 * 65536,
+        count: count_of(rec),
+        members: members_of(rec),
     }
 }
 
@@ -158,51 +196,23 @@ pub fn decode(rec: &[u8]) -> Edit
     decode_whole(&whole)
 }
 
-// The bytes before i as they stand, then these two; what stands behind is left open.
-fn with_two(bytes: [u8; RECORD], i: usize, low: u8, high: u8) -> [u8; RECORD]
-    requires { ⌜ i + 1 < recordLength ⌝ }
-    ensures { λ r. ⌜ take (i + 2) r ≡ take i bytes ++ (low ∷ high ∷ []) ⌝ }
+// The bytes of a place that holds an edit.
+pub fn encode(e: Edit) -> [u8; PLACE]
+    ensures { λ r. ⌜ r ≡ placed e ⌝ }
 {
-    let mut out = bytes;
-    out[i] = low;
-    out[i + 1] = high;
-    out
-}
-
-// The bytes before i as they stand, then the two of a count.
-fn with_count(bytes: [u8; RECORD], i: usize, n: u16) -> [u8; RECORD]
-    requires { ⌜ i + 1 < recordLength ⌝ }
-    ensures { λ r. ⌜ take (i + 2) r ≡ take i bytes ++ countBytes (n ∷ []) ⌝ }
-{
-    with_two(bytes, i, (n % 256) as u8, (n / 256 % 256) as u8)
-}
-
-// The bytes before a vector as they stand, then those of its counts.
-fn with_vector(bytes: [u8; RECORD], v: [u16; SITES]) -> [u8; RECORD]
-    ensures { λ r. ⌜ take targetAt r ≡ take vectorAt bytes ++ countBytes v ⌝ }
-{
-    let mut out = bytes;
-    let mut i: usize = 0;
-    while i < SITES {
-        let next = with_count(out, AT_VECTOR + 2 * i, v[i]);
-        out = next;
-        i += 1;
+    let fields = encode_fields(e);
+    let members = e.members;
+    if e.kind == LIMITED {
+        return with_list(fields, e.count, members);
     }
-    out
+    with_list(fields, 0, [0u32; MEMBERS])
 }
 
-// The bytes of an edit.
-pub fn encode(e: Edit) -> [u8; RECORD]
-    ensures { λ r. ⌜ r ≡ encodeOf e ⌝ }
+// Whether an edit of this kind is a Set, be it limited or not.
+pub fn is_set_kind(kind: u8) -> bool
+    ensures { λ r. ⌜ r ≡ (eqb kind setKind || eqb kind limitedKind) ⌝ }
 {
-    let v = e.vector;
-    let author = with_two([0u8; RECORD], AT_KIND, e.kind, e.site.0);
-    let own = with_count(author, AT_SEQ, e.seq.0);
-    let seen = with_vector(own, v);
-    let target = with_two(seen, AT_TARGET, e.tsite.0, e.key);
-    let named = with_count(target, AT_TARGET_SEQ, e.tseq.0);
-    let low = with_count(named, AT_VALUE, (e.value % 65536) as u16);
-    with_count(low, AT_VALUE + 2, (e.value / 65536) as u16)
+    (kind == SET) | (kind == LIMITED)
 }
 
 // Whether the edit is to-top or to-bottom.
@@ -216,7 +226,7 @@ pub fn is_layer(e: Edit) -> bool
 pub fn is_aimed(e: Edit) -> bool
     ensures { λ r. ⌜ r ≡ isAimed e ⌝ }
 {
-    (e.kind == SET) | is_layer(e)
+    is_set_kind(e.kind) | is_layer(e)
 }
 
 // The count of a site in a vector, and 0 for a site that has no entry.
@@ -247,6 +257,13 @@ fn is_last_eight_zero(e: Edit) -> bool
     (e.tsite.0 == 0) & (e.key == 0) & (e.tseq.0 == 0) & (e.value == 0)
 }
 
+// The name of a member: its site and its sequence number as one number.
+pub fn name_in(m: u32) -> u32
+    ensures { λ r. ⌜ r ≡ nameIn m ⌝ }
+{
+    m % 256 * 65536 + m / 65536
+}
+
 // Whether answer 1 is given to an edit of the right length, in a drawing of n sites.
 pub fn is_unfit(n: u8, e: Edit) -> bool
     ensures { λ r. ⌜ r ≡ unfit n e ⌝ }
@@ -257,6 +274,7 @@ pub fn is_unfit(n: u8, e: Edit) -> bool
     let zero = is_last_eight_zero(e);
     let layer = is_layer(e);
     let aimed = is_aimed(e);
+    let list = is_list_unfit(e);
     !((e.kind == CREATE) | aimed)
         | (n <= e.site.0)
         | past
@@ -266,6 +284,7 @@ pub fn is_unfit(n: u8, e: Edit) -> bool
         | (aimed & (e.tseq.0 == 0))
         | ((e.kind == CREATE) & !zero)
         | (layer & !((e.key == 0) & (e.value == 0)))
+        | list
 }
 
 // Whether answer 1 is given to these bytes, of any length, in a drawing of n sites.

@@ -1,11 +1,12 @@
 -- The sum of document 02's Req 11: a word is four bytes, little-endian, from a record's start; words are added up and
 -- the sum wraps at the top of 32 bits. A record is a whole number of words. Assumes nothing.
 use mathlib.Core.List.{List}
-use Prim.Native.Nat.{ℕ, _*_, _/_, _%_, _^_}
+use Prim.Native.Nat.{ℕ, _*_, _/_, _%_, _^_, _≤_, _<_}
 use lib.ListN.{drop}
 use Rattle.math_lists.specs.NumbersBelow.{sum}
-use Rattle.edit_record.specs.Layout.{placeLength}
+use Rattle.edit_record.specs.Layout.{mostMembers, placeLength}
 use Rattle.edit_record.specs.RecordBytes.{four, spanOf}
+use Rattle.edit_history.specs.EditsHeld.{recordAt}
 
 -- the bytes of a word, and how many words the record at the front of s has
 abbrev pub wordLength : ℕ
@@ -35,3 +36,7 @@ wordsAt rs p =
 -- those of the records in the first n places, wrapped
 unfoldable pub sumHeld : ℕ → List ℕ → ℕ
 sumHeld n rs = wrapped (sum n (wordsAt rs))
+
+-- each of those records lists no more members than a list may have, so that its place has room for it
+abbrev pub ListsFit : List ℕ → ℕ → Type 0
+ListsFit rs n = (p : ℕ) → p < n → recordAt rs p .count ≤ mostMembers

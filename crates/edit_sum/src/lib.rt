@@ -5,7 +5,7 @@ ghost use Prim.Native.Nat.{_*_, _+_, _≤_};
 ghost use lib.ListN.{length};
 ghost use Rattle.edit_record.specs.Layout.{placeLength};
 ghost use Rattle.edit_record.specs.RecordBytes.{spanOf};
-ghost use Rattle.edit_sum.specs.WordSum.{wordLength, recordWords, wordAt, wrapped, sumOf, sumHeld};
+ghost use Rattle.edit_sum.specs.WordSum.{wordLength, recordWords, wordAt, wrapped, sumOf, sumHeld, ListsFit};
 
 // The bytes of a word.
 const WORD: usize = 4;
@@ -49,9 +49,9 @@ pub fn sum_record(rec: &[u8]) -> u32
     sum_words(rec, edit_record::span_of(rec) / WORD)
 }
 
-// The words of the first n records of a table added up, wrapped at the top.
+// The words of the first n records of a table added up, wrapped at the top. Each has room in its place.
 pub fn sum_records(recs: &[u8], n: usize) -> u32
-    requires { ⌜ n * placeLength ≤ length (now recs) ⌝ }
+    requires { ⌜ (n * placeLength ≤ length (now recs)) × ListsFit (now recs) n ⌝ }
     ensures { λ r. ⌜ r ≡ sumHeld n (now (recs .entry)) ⌝ }
 {
     let mut sum: u32 = 0;

@@ -6,4 +6,3 @@ pub mod NextByRows
 pub mod ConflictRows
 pub mod RowsOfArrival
 pub mod NamedByRows
-pub mod BoxOfRows

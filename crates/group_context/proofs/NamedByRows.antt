@@ -3,18 +3,16 @@
 -- version.
 use mathlib.Core.Path.{_≡_, sym, _∙_, ap}
 use mathlib.Core.Bool.{not, Bool·not-not}
-use mathlib.Core.List.{List}
 use Prim.Native.Nat.{ℕ, suc, _<_}
 use native.Mathlib.Omega.{arith}
-use lib.ListN.{take}
 use Rattle.math_lists.specs.NumbersBelow.{mask}
 use Rattle.math_lists.proofs.NumbersBelow.{mask-same}
 use Rattle.math_contexts.specs.Box.{Box, Lawful}
-use Rattle.math_contexts.specs.Contexts.{contexts, conflicts}
-use Rattle.math_contexts.specs.Versions.{namesVersion}
+use Rattle.math_contexts.specs.Contexts.{conflicts}
+use Rattle.math_contexts.specs.Versions.{namesVersion, AllNamed}
 use Rattle.math_contexts.specs.NamedVersions.{conflictsBy, contextsNamed, namesNone}
 use Rattle.math_contexts.specs.MaskForms.{maskConflicts, maskNames}
-use Rattle.math_contexts.proofs.NamedVersions.{AllNamed, contexts-are, names-none-is, conflicts-are}
+use Rattle.math_contexts.proofs.NamedVersions.{names-none-is, conflicts-are}
 use Rattle.math_contexts.proofs.ContextsByMasks.{conflicts-by-masks}
 use Rattle.math_contexts.proofs.NamesByMasks.{names-by-masks}
 
@@ -22,10 +20,6 @@ module _ (b : Box) (n : ℕ) where
   -- ---- the first n
 
   module _ (law : Lawful b n) (named : AllNamed b n) where
-    -- what `put_contexts` leaves
-    pub contexts-named : (cs : List ℕ) → take n cs ≡ contexts b n → take n cs ≡ contextsNamed b n
-    contexts-named cs held = held ∙ sym (contexts-are b n law named)
-
     -- a number that `put_conflicts` leaves
     pub conflict-row-named :
         (i : ℕ) → i < n → mask n (conflicts b i) ≡ mask n (conflictsBy b (contextsNamed b n) i)

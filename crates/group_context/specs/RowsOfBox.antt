@@ -16,14 +16,6 @@ pub record PlainRows (b : Box) (n : ℕ) (plains : List ℕ) : Type 0 where
   pub symmetric : (i j : ℕ) → i < n → j < n → b .plain i j ≡ b .plain j i
   pub conflicts : (i j : ℕ) → i < n → j < n → bit (getD plains i 0) j ≡ b .plain i j
 
--- `seens` and `nameds` have a number for each as well: those before it that it has seen, and those that it lists; and
--- bit i of `limited` says whether i is limited
-pub record RowsOf (b : Box) (n : ℕ) (plains seens nameds : List ℕ) (limited : ℕ) : Type 0 where
-  pub plainly : PlainRows b n plains
-  pub seen : (i : ℕ) → i < n → getD seens i 0 ≡ mask i (b .seen i)
-  pub named : (i : ℕ) → i < n → getD nameds i 0 ≡ mask i (b .named i)
-  pub limits : (i : ℕ) → i < n → bit limited i ≡ b .limited i
-
 -- Set n of b, by its own numbers, with the conflicts and the contexts of those before it
 pub record NextOf (b : Box) (n : ℕ) (plains cs : List ℕ) (v w : ℕ) (limited : Bool) : Type 0 where
   pub plainly : PlainRows b n plains

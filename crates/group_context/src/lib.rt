@@ -1,14 +1,14 @@
 // The contexts of the Sets of an object (document 02, Req 06), the conflicts that they bring, and answer 16, from
 // numbers alone, whose bits are the Sets in the order of their arrival. Bit j of `plain[i]` says that Sets i and j
-// conflict by document 01's rule; for j before i, bit j of `seen[i]` says that the author of i had seen j, and bit j
-// of `named[i]` that i lists j; bit i of `limited` says that i is of kind 3; and `ctx[i]` is the context of i. An
-// arriving Set, number n, is given by its own numbers; it may come after as many Sets as an object has at most.
+// conflict by document 01's rule, and `ctx[i]` is the context of i. A Set that comes after them, number n, is given by
+// its own numbers: bit j of `seen` says that its author had seen j, bit j of `named` that it lists j, and `limited`
+// that it is of kind 3. It may come after as many Sets as an object has at most.
 ghost use mathlib.Core.Path.{_≡_};
 ghost use Prim.Native.Nat.{ℕ, _≤_, _<_};
 ghost use lib.ListN.{length, take, getD};
 ghost use Rattle.math_lists.specs.NumbersBelow.{mask};
 ghost use Rattle.math_contexts.specs.Box.{Box};
-ghost use Rattle.math_contexts.specs.Contexts.{contexts, conflicts};
+ghost use Rattle.math_contexts.specs.Contexts.{contexts, context, conflicts};
 ghost use Rattle.math_contexts.specs.MaskForms.{maskConflicts, maskNames};
 ghost use Rattle.group_step.specs.GroupRows.{mostSets};
 ghost use Rattle.group_context.specs.RowForms.{
@@ -16,11 +16,10 @@ ghost use Rattle.group_context.specs.RowForms.{
   disputedIn,
   reaching,
   apart,
-  contextOf,
   conflictsOf,
   namesOf,
 };
-ghost use Rattle.group_context.specs.RowsOfBox.{PlainRows, RowsOf, NextOf};
+ghost use Rattle.group_context.specs.RowsOfBox.{PlainRows, NextOf};
 
 // Those of the first n Sets whose number has a member of m.
 fn meeting_rows(rows: &[u64], n: usize, m: u64) -> u64
@@ -63,41 +62,16 @@ fn apart_from(ctx: &[u64], n: usize, v: u64, m: u64) -> u64
 }
 
 // The context of Set n, from the contexts of those before it.
-fn context_of(plain: &[u64], ctx: &[u64], n: usize, seen: u64, named: u64, limited: bool) -> u64
+pub fn context_of(plain: &[u64], ctx: &[u64], n: usize, seen: u64, named: u64, limited: bool) -> u64
     requires { ⌜ (n ≤ mostSets) × (n ≤ length (now plain)) × (n ≤ length (now ctx)) ⌝ }
-    ensures { λ r. ⌜ r ≡ contextOf (now (plain .entry)) (now (ctx .entry)) n seen named limited ⌝ }
+    ensures { λ r.
+        ⌜ ((b : Box) → NextOf b n (now (plain .entry)) (now (ctx .entry)) seen named limited → r ≡ context b n) ⌝ }
 {
     if !limited {
         return 0;
     }
     let d = disputed_in(plain, n, seen);
     apart_from(ctx, n, seen, group_step::without(d, named))
-}
-
-// Puts the contexts of the first n Sets into ctx, each worked out from those before it.
-pub fn put_contexts(
-    ctx: &mut [u64],
-    plain: &[u64],
-    seen: &[u64],
-    named: &[u64],
-    limited: u64,
-    n: usize,
-)
-    requires { ⌜ (n ≤ mostSets)
-        × (n ≤ length (now ctx))
-        × (n ≤ length (now plain))
-        × (n ≤ length (now seen))
-        × (n ≤ length (now named)) ⌝ }
-    ensures { λ r.
-        ⌜ ((b : Box) → RowsOf b n (now (plain .entry)) (now (seen .entry)) (now (named .entry)) limited →
-        take n (now (ctx .exit)) ≡ contexts b n) ⌝ }
-{
-    let mut i: usize = 0;
-    while i < n {
-        let l = group_step::has(limited, i);
-        ctx[i] = context_of(plain, ctx, i, seen[i], named[i], l);
-        i += 1;
-    }
 }
 
 // Those of the first n Sets that reach one of `row`, or one that a member of c conflicts with.

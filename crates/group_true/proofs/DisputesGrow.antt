@@ -1,28 +1,35 @@
 -- The Sets of an object, ms, and more that arrive after them: what is in dispute stays so, and two versions are never
 -- found in one later version, not even by their members in dispute alone. Dispute is document 01's conflict of two
--- edits; that groups are told apart by it is `known-by-disputed`. Assumes nothing.
-use mathlib.Core.Path.{_≡_, _∙_}
-use mathlib.Core.Bool.{true, false, _&&_}
+-- edits; that groups are told apart by it is `disputed-never-in-one` of `math_contexts`. Assumes, where it is said,
+-- that
+-- the Sets are proper.
+use mathlib.Core.Path.{_≡_, sym, _∙_}
+use mathlib.Core.Bool.{true, _&&_}
 use mathlib.Core.List.{List, _++_}
 use Prim.Native.Nat.{ℕ, _<_}
 use native.Mathlib.Omega.{arith}
 use lib.ListN.{length, getD, length-append, List·getD-append}
 use Rattle.math_lists.specs.SortedLists.{any, elem}
-use Rattle.math_lists.proofs.Booleans.{clash, off, both, and-on, or-left}
+use Rattle.math_lists.proofs.Booleans.{both, and-on, or-left}
 use Rattle.math_lists.proofs.Elements.{any-append}
 use Rattle.math_lists.proofs.NumbersBelow.{keep-at, keep-on}
-use Rattle.math_lists.proofs.ByPlaces.{any-place-on}
 use Rattle.edit_record.specs.declared.Edit.{Edit}
-use Rattle.edit_causal.specs.Conflict.{doConflict, conflictsIn}
-use Rattle.edit_causal.proofs.CausalLaws.{conflict-symmetric}
-use Rattle.edit_causal.proofs.ConflictsAmongSets.{conflicts-turned, conflict-plainly}
+use Rattle.edit_causal.specs.Conflict.{doConflict, lists, boxOn, conflictsIn}
+use Rattle.edit_causal.specs.ConflictForms.{Proper, saw}
 use Rattle.math_maximal.specs.MaximalSets.{_∈_, _⊆_}
-use Rattle.math_maximal.specs.Groups.{bit, every}
-use Rattle.math_maximal.proofs.MoreElements.{one-group}
+use Rattle.math_maximal.specs.Groups.{bit, below, every}
+use Rattle.math_maximal.proofs.Groups.{below-at}
+use Rattle.math_contexts.specs.Box.{disputed}
+use Rattle.math_contexts.specs.BoxByArrival.{rel}
+use Rattle.math_contexts.proofs.ContextMembers as members
+use Rattle.math_contexts.proofs.DisputedByArrival.{disputed-over}
+use Rattle.math_contexts.proofs.NamedSets.{named-groups}
+use Rattle.math_contexts.proofs.VersionsGrow.{disputed-never-in-one}
 use Rattle.edit_record.specs.RecordBytes.{noEdit}
+use Rattle.edit_record.specs.Answer1.{isLimited}
 use Rattle.group_true.specs.TrueGroups.{groupsOf}
 use Rattle.group_true.specs.Disputed.{isDisputed, disputedOf}
-use Rattle.group_true.proofs.GroupsGrow.{members-arrived, members-free}
+use Rattle.group_true.proofs.GroupsGrow.{members-free}
 
 -- ---- in dispute
 
@@ -31,11 +38,6 @@ module _ (ms : List Edit) (m : Edit) where
   pub stays-disputed : isDisputed ms m ≡ true → (more : List Edit) → isDisputed (ms ++ more) m ≡ true
   unfolding isDisputed
   stays-disputed h more = any-append (doConflict m) ms more ∙ or-left (any (doConflict m) ms) _ h
-
-  -- a conflict with any Set of the object will do
-  disputed-by : (j : ℕ) → j < length ms → doConflict m (getD ms j noEdit) ≡ true → isDisputed ms m ≡ true
-  unfolding isDisputed
-  disputed-by j l h = any-place-on (doConflict m) noEdit ms j l h
 
 -- ---- the disputed members by their places
 
@@ -57,17 +59,6 @@ module _ (ms : List Edit) where
       let (b, h) = both (bit g i) (isDisputed ms (getD ms i noEdit)) p in
       (l, b, h)
 
--- ---- two groups of the same Sets
-
--- if no member of one is in dispute with a member of the other they are one
-known-by-disputed :
-    (ms : List Edit) (g h : ℕ) → elem g (groupsOf ms) ≡ true → elem h (groupsOf ms) ≡ true →
-    ((i j : ℕ) → i ∈ bit g → j ∈ bit h → doConflict (getD ms i noEdit) (getD ms j noEdit) ≡ false) → g ≡ h
-unfolding groupsOf
-known-by-disputed ms g h eg eh none =
-    one-group (conflictsIn ms) (length ms) every g h eg eh
-    (λ i j b x. let c = conflict-plainly ms i j (none i j b x) in (c, conflicts-turned ms j i ∙ c))
-
 -- ---- more Sets
 
 module _ (ms more : List Edit) where
@@ -84,17 +75,38 @@ module _ (ms more : List Edit) where
       disputed-on ns h i (omega (arith, length-append ms more)) (sub i b)
       (rw (same-there i l) (stays-disputed ms (getD ms i noEdit) d more))
 
+  disputed-there :
+      (g i : ℕ) → i ∈ bit g → i ∈ disputed (boxOn ms) (length ms) every → elem i (disputedOf ms g) ≡ true
+  unfolding isDisputed
+  disputed-there g i bi d =
+      let l = below-at (length ms) every i (members.disputed-at (boxOn ms) (length ms) every i d .0) .0 in
+      disputed-on ms g i l bi (sym (disputed-over noEdit doConflict saw lists isLimited ms i l) ∙ d)
+
+  lies :
+      (k i : ℕ) → bit k i ≡ true → i ∈ disputed (boxOn ms) (length ms) every →
+      (below (length ms) every i && bit k i) ≡ true
+  lies k i ki d =
+      and-on (below (length ms) every i) (bit k i) (members.disputed-at (boxOn ms) (length ms) every i d .0) ki
+
   -- two versions are never found in one
   pub versions-never-in-one :
-      (g h k : ℕ) → elem g (groupsOf ms) ≡ true → elem h (groupsOf ms) ≡ true → elem k (groupsOf ns) ≡ true →
-      ((i : ℕ) → elem i (disputedOf ms g) ≡ true → bit k i ≡ true) →
+      Proper ms → (g h k : ℕ) → elem g (groupsOf ms) ≡ true → elem h (groupsOf ms) ≡ true →
+      elem k (groupsOf ns) ≡ true → ((i : ℕ) → elem i (disputedOf ms g) ≡ true → bit k i ≡ true) →
       ((i : ℕ) → elem i (disputedOf ms h) ≡ true → bit k i ≡ true) → g ≡ h
-  versions-never-in-one g h k eg eh ek into into′ =
-      known-by-disputed ms g h eg eh (λ i j b x. off (doConflict (getD ms i noEdit) (getD ms j noEdit)) (λ c.
-      let l : i < length ms = members-arrived ms g eg i b in
-      let m : j < length ms = members-arrived ms h eh j x in
-      let back : doConflict (getD ms j noEdit) (getD ms i noEdit) ≡ true
-      = conflict-symmetric (getD ms j noEdit) (getD ms i noEdit) ∙ c in
-      let ki = into i (disputed-on ms g i l b (disputed-by ms (getD ms i noEdit) j m c)) in
-      let kj = into′ j (disputed-on ms h j m x (disputed-by ms (getD ms j noEdit) i l back)) in
-      clash c (rw (same-there i l, same-there j m) at (members-free ns k ek i j ki kj))))
+  unfolding groupsOf conflictsIn rel
+  versions-never-in-one p g h k eg eh ek into into′ =
+      let b = boxOn ms in
+      let n = length ms in
+      let groups-are = named-groups b n (p .lawful) (p .named) in
+      disputed-never-in-one b n (p .lawful) g h (rw groups-are at eg) (rw groups-are at eh)
+      {U = below n every} {Q = λ i. below n every i && bit k i}
+      (record {
+        within = λ i m. both (below n every i) (bit k i) m .0;
+        free = λ i m j o.
+            let (bi, ki) = both (below n every i) (bit k i) m in
+            let (bj, kj) = both (below n every j) (bit k j) o in
+            rw (same-there i (below-at n every i bi .0), same-there j (below-at n every j bj .0)) at
+            (members-free ns k ek i j ki kj);
+      })
+      (λ i bi d. lies k i (into i (disputed-there g i bi d)) d)
+      (λ i bi d. lies k i (into′ i (disputed-there h i bi d)) d)

@@ -1,4 +1,4 @@
 pub mod GroupsGrow
 pub mod TrueGroups
 pub mod DisputesGrow
-pub mod SetsAsBox
+pub mod ProperSets

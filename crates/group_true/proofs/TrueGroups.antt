@@ -42,7 +42,7 @@ groups-same es c e d = ap groupsOf (sets-same es c e d)
 -- ---- a Set of it
 
 -- a Set on the object stands last among its Sets
-sets-more :
+pub sets-more :
     (es : List Edit) (e : Edit) → isSet e ≡ true →
     setsOn (e .tsite) (e .tseq) (es ++ (e ∷ [])) ≡ setsOn (e .tsite) (e .tseq) es ++ (e ∷ [])
 unfolding setsOn

@@ -1,10 +1,10 @@
--- Demand 3, the lines of one object: they are the same in every order of the same edits. Assumes that no identity
--- stands twice among them and that a sequence number fits two bytes, as in sound tables.
+-- Demand 3, the lines of one object: they are the same in every causal order of the same edits. Assumes that the edits
+-- are settled.
 use mathlib.Core.Path.{_≡_, sym, ap, ap₂, subst, _∙_}
 use mathlib.Core.Logic.{inl, inr}
 use mathlib.Core.Bool.{Bool, true, false}
 use mathlib.Core.List.{List, map, map-map, Memᴰ·map, Memᴰ·of-map}
-use Prim.Native.Nat.{ℕ, _<_}
+use Prim.Native.Nat.{ℕ, _≤_, _<_}
 use native.Mathlib.Omega.{arith}
 use lib.Dec.{eqb, ltb}
 use lib.ListN.{length}
@@ -13,7 +13,9 @@ use Rattle.math_lists.specs.SortedLists.{elem, filter, Asc}
 use Rattle.math_lists.proofs.Booleans.{clash}
 use Rattle.math_lists.proofs.Elements.{elem→mem, mem→elem}
 use Rattle.edit_record.specs.declared.Edit.{Edit}
+use Rattle.edit_record.specs.Layout.{mostSites}
 use Rattle.edit_causal.specs.Conflict.{conflictsIn}
+use Rattle.edit_causal.specs.ConflictForms.{Proper}
 use Rattle.math_maximal.specs.Groups.{every}
 use Rattle.math_maximal.proofs.Groups.{groups-ascending}
 use Rattle.math_maximal.proofs.AnotherOrder.{setOf, Distinct}
@@ -22,13 +24,15 @@ use Rattle.edit_history.specs.EditsHeld.{isSetOn, setsOn}
 use Rattle.edit_record.specs.RecordBytes.{noEdit}
 use Rattle.group_true.specs.TrueGroups.{groupsOf, trueGroups}
 use Rattle.math_lists.specs.Rearranged.{Mem, Rearranged}
-use Rattle.demand_any_order.specs.Settled.{Differ, Apart}
+use Rattle.demand_any_order.specs.Settled.{Causal, Settled}
 use Rattle.demand_any_order.specs.EqualEdits.{isEqual}
-use Rattle.math_lists.proofs.Rearranged.{turned, unchanged, same-members, chosen-rearranged}
-use Rattle.math_lists.proofs.PairsInList.{pairs-made, pairs-weaken, pairs-rearranged}
-use Rattle.demand_any_order.proofs.Identities.{differ-turned, sets-distinct}
+use Rattle.math_lists.proofs.Rearranged.{turned, unchanged, chosen-rearranged}
+use Rattle.math_lists.proofs.PairsInList.{pairs-made, pairs-weaken}
+use Rattle.demand_any_order.proofs.Identities.{sets-distinct}
+use Rattle.demand_any_order.proofs.SettledBoxes.{ordered, box-lawful}
+use Rattle.demand_any_order.proofs.SettledAnyOrder.{settled-in-any-order}
 use Rattle.demand_any_order.proofs.SameGroups.{same-keys}
-use Rattle.list_version.specs.Identifier.{seqNumbers, identifierOf}
+use Rattle.list_version.specs.Identifier.{identifierOf}
 use Rattle.list_version.specs.VersionOrder.{isAhead, versionsOf}
 use Rattle.list_line.specs.Line.{versionLine, objectLines}
 use Rattle.list_version.proofs.ListsCompared.{Before, lex-told, before-through, lex-irreflexive}
@@ -70,15 +74,15 @@ module _ (c : Edit) (ms : List Edit) where
   of-groups g m = sym (same-versions ms (eqb g) gs) ∙ mem→elem m
 
   -- they stand in the order of their identifiers, of which none is shared
-  entries-sorted : NamesDiffer ms → Asc Ahead entries
+  entries-sorted : Proper ms → NamesDiffer ms → Asc Ahead entries
   unfolding groupsOf isAhead
-  entries-sorted differ =
+  entries-sorted proper differ =
       pairs-made Ahead printed (versionsOf ms gs)
       (pairs-weaken (λ g h. isAhead ms g h ≡ true) (λ g h. Ahead (printed g) (printed h)) (versionsOf ms gs)
       (λ g h m k a. elim (lex-told (ltb g h) (identifierOf ms g) (identifierOf ms h) a) [
         | inl b ↦ b
         | inr (e, l) ↦
-            (let one : g ≡ h = never-shared ms differ g h (of-groups g m) (of-groups h k) e in
+            (let one : g ≡ h = never-shared ms proper differ g h (of-groups g m) (of-groups h k) e in
             let less : g < h = ltb-true g h l in
             absurd (omega arith))
       ])
@@ -92,13 +96,10 @@ module _ (c : Edit) (ms : List Edit) where
         (Memᴰ·map printed (elem→mem g (versionsOf ms gs) (same-versions ms (eqb g) gs ∙ m)))),
   )
 
--- every sequence number fits two bytes
-abbrev pub Numbered : List Edit → Type 0
-Numbered es = (e : Edit) → Mem e es → e .seq .0 < seqNumbers
-
 -- ---- the lines
 
-module _ (es fs : List Edit) (r : Rearranged es fs) (u : Apart es) (small : Numbered es) (c : Edit) where
+module _ (n : ℕ) (few : n ≤ mostSites) (es fs : List Edit) (r : Rearranged es fs) (s : Settled n es)
+    (causal : Causal es) (causal′ : Causal fs) (c : Edit) where
   abbrev ms : List Edit
   ms = setsOn (c .site) (c .seq) es
 
@@ -109,8 +110,16 @@ module _ (es fs : List Edit) (r : Rearranged es fs) (u : Apart es) (small : Numb
   unfolding setsOn
   sets-rearranged = chosen-rearranged (isSetOn (c .site) (c .seq)) r
 
-  v : Apart fs
-  v = pairs-rearranged Differ differ-turned r u
+  -- they are settled in that order too
+  s′ : Settled n fs
+  s′ = settled-in-any-order n few es fs r s causal causal′
+
+  proper : (ls : List Edit) (z : Settled n ls) → Causal ls → Proper (setsOn (c .site) (c .seq) ls)
+  proper ls z k =
+      record {
+        lawful = box-lawful n few ls (ordered n ls z) k (c .site) (c .seq);
+        named = z .versions (c .site) (c .seq);
+      }
 
   -- the members as a test, in the order of es
   key : (Edit → Bool) → Printed
@@ -132,10 +141,11 @@ module _ (es fs : List Edit) (r : Rearranged es fs) (u : Apart es) (small : Numb
   any-order-lines =
       lines-are c ms
       ∙ ap (map (λ (p : Printed). p .1))
-      (same-keys es fs r u c Ahead ahead-irreflexive ahead-through key (entries c ms) (entries c ns)
-      (entries-sorted c ms (names-apart es u small c))
-      (entries-sorted c ns (names-apart fs v (λ e m. small e (same-members (turned r) e m)) c))
-      (entries-keys c ms (λ g. key (setOf isEqual ms g)) (key-is ms (sets-distinct es u c) (unchanged ms)))
+      (same-keys n few es fs r (ordered n es s) (ordered n fs s′) causal causal′ c (s .versions (c .site) (c .seq))
+      Ahead ahead-irreflexive ahead-through key (entries c ms) (entries c ns)
+      (entries-sorted c ms (proper es s causal) (names-apart es (s .apart) (s .numbered) c))
+      (entries-sorted c ns (proper fs s′ causal′) (names-apart fs (s′ .apart) (s′ .numbered) c))
+      (entries-keys c ms (λ g. key (setOf isEqual ms g)) (key-is ms (sets-distinct es (s .apart) c) (unchanged ms)))
       (entries-keys c ns (λ g. key (setOf isEqual ns g))
-      (key-is ns (sets-distinct fs v c) (turned sets-rearranged))))
+      (key-is ns (sets-distinct fs (s′ .apart) c) (turned sets-rearranged))))
       ∙ sym (lines-are c ns)

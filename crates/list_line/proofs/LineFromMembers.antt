@@ -21,7 +21,8 @@ use Rattle.math_lists.specs.Rearranged.{Rearranged}
 use Rattle.demand_any_order.specs.EqualEdits.{isEqual}
 use Rattle.demand_any_order.proofs.Identities.{equal-at, equal-self}
 use Rattle.math_lists.proofs.Rearranged.{turned, any-rearranged, chosen-rearranged, made-rearranged}
-use Rattle.list_version.specs.Identifier.{nameOf, identifierOf}
+use Rattle.edit_record.specs.Answer1.{nameOf}
+use Rattle.list_version.specs.Identifier.{identifierOf}
 use Rattle.list_version.specs.Members.{membersOf}
 use Rattle.list_version.specs.Values.{hasKey, lastAfter, lastWith}
 use Rattle.list_line.specs.Line.{identifierText, settingText, settingsText, versionLine}

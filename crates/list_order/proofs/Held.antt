@@ -21,7 +21,7 @@ use Rattle.edit_history.proofs.RecordsPassed.{passed-at, formed-at, next-at}
 use Rattle.edit_history.proofs.EditsHeld.{count-few}
 use Rattle.table_drawing.specs.Tables.{Tables, placeAt, heldBy}
 use Rattle.table_soundness.proofs.SoundFacts.{Sound}
-use Rattle.table_arrival.proofs.ObjectsByNumber.{object-create}
+use Rattle.table_soundness.proofs.ObjectsByNumber.{object-create}
 use Rattle.math_lists.specs.Rearranged.{Mem}
 use Rattle.math_lists.proofs.ListMembers.{chosen-at}
 use Rattle.edit_history.proofs.EditsByPlaces.{edit-in}

@@ -7,13 +7,13 @@ use mathlib.Core.List.{List, [], _∷_, _++_}
 use native.Mathlib.Omega.{arith}
 use borrow.Author.Tests.{eqb-true, not-true}
 use Rattle.math_lists.specs.SortedLists.{filter, insertBy}
-use Rattle.math_lists.proofs.Booleans.{decide, off}
+use Rattle.math_lists.proofs.Booleans.{decide, off, clash, or-left}
 use Rattle.math_lists.proofs.PutInOrder.{OneWay, gathered-snoc, left-out}
 use Rattle.math_lists.proofs.GrownAtEnd.{filter-snoc}
 use Rattle.edit_record.specs.declared.Edit.{Edit}
-use Rattle.edit_record.specs.Layout.{createKind, setKind, topKind, bottomKind}
+use Rattle.edit_record.specs.Layout.{createKind, topKind, bottomKind}
 use Rattle.edit_record.specs.Answer1.{isCreate, isSet, isTop, isBottom}
-use Rattle.edit_record.proofs.WellFormed.{set-not-create}
+use Rattle.edit_record.proofs.WellFormed.{set-not-create, layer-not-set}
 use Rattle.edit_causal.specs.Causal.{sameEdit}
 use Rattle.edit_causal.specs.TotalOrder.{ranksBefore}
 use Rattle.edit_causal.proofs.CausalLaws.{same-reflexive}
@@ -86,7 +86,7 @@ module _ (es : List Edit) (e : Edit) where
   pub set-keeps-order : isSet e ≡ true → layeredOrder grown ≡ layeredOrder es
   set-keeps-order h =
       no-effect (set-not-create e h)
-      (off (isTop e) (λ k. omega (arith, eqb-true (e .kind) setKind h, eqb-true (e .kind) topKind k)))
+      (off (isTop e) (λ k. clash h (layer-not-set e (or-left (isTop e) (isBottom e) k))))
 
   pub bottom-keeps-order : isBottom e ≡ true → layeredOrder grown ≡ layeredOrder es
   bottom-keeps-order h =

@@ -25,6 +25,8 @@ edit k s q v t p =
       key = 0;
       tseq = record { 0 = p };
       value = 0;
+      count = 0;
+      members = [];
     }
 
 -- each site makes a box, unseen by the others: 0.1, 1.1 and 2.1 stand in this order

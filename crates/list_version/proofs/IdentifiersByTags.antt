@@ -22,7 +22,8 @@ use Rattle.math_maximal.specs.Groups.{bit}
 use Rattle.group_step.proofs.LoopTurns.{gather-snoc}
 use Rattle.edit_record.specs.RecordBytes.{noEdit}
 use Rattle.group_true.specs.Disputed.{isDisputed}
-use Rattle.list_version.specs.Identifier.{nameOf, identifierOf}
+use Rattle.edit_record.specs.Answer1.{nameOf}
+use Rattle.list_version.specs.Identifier.{identifierOf}
 use Rattle.list_version.specs.Members.{membersOf}
 use Rattle.list_version.specs.VersionOrder.{isAhead, versionsOf}
 use Rattle.list_version.specs.VersionForms.{tagOf, tagsOf, isTagged, taggedBelow, identifierBy, isAheadBy}

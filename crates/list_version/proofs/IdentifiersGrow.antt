@@ -22,9 +22,11 @@ use Rattle.math_maximal.specs.Groups.{bit}
 use Rattle.group_true.specs.TrueGroups.{groupsOf}
 use Rattle.group_true.proofs.GroupsGrow.{members-arrived, never-in-one-later}
 use Rattle.group_true.specs.Disputed.{isDisputed, disputedOf}
+use Rattle.edit_causal.specs.ConflictForms.{Proper}
 use Rattle.group_true.proofs.DisputesGrow.{disputed-at, dispute-grows, versions-never-in-one}
 use Rattle.math_lists.specs.Rearranged.{Mem}
-use Rattle.list_version.specs.Identifier.{nameOf, identifierOf}
+use Rattle.edit_record.specs.Answer1.{nameOf}
+use Rattle.list_version.specs.Identifier.{identifierOf}
 use Rattle.list_version.specs.Members.{membersOf}
 use Rattle.list_version.proofs.MembersByTest.{filter-keep}
 
@@ -123,10 +125,10 @@ module _ (ms more : List Edit) where
             rw (← one) c
 
     pub identifiers-never-in-one :
-        ((x : ℕ) → elem x (identifierOf ms g) ≡ true → elem x (identifierOf ns k) ≡ true) →
+        Proper ms → ((x : ℕ) → elem x (identifierOf ms g) ≡ true → elem x (identifierOf ns k) ≡ true) →
         ((x : ℕ) → elem x (identifierOf ms h) ≡ true → elem x (identifierOf ns k) ≡ true) → g ≡ h
-    identifiers-never-in-one into into′ =
-        versions-never-in-one ms more g h k eg eh ek (over g into) (over h into′)
+    identifiers-never-in-one proper into into′ =
+        versions-never-in-one ms more proper g h k eg eh ek (over g into) (over h into′)
       where
         over :
             (g : ℕ) → ((x : ℕ) → elem x (identifierOf ms g) ≡ true → elem x (identifierOf ns k) ≡ true) →

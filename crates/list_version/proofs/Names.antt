@@ -1,4 +1,5 @@
 -- A name holds the site and the sequence number, and names go by site, then by sequence number. Assumes nothing.
+use Rattle.edit_record.specs.Layout.{twoBytes}
 use mathlib.Core.Path.{_≡_}
 use mathlib.Core.Bool.{_&&_, _||_}
 use Prim.Native.Nat.{ℕ, _+_, _*_, _<_}
@@ -8,10 +9,11 @@ use borrow.Author.Tests.{lt-ltb, le-ltb, eq-eqb, ne-eqb}
 use lib.Dec.{eqb, ltb}
 use lib.Arith.{digits-lt}
 use Rattle.edit_record.specs.declared.Edit.{Edit}
-use Rattle.list_version.specs.Identifier.{siteNumbers, seqNumbers, nameOf, siteIn, seqIn}
+use Rattle.edit_record.specs.Answer1.{nameOf}
+use Rattle.list_version.specs.Identifier.{siteNumbers, siteIn, seqIn}
 
 pub name-holds :
-    (e : Edit) → e .site .0 < siteNumbers → e .seq .0 < seqNumbers →
+    (e : Edit) → e .site .0 < siteNumbers → e .seq .0 < twoBytes →
     (siteIn (nameOf e) ≡ e .site .0) × (seqIn (nameOf e) ≡ e .seq .0)
 name-holds e hs hq = (omega arith, omega arith)
 
@@ -38,7 +40,7 @@ two-in-one c m n i j hi hj = go (decLt m n) (decLt n m) (decLt i j)
         rw (le-ltb m n (omega arith), eq-eqb m n same, le-ltb i j (omega arith), le-ltb a b (rw same (omega arith)))
 
 pub names-order :
-    (a b : Edit) → a .seq .0 < seqNumbers → b .seq .0 < seqNumbers →
+    (a b : Edit) → a .seq .0 < twoBytes → b .seq .0 < twoBytes →
     ltb (nameOf a) (nameOf b)
     ≡ (ltb (a .site .0) (b .site .0) || eqb (a .site .0) (b .site .0) && ltb (a .seq .0) (b .seq .0))
-names-order a b ha hb = two-in-one seqNumbers (a .site .0) (b .site .0) (a .seq .0) (b .seq .0) ha hb
+names-order a b ha hb = two-in-one twoBytes (a .site .0) (b .site .0) (a .seq .0) (b .seq .0) ha hb

@@ -1,5 +1,6 @@
 -- In sound tables the Sets of an object have different names, so that two versions of true tables never share an
 -- identifier. Assumes nothing.
+use Rattle.edit_record.specs.Layout.{twoBytes}
 use mathlib.Core.Path.{_≡_}
 use mathlib.Core.Bool.{true}
 use mathlib.Core.List.{List, [], _++_, append-nil}
@@ -15,29 +16,31 @@ use Rattle.edit_history.specs.EditsHeld.{recordAt, isSetOn, setsOn}
 use Rattle.edit_history.proofs.EditsHeld.{count-few}
 use Rattle.edit_history.proofs.RecordsPassed.{next-at, one-place}
 use Rattle.table_drawing.specs.Tables.{Tables, heldBy}
+use Rattle.edit_causal.specs.ConflictForms.{Proper}
 use Rattle.table_soundness.proofs.SoundFacts.{Sound}
+use Rattle.table_arrival.proofs.ProperWith.{proper-held}
 use Rattle.edit_record.specs.RecordBytes.{noEdit}
 use Rattle.group_true.specs.TrueGroups.{groupsOf, trueGroups}
 use Rattle.math_lists.specs.Rearranged.{Mem}
 use Rattle.demand_any_order.specs.Settled.{Differ, Apart}
 use Rattle.math_lists.proofs.ListMembers.{chosen-at, mem-place}
 use Rattle.demand_any_order.proofs.Identities.{same-on, same-at, one-edit, sets-distinct}
-use Rattle.list_version.specs.Identifier.{seqNumbers, identifierOf}
+use Rattle.list_version.specs.Identifier.{identifierOf}
 use Rattle.list_version.proofs.IdentifiersGrow.{NamesDiffer, identifiers-never-in-one}
 
-module _ (ms : List Edit) (differ : NamesDiffer ms) where
+module _ (ms : List Edit) (proper : Proper ms) (differ : NamesDiffer ms) where
   -- else both would be found in one, with no Set more
   pub never-shared :
       (g h : ℕ) → elem g (groupsOf ms) ≡ true → elem h (groupsOf ms) ≡ true →
       identifierOf ms g ≡ identifierOf ms h → g ≡ h
   never-shared g h eg eh same =
       let whole : ms ++ [] ≡ ms = append-nil ms in
-      identifiers-never-in-one ms [] (rw whole differ) g h h eg eh (rw whole eh)
+      identifiers-never-in-one ms [] (rw whole differ) g h h eg eh (rw whole eh) proper
       (λ x e. rw (whole, ← same) e) (λ x e. rw whole e)
 
 -- where no identity stands twice and every sequence number fits two bytes, the Sets of an object have different names
 pub names-apart :
-    (es : List Edit) → Apart es → ((e : Edit) → Mem e es → e .seq .0 < seqNumbers) → (c : Edit) →
+    (es : List Edit) → Apart es → ((e : Edit) → Mem e es → e .seq .0 < twoBytes) → (c : Edit) →
     NamesDiffer (setsOn (c .site) (c .seq) es)
 unfolding setsOn
 names-apart es u small c i j li lj e =
@@ -47,8 +50,8 @@ names-apart es u small c i j li lj e =
     let b = getD ms j noEdit in
     let ma : Mem a es = chosen-at f a es (mem-place noEdit ms i li) .0 in
     let mb : Mem b es = chosen-at f b es (mem-place noEdit ms j lj) .0 in
-    let low : a .seq .0 < seqNumbers = small a ma in
-    let low′ : b .seq .0 < seqNumbers = small b mb in
+    let low : a .seq .0 < twoBytes = small a ma in
+    let low′ : b .seq .0 < twoBytes = small b mb in
     sets-distinct es u c i j li lj (one-edit es u a b ma mb (same-on a b (omega arith) (omega arith)))
 
 -- ---- in sound tables
@@ -64,10 +67,10 @@ module _ (t : Tables) (s : Sound t) where
   n = t .counters .records
 
   -- a sequence number fits two bytes
-  pub held-numbered : (e : Edit) → Mem e (heldBy t) → e .seq .0 < seqNumbers
+  pub held-numbered : (e : Edit) → Mem e (heldBy t) → e .seq .0 < twoBytes
   held-numbered e m =
       let (p, l, q) = edit-in rs n e m in
-      let low : recordAt rs p .seq .0 < seqNumbers
+      let low : recordAt rs p .seq .0 < twoBytes
       = omega (
         arith,
         s .few-records,
@@ -94,4 +97,6 @@ pub versions-never-share :
     identifierOf (setsOn (c .site) (c .seq) (heldBy t)) g ≡ identifierOf (setsOn (c .site) (c .seq) (heldBy t)) h →
     g ≡ h
 unfolding trueGroups
-versions-never-share t s c g h = never-shared (setsOn (c .site) (c .seq) (heldBy t)) (held-names-differ t s c) g h
+versions-never-share t s c g h =
+    never-shared (setsOn (c .site) (c .seq) (heldBy t)) (proper-held t s (c .site) (c .seq)) (held-names-differ t s c)
+    g h

@@ -13,12 +13,12 @@ use lib.ListN.{length, getD, take, set}
 use lib.Seq.{getD-take, getD-set-same, getD-set-other}
 use Rattle.math_lists.proofs.NumbersBelow.{sum-below}
 use Rattle.edit_record.specs.declared.Edit.{Edit}
-use Rattle.edit_record.specs.Layout.{mostSites, keys}
+use Rattle.edit_record.specs.Layout.{mostSites, keys, twoBytes}
 use Rattle.edit_causal.specs.TotalOrder.{vectorSum}
 use Rattle.edit_history.specs.EditsHeld.{recordAt}
 use Rattle.math_maximal.specs.Groups.{bit}
 use Rattle.edit_record.specs.RecordBytes.{noEdit}
-use Rattle.list_version.specs.Identifier.{siteNumbers, seqNumbers}
+use Rattle.list_version.specs.Identifier.{siteNumbers}
 use Rattle.list_version.specs.Values.{hasKey, standsBefore, later}
 use Rattle.list_version.specs.VersionForms.{setsAt, values, placedOf, placings, stampOf, Small, Stamped}
 use Rattle.list_version.specs.VersionForms.{largestBelow}
@@ -29,9 +29,9 @@ use Rattle.list_version.proofs.Names.{two-in-one}
 -- ---- the order of stamps
 
 -- an entry is a sequence number
-pub sum-low : (v : List ℕ) → ((i : ℕ) → getD v i 0 < seqNumbers) → vectorSum v ≤ mostSites * (seqNumbers - 1)
+pub sum-low : (v : List ℕ) → ((i : ℕ) → getD v i 0 < twoBytes) → vectorSum v ≤ mostSites * (twoBytes - 1)
 unfolding vectorSum
-sum-low v h = sum-below mostSites (seqNumbers - 1) (λ i. getD v i 0) (λ i l. omega (arith, h i))
+sum-low v h = sum-below mostSites (twoBytes - 1) (λ i. getD v i 0) (λ i l. omega (arith, h i))
 
 -- places x and y in the total order, values v and w
 by-value :

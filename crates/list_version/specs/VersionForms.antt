@@ -9,14 +9,15 @@ use lib.ListN.{length, getD, take, drop}
 use Rattle.math_lists.specs.NumbersBelow.{keep}
 use Rattle.math_lists.specs.SortedLists.{gatherBy, ascending}
 use Rattle.edit_record.specs.declared.Edit.{Edit}
-use Rattle.edit_record.specs.Layout.{mostSites, keys}
+use Rattle.edit_record.specs.Layout.{mostSites, keys, twoBytes}
 use Rattle.edit_history.specs.EditsHeld.{recordAt}
 use Rattle.edit_causal.specs.TotalOrder.{vectorSum}
 use Rattle.math_maximal.specs.Groups.{bit}
 use Rattle.group_step.specs.GroupRows.{mostSets}
 use Rattle.edit_record.specs.RecordBytes.{noEdit}
 use Rattle.group_true.specs.Disputed.{isDisputed}
-use Rattle.list_version.specs.Identifier.{siteNumbers, seqNumbers, nameOf}
+use Rattle.edit_record.specs.Answer1.{nameOf}
+use Rattle.list_version.specs.Identifier.{siteNumbers}
 use Rattle.list_version.specs.VersionOrder.{lex}
 
 -- the edits in some places of a table of records
@@ -86,7 +87,7 @@ stampOf e = cond (ltb (e .key) keys) (e .key * placings + placedOf e) 0
 
 -- the numbers of e are those of a record
 abbrev pub Small : Edit → Type 0
-Small e = (vectorSum (e .vector) ≤ mostSites * (seqNumbers - 1)) × (e .site .0 < siteNumbers) × (e .value < values)
+Small e = (vectorSum (e .vector) ≤ mostSites * (twoBytes - 1)) × (e .site .0 < siteNumbers) × (e .value < values)
 
 -- these are the stamps of the Sets ms
 abbrev pub Stamped : List Edit → List ℕ → Type 0

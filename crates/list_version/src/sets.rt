@@ -11,7 +11,7 @@ ghost use Rattle.edit_history.specs.EditsHeld.{recordAt};
 ghost use Rattle.math_maximal.specs.Groups.{bit};
 ghost use Rattle.group_true.specs.Disputed.{isDisputed};
 ghost use Rattle.list_version.specs.VersionForms.{setsAt, tagOf, tagsOf};
-ghost use Rattle.list_version.specs.Identifier.{nameOf};
+ghost use Rattle.edit_record.specs.Answer1.{nameOf};
 
 // The edit in the i-th of the places.
 pub fn edit_in(recs: &[u8], places: &[u16], i: usize) -> Edit

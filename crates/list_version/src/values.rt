@@ -9,16 +9,26 @@ use edit_causal::vector_sum;
 use edit_record::Edit;
 use edit_record::KEYS;
 ghost use mathlib.Core.Path.{_≡_};
-ghost use Prim.Native.Nat.{_≤_};
+ghost use Prim.Native.Nat.{_+_, _*_, _-_, _≤_, _<_};
 ghost use lib.ListN.{length, take};
+ghost use Rattle.edit_record.specs.Layout.{mostSites, keys, twoBytes};
 ghost use Rattle.group_step.specs.GroupRows.{mostSets};
-ghost use Rattle.list_version.specs.VersionForms.{setsAt, stampOf, Small, Stamped, LargestOf};
+ghost use Rattle.list_version.specs.Identifier.{siteNumbers};
+ghost use Rattle.list_version.specs.VersionForms.{setsAt, stampOf, values, placings, Small, Stamped, LargestOf};
 
 // The values that four bytes have.
 pub const VALUES: u64 = 4294967296;
 
 // A number above each place in the total order with a value behind it.
 const PLACINGS: u64 = 1152921504606846976;
+
+// A key, a place in the total order, which is a vector's sum and then a site, and a value as one number.
+fn stamped(key: u8, sum: u32, site: u8, value: u32) -> u64
+    requires { ⌜ (key < keys) × (sum ≤ mostSites * (twoBytes - 1)) ⌝ }
+    ensures { λ r. ⌜ r ≡ key * placings + ((sum * siteNumbers + site) * values + value + 1) ⌝ }
+{
+    key as u64 * PLACINGS + ((sum as u64 * SITE_NUMBERS + site as u64) * VALUES + value as u64 + 1)
+}
 
 // The stamp of e; 0 for a key that is none.
 fn stamp(e: Edit) -> u64
@@ -29,8 +39,7 @@ fn stamp(e: Edit) -> u64
     if KEYS <= e.key {
         return 0;
     }
-    e.key as u64 * PLACINGS
-        + ((sum as u64 * SITE_NUMBERS + e.site.0 as u64) * VALUES + e.value as u64 + 1)
+    stamped(e.key, sum, e.site.0, e.value)
 }
 
 // Puts the stamps of the t Sets at the front of out.

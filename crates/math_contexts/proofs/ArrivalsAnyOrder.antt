@@ -1,29 +1,21 @@
--- Another order of arrival of the same Sets: as many groups, and the keys of the groups, in their order, are the same
--- list. Assumes that no Set stands twice, that `eq` tells the Sets apart, and that both orders are causal.
+-- Another order of arrival of the same Sets: the same box under another numbering. Assumes that no Set stands twice,
+-- that `eq` tells the Sets apart, and that both orders are causal.
 use mathlib.Core.Path.{_≡_}
 use mathlib.Core.Bool.{Bool, true}
 use mathlib.Core.List.{List}
 use Prim.Native.Nat.{ℕ, _<_}
 use lib.ListN.{length, getD}
-use Rattle.math_lists.specs.SortedLists.{Asc}
 use Rattle.math_maximal.specs.MaximalSets.{_⊆_}
-use Rattle.math_maximal.proofs.Renumbered.{Keys}
-use Rattle.math_maximal.proofs.AnotherOrder.{has, setOf, Distinct, place, there, here, place-of}
-use Rattle.math_maximal.proofs.AnotherOrder.{as-many-groups, same-list}
+use Rattle.math_maximal.proofs.AnotherOrder.{has, Distinct, place, there, here, place-of}
 use Rattle.math_contexts.specs.Box.{Box, Causal}
-use Rattle.math_contexts.specs.Contexts.{conflicts}
 use Rattle.math_contexts.specs.SameSets.{SameSets}
-use Rattle.math_contexts.specs.BoxByArrival.{rel, boxOf, groupsOver}
+use Rattle.math_contexts.specs.BoxByArrival.{rel, boxOf}
 use Rattle.math_contexts.proofs.SameSetsTurned.{causal-seen, causal-named}
-use Rattle.math_contexts.proofs.ContextsAnyOrder.{conflicts-any-order}
 
 module _ {E : Type 0} (d : E) (conf saw lists : E → E → Bool) (lim : E → Bool)
     (eq : E → E → Bool) (eq-on : (x y : E) → eq x y ≡ true → x ≡ y) (eq-self : (x : E) → eq x x ≡ true) where
   abbrev B : List E → Box
   B = boxOf d conf saw lists lim
-
-  abbrev W : List E → List ℕ
-  W = groupsOver d conf saw lists lim
 
   module _ (xs zs : List E) (ux : Distinct d xs) (uz : Distinct d zs)
       (sub : has eq zs ⊆ has eq xs) (sup : has eq xs ⊆ has eq zs)
@@ -62,20 +54,3 @@ module _ {E : Type 0} (d : E) (conf saw lists : E → E → Bool) (lim : E → B
       namedOrder = causal-named (B xs) (length xs) (B zs) (length zs) to (λ i l. at i l .0) (same-rel saw)
           causal causal';
     }
-
-    -- two conflict under the one numbering as under the other
-    abbrev agree : (i j : ℕ) → i < length zs → j < length zs → conflicts (B zs) i j ≡ conflicts (B xs) (to i) (to j)
-    agree i j = conflicts-any-order same-sets i j
-
-    pub as-many-versions : length (W xs) ≡ length (W zs)
-    unfolding groupsOver
-    as-many-versions =
-        as-many-groups d eq eq-on eq-self xs zs ux uz sub sup (conflicts (B xs)) (conflicts (B zs)) agree
-
-    -- the keys of the groups, in their order, are the same list, whatever is made a key of the Sets of a group
-    pub same-versions :
-        {K : Type 0} (lt : K → K → Type 0) → ((x : K) → lt x x → ⊥) → ((x y z : K) → lt x y → lt y z → lt x z) →
-        (key : (E → Bool) → K) (ks ks' : List K) → Asc lt ks → Asc lt ks' →
-        Keys (λ g. key (setOf eq xs g)) (W xs) ks → Keys (λ g. key (setOf eq zs g)) (W zs) ks' → ks ≡ ks'
-    unfolding groupsOver
-    same-versions = same-list d eq eq-on eq-self xs zs ux uz sub sup (conflicts (B xs)) (conflicts (B zs)) agree

@@ -1,20 +1,15 @@
--- Later Sets do not matter: boxes that agree on the first n Sets have the same contexts, conflicts, disputed ones and
--- answers there. Assumes nothing.
+-- Later Sets do not matter: boxes that agree on the first n Sets have the same contexts there. Assumes nothing.
 use mathlib.Core.Path.{_≡_, refl, sym, _∙_}
 use Prim.Native.Nat.{ℕ, _<_}
 use native.Mathlib.Omega.{arith}
 use lib.Seq.{ext-getD}
-use Rattle.math_maximal.specs.Groups.{every, groups}
 use Rattle.math_maximal.proofs.MaximalSets.{same-set}
 use Rattle.math_maximal.proofs.Bits.{bit-below, same-bits}
-use Rattle.math_maximal.proofs.Groups.{below-at, groups-agree}
-use Rattle.math_contexts.specs.Box.{Box, disputed}
-use Rattle.math_contexts.specs.Contexts.{contexts, context, conflicts}
-use Rattle.math_contexts.specs.Versions.{namesVersion}
+use Rattle.math_contexts.specs.Box.{Box}
+use Rattle.math_contexts.specs.Contexts.{contexts, context}
 use Rattle.math_contexts.specs.SameSets.{SameBelow, SameSets}
 use Rattle.math_contexts.proofs.ContextMembers.{contexts-long, contexts-hold, context-below}
-use Rattle.math_contexts.proofs.ContextsAnyOrder.{contexts-any-order, conflicts-any-order}
-use Rattle.math_contexts.proofs.ContextsAnyOrder.{disputed-any-order, names-any-order}
+use Rattle.math_contexts.proofs.ContextsAnyOrder.{contexts-any-order}
 
 module _ {b b' : Box} {n : ℕ} (s : SameBelow b b' n) where
   -- each Set has its own number in both
@@ -41,22 +36,8 @@ module _ {b b' : Box} {n : ℕ} (s : SameBelow b b' n) where
       (λ j p. let k = bit-below i (context b i) (context-below b i) j p in
       contexts-any-order unmoved i j l (omega arith) ∙ p))
 
-  pub conflicts-later : (i j : ℕ) → i < n → j < n → conflicts b' i j ≡ conflicts b i j
-  conflicts-later = conflicts-any-order unmoved
-
-  pub names-later : (i : ℕ) → i < n → namesVersion b' i ≡ namesVersion b i
-  names-later = names-any-order unmoved
-
-  pub disputed-later : (i : ℕ) → i < n → disputed b' n every i ≡ disputed b n every i
-  disputed-later = disputed-any-order unmoved
-
   pub contexts-later : contexts b' n ≡ contexts b n
   contexts-later =
       ext-getD 0 (contexts b' n) (contexts b n) (contexts-long b' n ∙ sym (contexts-long b n))
       (λ i l. let k : i < n = omega (arith, contexts-long b' n) in
       contexts-hold b' n i k ∙ context-later i k ∙ sym (contexts-hold b n i k))
-
-  pub groups-later : groups (conflicts b') n every ≡ groups (conflicts b) n every
-  groups-later =
-      groups-agree (conflicts b') (conflicts b) n every
-      (λ i j p q. conflicts-later i j (below-at n every i p .0) (below-at n every j q .0))

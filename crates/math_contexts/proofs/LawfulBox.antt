@@ -1,13 +1,12 @@
 -- Sets in the order of their arrival, xs: their box is lawful by what holds of any Sets with a property P that all of
--- xs have, as that of being accepted; and no limited Set stands past the end. What is assumed of `conf`, `saw`, `lim`
--- and P stands in each law.
+-- xs have, as that of being accepted. What is assumed of `conf`, `saw` and P stands in the law.
 use mathlib.Core.Path.{_≡_}
 use mathlib.Core.Bool.{Bool, true, false}
 use mathlib.Core.List.{List}
 use Prim.Native.Nat.{ℕ, _≤_, _<_}
 use native.Mathlib.Omega.{arith}
-use lib.ListN.{length, getD, List·getD-eq-default}
-use Rattle.math_contexts.specs.Box.{Lawful, Ends}
+use lib.ListN.{length, getD}
+use Rattle.math_contexts.specs.Box.{Lawful}
 use Rattle.math_contexts.specs.BoxByArrival.{rel, boxOf}
 
 module _ {E : Type 0} (d : E) (conf saw lists : E → E → Bool) (lim : E → Bool) where
@@ -25,7 +24,3 @@ module _ {E : Type 0} (d : E) (conf saw lists : E → E → Bool) (lim : E → B
         tr (getD xs i d) (getD xs j d) (getD xs k d) (has i (omega arith)) (has j (omega arith)) (has k (omega arith));
     compatible = λ i j l m. apart (getD xs i d) (getD xs j d) (has i (omega arith)) (has j (omega arith));
   }
-
-  -- what stands past the end is no limited Set
-  pub ends-there : lim d ≡ false → (xs : List E) → Ends (boxOf d conf saw lists lim xs) (length xs)
-  ends-there e xs i l = rw (List·getD-eq-default xs d l) e

@@ -20,12 +20,11 @@ use Rattle.math_maximal.proofs.Bits.{same-bits}
 use Rattle.math_maximal.proofs.Groups.{below-at, groups-at, groups-on, groups-agree}
 use Rattle.math_contexts.specs.Box.{Box, disputedBy, Lawful}
 use Rattle.math_contexts.specs.Contexts.{contextIn, contexts, context, conflicts}
-use Rattle.math_contexts.specs.Versions.{namesVersion, Valid, Version}
+use Rattle.math_contexts.specs.Versions.{namesVersion, Valid, contextBy, AllNamed, Version}
 use Rattle.math_contexts.specs.NamedVersions.{
   conflictsBy,
   hasList,
   versionsNamed,
-  contextBy,
   contextsNamed,
   namesNone,
 }
@@ -131,10 +130,6 @@ module _ (b : Box) (n i : ℕ) (law : Lawful b n) (l : i < n) (t : b .limited i 
 
 -- ---- all of them
 
--- each of the first n Sets that is limited names a version
-abbrev pub AllNamed : Box → ℕ → Type 0
-AllNamed b n = (i : ℕ) → i < n → namesNone b i ≡ false
-
 module _ (b : Box) where
   -- answer 16 in the paper's words is the test that is worked out, where the contexts are
   names-none-exactly :
@@ -153,7 +148,7 @@ module _ (b : Box) where
   named-is-context :
       (n i : ℕ) → Lawful b n → i < n → contextsNamed b i ≡ contexts b i → namesNone b i ≡ false →
       contextBy b (contextsNamed b i) i ≡ context b i
-  unfolding namesNone contextBy
+  unfolding namesNone
   named-is-context n i law l same h = go (b .limited i) refl
     where
       go : (t : Bool) → b .limited i ≡ t →

@@ -37,7 +37,7 @@ module _ (b : Box) (n : ℕ) (law : Lawful b n) (valid : Valid b n) where
       pair (inr e) (inl q) = rw e (first y q)
       pair (inr e) (inr f) = rw (e, f) (law .irreflexive i)
 
-  not-with-itself : (i : ℕ) → i < n → conflicts b i i ≡ false
+  pub not-with-itself : (i : ℕ) → i < n → conflicts b i i ≡ false
   not-with-itself i l =
       off (conflicts b i i) (λ h.
       let (x, y, r, s, e) = conflicts-at b i i h in

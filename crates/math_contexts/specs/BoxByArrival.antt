@@ -1,13 +1,11 @@
--- The box of Sets in the order of their arrival, xs, and its groups. d stands for an element past the end; `conf` says
--- that two conflict by document 01's rule, `saw x y` that the author of x had seen y, `lists x y` that y is one of the
--- members that x lists, and `lim` that a Set is of kind 3. Assumes nothing.
+-- The box of Sets in the order of their arrival, xs. d stands for an element past the end; `conf` says that two conflict
+-- by document 01's rule, `saw x y` that the author of x had seen y, `lists x y` that y is one of the members that x
+-- lists, and `lim` that a Set is of kind 3. Assumes nothing.
 use mathlib.Core.Bool.{Bool}
 use mathlib.Core.List.{List}
 use Prim.Native.Nat.{ℕ}
-use lib.ListN.{length, getD}
-use Rattle.math_maximal.specs.Groups.{every, groups}
+use lib.ListN.{getD}
 use Rattle.math_contexts.specs.Box.{Box}
-use Rattle.math_contexts.specs.Contexts.{conflicts}
 
 -- what a test says of the i-th and the j-th
 unfoldable pub rel : {E : Type 0} → E → (E → E → Bool) → List E → ℕ → ℕ → Bool
@@ -16,13 +14,4 @@ rel d test xs i j = test (getD xs i d) (getD xs j d)
 module _ {E : Type 0} (d : E) (conf saw lists : E → E → Bool) (lim : E → Bool) where
   -- what is known of them, by number
   abbrev pub boxOf : List E → Box
-  boxOf xs = record {
-    plain = rel d conf xs;
-    seen = rel d saw xs;
-    limited = λ i. lim (getD xs i d);
-    named = rel d lists xs;
-  }
-
-  -- the groups of all that have arrived, by the conflict that contexts bring
-  unfoldable pub groupsOver : List E → List ℕ
-  groupsOver xs = groups (conflicts (boxOf xs)) (length xs) every
+  boxOf l = record { plain = rel d conf l; seen = rel d saw l; limited = λ i. lim (getD l i d); named = rel d lists l }

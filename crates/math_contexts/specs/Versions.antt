@@ -1,12 +1,15 @@
 -- What it is to name a version, as a test and in words. Assumes nothing.
 use mathlib.Core.Path.{_≡_}
-use mathlib.Core.Bool.{Bool, true, not, _&&_, _||_, Bool·beq}
+use mathlib.Core.Bool.{Bool, true, false, not, _&&_, _||_, cond, Bool·beq}
+use mathlib.Core.List.{List}
+use lib.ListN.{getD}
 use Prim.Native.Nat.{ℕ, _<_}
 use Rattle.math_lists.specs.NumbersBelow.{all}
 use Rattle.math_maximal.specs.MaximalSets.{_∈_, Maximal}
 use Rattle.math_maximal.specs.Groups.{bit, below, isMaximal}
 use Rattle.math_contexts.specs.Box.{Box, disputed, disputedBy}
 use Rattle.math_contexts.specs.Contexts.{context, reach, conflicts}
+use Rattle.math_contexts.specs.NamedVersions.{versionsNamed, namesNone}
 
 -- answer 16 does not apply to i: a plain Set; or the context of i is a group of what i has seen, and its disputed
 -- members are those that i lists
@@ -19,6 +22,14 @@ namesVersion b i =
 -- each of the first n Sets that is limited names a version
 abbrev pub Valid : Box → ℕ → Type 0
 Valid b n = (i : ℕ) → i < n → namesVersion b i ≡ true
+
+-- the context of i by those before it, cs: the version that i names; empty if i is a plain Set
+abbrev pub contextBy : Box → List ℕ → ℕ → ℕ
+contextBy b cs i = cond (b .limited i) (getD (versionsNamed b cs i) 0 0) 0
+
+-- the same by the versions that are named
+abbrev pub AllNamed : Box → ℕ → Type 0
+AllNamed b n = (i : ℕ) → i < n → namesNone b i ≡ false
 
 -- ---- in words
 

@@ -1,6 +1,6 @@
 -- What is in the list of groups: the numbers whose bits are a maximal conflict-free set. The tests that compute, and
 -- what they say. Assumes nothing of the relation.
-use mathlib.Core.Path.{_≡_, refl, sym, _∙_}
+use mathlib.Core.Path.{_≡_, refl, sym, ap₂, _∙_}
 use mathlib.Core.Bool.{Bool, true, not, _&&_, Bool·beq}
 use mathlib.Core.List.{[], _∷_}
 use Prim.Native.Nat.{ℕ, _^_, _≤_, _<_}
@@ -10,7 +10,7 @@ use borrow.Author.Tests.{ltb-true, lt-ltb, not-true}
 use Rattle.math_lists.specs.NumbersBelow.{all, mask, keep}
 use Rattle.math_lists.specs.SortedLists.{elem, Ascending}
 use Rattle.math_lists.proofs.Booleans.{clash, off, same-test, both, and-on, beq-on, beq-eq}
-use Rattle.math_lists.proofs.NumbersBelow.{all-on, all-at, mask-below, keep-at, keep-on, keep-same}
+use Rattle.math_lists.proofs.NumbersBelow.{all-on, all-at, all-same, mask-below, keep-at, keep-on, keep-same}
 use Rattle.math_lists.proofs.SortedLists.{keep-ascending}
 use Rattle.math_maximal.specs.MaximalSets.{_∈_, _⊆_, Fits, Maximal}
 use Rattle.math_maximal.specs.Groups.{bit, below, every, fits, isMaximal, groups}
@@ -103,6 +103,18 @@ groups-ascending c n S = keep-ascending (2 ^ n) (λ g. isMaximal c n S (bit g))
 pub no-elements : (c : ℕ → ℕ → Bool) (S : ℕ → Bool) → groups c 0 S ≡ 0 ∷ []
 unfolding groups keep isMaximal all
 no-elements c S = refl
+
+-- the groups of the same elements with the same conflicts
+pub groups-same :
+    (c d : ℕ → ℕ → Bool) (n : ℕ) (S T : ℕ → Bool) → ((i : ℕ) → i < n → S i ≡ T i) →
+    ((i j : ℕ) → i < n → j < n → c i j ≡ d i j) → groups c n S ≡ groups d n T
+unfolding groups isMaximal fits
+groups-same c d n S T s a =
+    keep-same (2 ^ n) (λ g. isMaximal c n S (bit g)) (λ g. isMaximal d n T (bit g))
+    (λ g l. all-same n (λ i. Bool·beq (bit g i) (S i && fits c n (bit g) i))
+    (λ i. Bool·beq (bit g i) (T i && fits d n (bit g) i))
+    (λ i k. ap₂ (λ (x y : Bool). Bool·beq (bit g i) (x && y)) (s i k)
+    (all-same n (λ j. not (bit g j && c i j)) (λ j. not (bit g j && d i j)) (λ j m. rw (a i j k m)))))
 
 -- only the conflicts among the elements count
 pub groups-agree :

@@ -4,7 +4,6 @@
 use block_store::FileRead;
 use edit_history::RECORDS;
 use edit_record::PLACE;
-use edit_record::RECORD;
 use edit_record::SITES;
 use group_step::GROUPS;
 use group_step::OBJECTS;
@@ -71,7 +70,7 @@ fn tell(file: &[u8]) {
         sum: 0,
     };
     let r = block_store::read_file(none, &mut records, &mut objects, &mut groups, file);
-    let mut out = [0u8; RECORDS * RECORD + block_trailer::TRAILER];
+    let mut out = [0u8; RECORDS * PLACE + block_trailer::TRAILER];
     let c = r.counters;
     let w = block_store::write(c, &records, &objects, &groups, &mut out, 0);
     tell_read(r);

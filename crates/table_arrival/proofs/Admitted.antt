@@ -10,21 +10,24 @@ use lib.Dec.{eqb, leb}
 use borrow.Author.Tests.{eqb-true, eqb-false, leb-false, ltb-false, not-false}
 use Rattle.math_lists.specs.SortedLists.{any}
 use Rattle.math_lists.proofs.Booleans.{neither, then-off}
+use Rattle.edit_record.specs.Layout.{placeLength}
 use Rattle.edit_record.specs.RecordBytes.{decodeOf, spanOf}
 use Rattle.edit_record.specs.Answer1.{isCreate, isSet, isLayer, isAimed, malformed, unfit}
 use Rattle.edit_record.proofs.WellFormed.{WellFormed, well-formed, set-not-create, layer-aimed, set-or-layer}
 use Rattle.edit_record.proofs.WellFormed.{aimed-not-create, layer-not-set}
+use Rattle.edit_record.proofs.RecordSpans.{fit-span}
 use Rattle.edit_history.specs.EditsHeld.{mostRecords, isTarget}
 use Rattle.edit_history.specs.Answers2to5.{isRepeated, isEarly, isTorn, isAstray, passes}
+use Rattle.edit_history.specs.Answer16.{isNameless}
 use Rattle.group_step.specs.GroupRows.{mostObjects, mostSets, mostGroups}
 use Rattle.table_drawing.specs.declared.Counters.{Counters}
 use Rattle.table_drawing.specs.Tables.{Tables, heldBy}
 use Rattle.table_drawing.specs.AnswerNumbers.{Outcome, outcomeOf}
-use Rattle.table_arrival.specs.Answers6and7.{matesOf, groupsAfter, isFull, isCrowded, answerTo}
+use Rattle.table_arrival.specs.Answers6and7.{matesOf, groupsAfter, isFull, isCrowded, inTurn, answerTo}
 use Rattle.table_arrival.specs.Arrival.{counted, putRecord, withCreate, withSet, withLayer, taken}
 use Rattle.table_arrival.specs.Arrival.{acceptanceOf}
-use Rattle.table_arrival.specs.ArrivalForms.{six, sixth}
-use Rattle.table_arrival.proofs.FirstReason.{none-present}
+use Rattle.table_arrival.specs.ArrivalForms.{toSix, firstToSix}
+use Rattle.table_arrival.proofs.FirstReason.{none-present, numbers-above}
 use Rattle.table_arrival.proofs.SixByCounters.{answer-is}
 
 -- ---- the tables with an edit in, by its kind
@@ -50,20 +53,22 @@ pub record Admitted (t : Tables) (b : List ℕ) : Type 0 where
   pub timely : isEarly (heldBy t) (decodeOf b) ≡ false
   pub seamless : isTorn (heldBy t) (decodeOf b) ≡ false
   pub aimed : isAstray (heldBy t) (decodeOf b) ≡ false
+  pub named : isNameless (heldBy t) (decodeOf b) ≡ false
   pub room : t .counters .records < mostRecords
   pub create-room : isCreate (decodeOf b) ≡ true → t .counters .objects < mostObjects
   pub set-room : isSet (decodeOf b) ≡ true → length (matesOf t (decodeOf b)) < mostSets
 
-pub admitted : (t : Tables) (b : List ℕ) → sixth t b ≡ 0 → Admitted t b
-unfolding sixth malformed isFull
+pub admitted : (t : Tables) (b : List ℕ) → firstToSix t b ≡ 0 → Admitted t b
+unfolding firstToSix malformed isFull
 admitted t b h =
     let e = decodeOf b in
-    let no : (i : ℕ) → getD (six t b) i false ≡ false = none-present 0 (six t b) h in
+    let no : (i : ℕ) → getD (toSix t b) i false ≡ false
+    = none-present inTurn (toSix t b) (omega arith) numbers-above h in
     let (w, f) = neither (not (eqb (length b) (spanOf b))) (unfit (t .counters .sites) e) (no 0) in
     let records? = leb mostRecords (t .counters .records) in
     let objects? = isCreate e && leb mostObjects (t .counters .objects) in
     let sets? = isSet e && leb mostSets (length (matesOf t e)) in
-    let (rc, s) = neither (records? || objects?) sets? (no 5) in
+    let (rc, s) = neither (records? || objects?) sets? (no 6) in
     let (r, c) = neither records? objects? rc in
     record {
       whole = eqb-true (length b) (spanOf b) (not-false (eqb (length b) (spanOf b)) w);
@@ -73,12 +78,17 @@ admitted t b h =
       timely = no 2;
       seamless = no 3;
       aimed = no 4;
+      named = no 5;
       room = leb-false mostRecords (t .counters .records) r;
       create-room = λ k. leb-false mostObjects (t .counters .objects) (then-off (isCreate e) _ k c);
       set-room = λ k. leb-false mostSets (length (matesOf t e)) (then-off (isSet e) _ k s);
     }
 
 module _ (t : Tables) (b : List ℕ) (a : Admitted t b) where
+  -- its place has room for it
+  pub admitted-span : spanOf b ≤ placeLength
+  admitted-span = fit-span (t .counters .sites) b (a .fit)
+
   pub admitted-passes : passes (t .counters .sites) (heldBy t) (decodeOf b) ≡ true
   unfolding passes
   admitted-passes = rw (a .fit, a .fresh, a .timely, a .seamless, a .aimed)
@@ -111,19 +121,19 @@ pub record Accepted (t : Tables) (b : List ℕ) : Type 0 where
   pub few : isSet (decodeOf b) ≡ true → length (groupsAfter t (decodeOf b)) ≤ mostGroups
 
 pub accepted : (t : Tables) (b : List ℕ) → answerTo t b ≡ 0 → Accepted t b
-accepted t b h = go (eqb (sixth t b) 0) refl (isCrowded t (decodeOf b)) refl (sym (answer-is t b) ∙ h)
+accepted t b h = go (eqb (firstToSix t b) 0) refl (isCrowded t (decodeOf b)) refl (sym (answer-is t b) ∙ h)
   where
-    go : (x : Bool) → eqb (sixth t b) 0 ≡ x → (y : Bool) → isCrowded t (decodeOf b) ≡ y →
-        cond x (cond y 7 0) (sixth t b) ≡ 0 → Accepted t b
+    go : (x : Bool) → eqb (firstToSix t b) 0 ≡ x → (y : Bool) → isCrowded t (decodeOf b) ≡ y →
+        cond x (cond y 7 0) (firstToSix t b) ≡ 0 → Accepted t b
     go true p true q z = absurd (omega arith)
     go true p false q z =
         record {
-          admitted = admitted t b (eqb-true (sixth t b) 0 p);
+          admitted = admitted t b (eqb-true (firstToSix t b) 0 p);
           few =
               λ k. ltb-false mostGroups (length (groupsAfter t (decodeOf b)))
               (then-off (isSet (decodeOf b)) _ k (unfold isCrowded in q));
         }
-    go false p y q z = absurd (eqb-false (sixth t b) 0 p z)
+    go false p y q z = absurd (eqb-false (firstToSix t b) 0 p z)
 
 -- ---- an outcome of 0 is the edit taken
 

@@ -13,6 +13,7 @@ use Rattle.edit_record.specs.Layout.{mostSites}
 use Rattle.edit_record.specs.RecordBytes.{decodeOf}
 use Rattle.edit_history.specs.EditsHeld.{editsOf, countFrom, creates}
 use Rattle.edit_history.specs.Answers2to5.{recordsPass}
+use Rattle.edit_history.specs.Answer16.{recordsNamed}
 use Rattle.edit_sum.specs.WordSum.{sumHeld}
 use Rattle.table_drawing.specs.declared.Counters.{Counters}
 use Rattle.table_drawing.specs.Tables.{Tables, emptyDrawing, recordsLength, objectsLength, groupsLength}
@@ -35,7 +36,7 @@ pub record Kept (t : Tables) : Type 0 where
 -- ---- the empty drawing
 
 pub empty-kept : (n : ℕ) → 1 ≤ n → n ≤ mostSites → Kept (emptyDrawing n)
-unfolding emptyDrawing editsOf countFrom creates filter recordsPass all sumHeld sum
+unfolding emptyDrawing editsOf countFrom creates filter recordsPass recordsNamed all sumHeld sum
 empty-kept n some few =
     record {
       isSound =
@@ -55,6 +56,8 @@ empty-kept n some few =
             records-zero = λ i l k. zero-anywhere recordsLength i;
             objects-zero = λ i l k. zero-anywhere objectsLength i;
             groups-zero = λ i l k. zero-anywhere groupsLength i;
+            rests = λ p l. absurd (omega arith);
+            named = refl;
           };
       wide = refl;
     }

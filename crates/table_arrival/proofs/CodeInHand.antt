@@ -1,11 +1,12 @@
 -- What the code of an arrival at sound tables has in hand: the edit decoded, the survey of the records, and the first
 -- of 1 to 6. Assumes nothing.
-use mathlib.Core.Path.{_≡_, sym, ap, _∙_}
+use mathlib.Core.Path.{_≡_, sym, ap, subst, _∙_}
 use mathlib.Core.Bool.{true, false}
 use mathlib.Core.List.{List}
 use Prim.Native.Nat.{ℕ, _≤_, _<_}
 use lib.ListN.{length, getD}
 use Rattle.edit_record.specs.declared.Edit.{Edit}
+use Rattle.edit_record.specs.Layout.{placeLength}
 use Rattle.edit_record.specs.RecordBytes.{decodeOf, spanOf}
 use Rattle.edit_record.specs.Answer1.{isCreate, isSet}
 use Rattle.edit_record.proofs.WellFormed.{otherwise-layer}
@@ -13,18 +14,21 @@ use Rattle.edit_history.specs.declared.Surveyed.{Surveyed}
 use Rattle.edit_history.specs.EditsHeld.{mostRecords, editsOf, setsOn}
 use Rattle.edit_history.specs.SurveyForms.{markBits, surveyOf}
 use Rattle.group_step.specs.GroupRows.{mostObjects}
+use Rattle.group_limited.specs.declared.Judged.{Judged}
+use Rattle.group_limited.specs.LimitedForms.{JudgedOf}
 use Rattle.table_drawing.specs.Tables.{Tables, tablesOf, heldBy, recordsLength, objectsLength}
 use Rattle.table_drawing.specs.AnswerNumbers.{outcomeOf}
 use Rattle.table_soundness.specs.Sound.{sound}
 use Rattle.table_soundness.proofs.SoundFacts.{sound-at}
 use Rattle.table_index.specs.IndexForms.{Holds}
-use Rattle.table_arrival.specs.Answers6and7.{firstOf}
+use Rattle.table_arrival.specs.Answers6and7.{matesOf, firstOf, inTurn}
 use Rattle.table_arrival.specs.Arrival.{counted, putRecord, putEntry, withCreate, withLayer}
 use Rattle.table_arrival.specs.Arrival.{acceptanceOf}
-use Rattle.table_arrival.specs.ArrivalForms.{sixBy, sixth, Ready}
-use Rattle.table_arrival.proofs.SixByCounters.{six-are}
-use Rattle.table_arrival.proofs.Admitted.{admitted}
-use Rattle.table_arrival.proofs.ObjectsByNumber.{sets-few}
+use Rattle.table_arrival.specs.ArrivalForms.{Judges, toSixBy, firstToSix, Ready}
+use Rattle.table_arrival.proofs.SixByCounters.{to-six-are}
+use Rattle.table_arrival.proofs.ProperWith.{judges}
+use Rattle.table_arrival.proofs.Admitted.{admitted, admitted-span}
+use Rattle.table_soundness.proofs.ObjectsByNumber.{sets-few}
 use Rattle.table_arrival.proofs.CodeOutcomes.{create-is, layer-is, count-room}
 
 module _ (t : Tables) (h : sound t ≡ true) where
@@ -51,11 +55,15 @@ module _ (t : Tables) (h : sound t ≡ true) where
 
   module _ (b : List ℕ) (e : Edit) (de : e ≡ decodeOf b) where
     -- the code's 1 to 6 are the definition's
-    pub sixth-is :
-        (v : Surveyed) → v ≡ surveyOf (heldBy t) e → firstOf 1 (sixBy (t .counters) b e v) ≡ sixth t b
-    sixth-is v dv = rw (dv, de) (six-are t (sound-at t h) b)
+    pub first-is :
+        (v : Surveyed) → v ≡ surveyOf (heldBy t) e → (j : Judged) → JudgedOf (matesOf t e) e j →
+        firstOf inTurn (toSixBy (t .counters) b e v j) ≡ firstToSix t b
+    first-is v dv j dj =
+        rw (dv, de)
+        (to-six-are t (sound-at t h) b j
+        (subst (λ (x : Edit). Judges (t .counters .sites) (heldBy t) x j) de (judges t (sound-at t h) e j dj)))
 
-    module _ (z : sixth t b ≡ 0) where
+    module _ (z : firstToSix t b ≡ 0) where
       -- ---- a Create
 
       pub create-given :
@@ -65,6 +73,7 @@ module _ (t : Tables) (h : sound t ≡ true) where
           × (length (t .records) ≡ recordsLength)
           × (length (t .objects) ≡ objectsLength)
           × (length b ≡ spanOf b)
+          × (spanOf b ≤ placeLength)
           × (getD (t .counters .held) (e .site .0) 0 < mostRecords)
       create-given k =
           let s = sound-at t h in
@@ -74,6 +83,7 @@ module _ (t : Tables) (h : sound t ≡ true) where
             s .records-long,
             s .objects-long,
             a .whole,
+            admitted-span t b a,
             rw de (count-room t b s a),
           )
 
@@ -89,8 +99,18 @@ module _ (t : Tables) (h : sound t ≡ true) where
 
       -- ---- a Set
 
-      pub set-ready : (v : Surveyed) → v ≡ surveyOf (heldBy t) e → isSet e ≡ true → Ready t b e v
-      set-ready v dv k = record { isSound = h; edit = de; surveyed = dv; passes = z; set = k }
+      pub set-ready :
+          (v : Surveyed) → v ≡ surveyOf (heldBy t) e → (j : Judged) → JudgedOf (matesOf t e) e j → isSet e ≡ true →
+          Ready t b e v j
+      set-ready v dv j dj k =
+          record {
+            isSound = h;
+            edit = de;
+            surveyed = dv;
+            judged = judges t (sound-at t h) e j dj;
+            passes = z;
+            set = k;
+          }
 
       -- ---- a layer edit
 
@@ -99,11 +119,12 @@ module _ (t : Tables) (h : sound t ≡ true) where
           × (t .counters .objects ≤ mostObjects)
           × (length (t .records) ≡ recordsLength)
           × (length b ≡ spanOf b)
+          × (spanOf b ≤ placeLength)
           × (getD (t .counters .held) (e .site .0) 0 < mostRecords)
       layer-given =
           let s = sound-at t h in
           let a = admitted t b z in
-          (a .room, s .few-objects, s .records-long, a .whole, rw de (count-room t b s a))
+          (a .room, s .few-objects, s .records-long, a .whole, admitted-span t b a, rw de (count-room t b s a))
 
       pub layer-taken :
           isCreate e ≡ false → isSet e ≡ false →

@@ -21,7 +21,7 @@ use Rattle.table_soundness.proofs.SoundFacts.{Sound}
 use Rattle.table_arrival.specs.Answers6and7.{matesOf, groupsAfter, isCrowded, answerTo}
 use Rattle.table_arrival.specs.Arrival.{counted, putRecord, putCounts, withCreate, withSet, withLayer}
 use Rattle.table_arrival.specs.Arrival.{taken, acceptanceOf}
-use Rattle.table_arrival.specs.ArrivalForms.{sixth}
+use Rattle.table_arrival.specs.ArrivalForms.{firstToSix}
 use Rattle.table_arrival.proofs.SixByCounters.{answer-is}
 use Rattle.table_arrival.proofs.Admitted.{Admitted, create-is-taken, set-is-taken, layer-is-taken}
 use Rattle.table_arrival.proofs.RefusedForReason.{never-crowded}
@@ -33,16 +33,16 @@ module _ (t : Tables) (b : List ℕ) where
 
   -- ---- refused with one of 1 to 6
 
-  pub refused-is : (sixth t b ≡ 0 → ⊥) → outcomeOf (sixth t b) t ≡ acceptanceOf t b
+  pub refused-is : (firstToSix t b ≡ 0 → ⊥) → outcomeOf (firstToSix t b) t ≡ acceptanceOf t b
   unfolding acceptanceOf
   refused-is d =
-      let no : eqb (sixth t b) 0 ≡ false = ne-eqb (sixth t b) 0 d in
-      let a : answerTo t b ≡ sixth t b = answer-is t b ∙ rw no in
+      let no : eqb (firstToSix t b) 0 ≡ false = ne-eqb (firstToSix t b) 0 d in
+      let a : answerTo t b ≡ firstToSix t b = answer-is t b ∙ rw no in
       rw (a, no)
 
-  module _ (z : sixth t b ≡ 0) where
+  module _ (z : firstToSix t b ≡ 0) where
     answer-seven : answerTo t b ≡ cond (isCrowded t e) 7 0
-    answer-seven = answer-is t b ∙ rw (eq-eqb (sixth t b) 0 z)
+    answer-seven = answer-is t b ∙ rw (eq-eqb (firstToSix t b) 0 z)
 
     -- what is left of an edit that 7 is not given to
     taken-is : {u : Tables} → u ≡ taken t b → isCrowded t e ≡ false → outcomeOf 0 u ≡ acceptanceOf t b

@@ -29,7 +29,7 @@ use Rattle.table_arrival.specs.Arrival.{putEntry, putRecord, withCreate}
 use Rattle.table_arrival.proofs.Admitted.{Admitted}
 use Rattle.table_arrival.proofs.RecordsOneMore.{put-here, put-edits-before}
 use Rattle.edit_causal.proofs.Identities.{same-parts}
-use Rattle.table_arrival.proofs.ObjectsByNumber.{chosen-none}
+use Rattle.table_soundness.proofs.ObjectsByNumber.{chosen-none}
 use Rattle.table_arrival.proofs.EntriesAfterStore.{object-of, entry-long, entry-past, entry-here, entry-other}
 use Rattle.table_arrival.proofs.UntouchedSound.{sets-snoc, room, held-after, entry-kept, sound-after}
 use Rattle.edit_record.proofs.WellFormed.{create-not-set, set-aimed}
@@ -98,7 +98,7 @@ module _ (t : Tables) (b : List ℕ) (s : Sound t) (wide : length (t .counters .
 
     new-entry : Entry rs′ (n + 1) m n 0
     new-entry =
-        let here : recordAt rs′ n ≡ e = put-here rs n b (a .whole) (room t b s wide a) in
+        let here : recordAt rs′ n ≡ e = put-here rs n b (room t b s wide a) in
         let none : length (setsOn (e .site) (e .seq) (heldBy t ++ (e ∷ []))) ≡ 0
         = sets-snoc (e .site) (e .seq) (heldBy t) e ∙ rw (no-set-held, create-not-set e k) in
         record {
@@ -106,7 +106,7 @@ module _ (t : Tables) (b : List ℕ) (s : Sound t) (wide : length (t .counters .
           create = ap isCreate here ∙ k;
           number =
               ap (λ (es : List Edit). length (creates es))
-              (put-edits-before rs n b (a .whole) (room t b s wide a) n (omega arith))
+              (put-edits-before rs n b (room t b s wide a) n (omega arith))
               ∙ sym (s .objects);
           sets =
               sym (ap (λ (r : Edit). length (setsOn (r .site) (r .seq) (editsOf rs′ (n + 1)))) here

@@ -21,7 +21,6 @@ use Rattle.math_maximal.specs.Groups.{groups}
 use Rattle.math_maximal.specs.Step.{step}
 use Rattle.edit_causal.specs.Conflict.{conflictsWith}
 use Rattle.edit_causal.specs.ConflictForms.{NoneItself}
-use Rattle.edit_causal.proofs.ConflictsAmongSets.{none-itself}
 use Rattle.edit_history.specs.EditsHeld.{recordAt, editsOf, isSetOn, isTarget, objectOf}
 use Rattle.group_step.specs.GroupRows.{mostGroups, row, putRow}
 use Rattle.table_drawing.specs.Tables.{Tables, heldBy, placeAt, groupsAt, emptyDrawing, entryLength}
@@ -31,12 +30,13 @@ use Rattle.table_arrival.specs.Answers6and7.{matesOf, rowOf, groupsAfter
 use Rattle.table_arrival.specs.Arrival.{putRecord, putEntry, putCounts, withCreate, withSet, withLayer}
 use Rattle.table_arrival.specs.Arrival.{taken, acceptanceOf}
 use Rattle.group_true.specs.TrueGroups.{trueGroups}
-use Rattle.table_arrival.proofs.Admitted.{Accepted, accepted, admitted-target, taken-by-kind}
+use Rattle.table_arrival.proofs.Admitted.{Accepted, accepted, admitted-target, admitted-passes, taken-by-kind}
 use Rattle.table_arrival.proofs.RecordsOneMore.{put-before, put-here}
 use Rattle.table_arrival.proofs.EntriesAfterStore.{counts-place, counts-groups, other-place, other-groups}
 use Rattle.table_arrival.proofs.EntriesAfterStore.{entry-here, entry-other}
 use Rattle.group_true.proofs.TrueGroups.{groups-same, groups-more, groups-first}
 use Rattle.table_arrival.proofs.RowsAfterStore.{row-back, row-other}
+use Rattle.table_arrival.proofs.ProperWith.{none-itself-with}
 use Rattle.table_arrival.proofs.UntouchedSound.{room, held-after}
 use Rattle.edit_record.proofs.WellFormed.{create-not-set, set-aimed, layer-not-set}
 use Rattle.table_arrival.proofs.CreateKeepsSound.{no-set-held}
@@ -95,7 +95,7 @@ module _ (t : Tables) (b : List ℕ) (f : Faithful t) (a : Accepted t b) where
       trueGroups (editsOf rs′ (n + 1)) (recordAt rs′ p) ≡ trueGroups (heldBy t ++ (e ∷ [])) (recordAt rs p)
   groups-in p l =
       ap₂ trueGroups (held-after t b s wide (a .admitted))
-      (put-before rs n b (a .admitted .whole) (room t b s wide (a .admitted)) p l)
+      (put-before rs n b (room t b s wide (a .admitted)) p l)
 
   -- the row of an object that the edit is no Set of
   row-stays :
@@ -142,7 +142,7 @@ module _ (t : Tables) (b : List ℕ) (f : Faithful t) (a : Accepted t b) where
         ∙ sym (groups-same (heldBy t) e e (rw (create-not-set e k))
         ∙ groups-first (heldBy t) e (no-set-held t b s wide (a .admitted)))
         ∙ sym (ap₂ trueGroups (held-after t b s wide (a .admitted))
-        (put-here rs n b (a .admitted .whole) (room t b s wide (a .admitted))))
+        (put-here rs n b (room t b s wide (a .admitted))))
         ∙ ap (λ (q : ℕ). trueGroups (editsOf rs′ (n + 1)) (recordAt rs′ q)) (sym ep)
 
     create-keeps-true : RowsTrue (withCreate t b)
@@ -178,7 +178,8 @@ module _ (t : Tables) (b : List ℕ) (f : Faithful t) (a : Accepted t b) where
         = omega (arith, s .objects-long, s .few-objects, object-less t s e aim) in
         ap (λ (g : ℕ). take g (row x gs′)) (counts-groups (t .objects) x sets (length after) fits)
         ∙ row-back (t .groups) x after (a .few k) (row-fits t s e aim)
-        ∙ after-true t f e k aim (none-itself (matesOf t e ++ (e ∷ [])))
+        ∙ after-true t f e k aim
+        (none-itself-with t s e (admitted-passes t b (a .admitted)) (a .admitted .named) k)
         ∙ sym (groups-in (placeAt (t .objects) x) (s .object x (object-less t s e aim) .entry .place))
         ∙ ap (λ (q : ℕ). trueGroups (editsOf rs′ (n + 1)) (recordAt rs′ q))
         (sym (counts-place (t .objects) x sets (length after) fits))

@@ -2,7 +2,6 @@ pub mod RecordsOneMore
 pub mod FirstReason
 pub mod SixByCounters
 pub mod Admitted
-pub mod ObjectsByNumber
 pub mod UntouchedSound
 pub mod EntriesAfterStore
 pub mod CreateKeepsSound
@@ -11,6 +10,8 @@ pub mod ObjectOfSet
 pub mod SetKeepsSound
 pub mod LayerKeepsSound
 pub mod ArrivalKeepsSound
+pub mod ProperWith
+pub mod JudgedPlainly
 pub mod Faithful
 pub mod RefusedForReason
 pub mod VersionValues

@@ -20,7 +20,7 @@ use Rattle.table_drawing.specs.Tables.{Tables, heldBy, placeAt, setsAt, groupsA
 use Rattle.table_soundness.proofs.SoundFacts.{Sound}
 use Rattle.table_soundness.proofs.EachObject.{Row}
 use Rattle.table_arrival.specs.Answers6and7.{matesOf, rowOf, groupsAfter}
-use Rattle.table_arrival.proofs.ObjectsByNumber.{target-object}
+use Rattle.table_soundness.proofs.ObjectsByNumber.{target-object}
 use Rattle.edit_causal.proofs.Identities.{same-site, same-seq}
 use Rattle.table_arrival.proofs.RowsAfterStore.{used-ascending, used-below, used-some}
 

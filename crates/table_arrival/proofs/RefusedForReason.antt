@@ -5,8 +5,8 @@ use mathlib.Core.Path.{_≡_, ap}
 use mathlib.Core.Logic.{_⊎_}
 use mathlib.Core.Bool.{true, false, or-false}
 use mathlib.Core.List.{List, [], _∷_, _++_}
-use Prim.Native.Nat.{ℕ, _+_}
-use lib.ListN.{length}
+use Prim.Native.Nat.{ℕ, _<_}
+use lib.ListN.{length, getD}
 use lib.Dec.{leb, ltb}
 use Rattle.math_lists.specs.SortedLists.{any}
 use Rattle.edit_record.specs.declared.Edit.{Edit}
@@ -16,21 +16,23 @@ use Rattle.edit_causal.specs.ConflictForms.{NoneItself}
 use Rattle.edit_history.specs.EditsHeld.{mostRecords, recordAt, isTarget, objectOf}
 use Rattle.group_step.specs.GroupRows.{mostGroups}
 use Rattle.table_drawing.specs.Tables.{Tables, heldBy, placeAt}
-use Rattle.table_arrival.specs.Answers6and7.{matesOf, isFull, isCrowded, reasons, answerTo}
+use Rattle.table_arrival.specs.Answers6and7.{matesOf, isFull, isCrowded, inTurn, reasons, answerTo}
 use Rattle.group_true.specs.TrueGroups.{trueGroups}
 use Rattle.table_arrival.proofs.FirstReason.{First, first-present, answer-present}
 use Rattle.table_arrival.proofs.Faithful.{Faithful, after-true}
 
 -- the answer is 0, or the number of a reason that is present while none before it is
 pub refused-for-a-reason :
-    (t : Tables) (b : List ℕ) → (answerTo t b ≡ 0) ⊎ ((i : ℕ) × (answerTo t b ≡ 1 + i) × First (reasons t b) i)
+    (t : Tables) (b : List ℕ) → (answerTo t b ≡ 0)
+    ⊎ ((i : ℕ) × (i < length inTurn) × (answerTo t b ≡ getD inTurn i 0) × First (reasons t b) i)
 unfolding answerTo
-refused-for-a-reason t b = answer-present 1 (reasons t b)
+refused-for-a-reason t b = answer-present inTurn (reasons t b)
 
 -- and where a reason is present, the first that is gives the answer
-pub reason-refuses : (t : Tables) (b : List ℕ) (i : ℕ) → First (reasons t b) i → answerTo t b ≡ 1 + i
+pub reason-refuses :
+    (t : Tables) (b : List ℕ) (i : ℕ) → i < length inTurn → First (reasons t b) i → answerTo t b ≡ getD inTurn i 0
 unfolding answerTo
-reason-refuses t b i f = first-present 1 (reasons t b) i f
+reason-refuses t b i l f = first-present inTurn (reasons t b) i l f
 
 -- in a faithful drawing 7's reason is that the object's Sets with the new one, if none of them conflicts with itself,
 -- have more than 32 maximal sets

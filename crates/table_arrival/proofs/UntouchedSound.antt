@@ -2,7 +2,7 @@
 -- that it does not touch. Assumes nothing.
 use mathlib.Core.Path.{_≡_, refl, sym, ap, ap₂, _∙_}
 use mathlib.Core.Logic.{inl, inr}
-use mathlib.Core.Bool.{Bool, true, false, cond}
+use mathlib.Core.Bool.{Bool, true, false, cond, not}
 use mathlib.Core.List.{List, [], _∷_, _++_}
 use Prim.Native.Nat.{ℕ, suc, _+_, _-_, _*_, _≤_, _<_}
 use native.Mathlib.Omega.{arith}
@@ -22,19 +22,22 @@ use Rattle.edit_record.specs.Layout.{mostSites, placeLength}
 use Rattle.edit_record.specs.RecordBytes.{decodeOf}
 use Rattle.edit_record.specs.Answer1.{isCreate}
 use Rattle.edit_history.specs.EditsHeld.{recordAt, editsOf, countFrom, creates, isSetOn, setsOn}
+use Rattle.edit_record.proofs.WellFormed.{few-members}
 use Rattle.edit_history.specs.Answers2to5.{passes, recordsPass}
+use Rattle.edit_history.specs.Answer16.{isNameless, recordsNamed}
 use Rattle.edit_sum.specs.WordSum.{recordWords, wrapped, sumOf, sumHeld}
 use Rattle.edit_sum.specs.SumOfEdits.{sumOver}
-use Rattle.edit_sum.proofs.SumOfRecords.{joined-sum, held-sum, record-sum}
+use Rattle.edit_sum.proofs.SumOfRecords.{joined-sum, held-sum, record-sum, passing-fit}
 use Rattle.group_step.specs.GroupRows.{mostObjects, mostSets, mostGroups}
 use Rattle.table_drawing.specs.Tables.{Tables, tablesOf, heldBy, entryLength, recordsLength, objectsLength}
 use Rattle.table_drawing.specs.Tables.{groupsLength}
+use Rattle.table_soundness.specs.Sound.{restZero}
 use Rattle.table_soundness.proofs.SoundFacts.{Sound, ZeroFrom}
 use Rattle.table_soundness.proofs.EachObject.{Entry, Object}
 use Rattle.table_arrival.specs.Arrival.{counted, putRecord}
-use Rattle.table_arrival.proofs.Admitted.{Admitted, admitted-passes}
-use Rattle.table_arrival.proofs.RecordsOneMore.{put-long, put-after, put-before, put-here, put-edits-before}
-use Rattle.table_arrival.proofs.RecordsOneMore.{put-edits}
+use Rattle.table_arrival.proofs.Admitted.{Admitted, admitted-passes, admitted-span}
+use Rattle.table_arrival.proofs.RecordsOneMore.{Room, put-long, put-after, put-before, put-here}
+use Rattle.table_arrival.proofs.RecordsOneMore.{put-edits-before, put-edits, put-rest-before, put-rest-here}
 
 -- ---- counts over one edit more
 
@@ -71,14 +74,19 @@ module _ (t : Tables) (b : List ℕ) (s : Sound t) (wide : length (t .counters .
   abbrev rs′ : List ℕ
   rs′ = putRecord rs n b
 
-  pub room : n * placeLength + placeLength ≤ length rs
-  room = omega (arith, s .records-long, a .room)
+  pub room : Room rs n b
+  room =
+      record {
+        whole = a .whole;
+        short = admitted-span t b a;
+        there = omega (arith, s .records-long, a .room);
+      }
 
   pub held-after : editsOf rs′ (n + 1) ≡ heldBy t ++ (e ∷ [])
-  held-after = ap (editsOf rs′) (add-one n) ∙ put-edits rs n b (a .whole) room
+  held-after = ap (editsOf rs′) (add-one n) ∙ put-edits rs n b room
 
   records-long-after : length rs′ ≡ recordsLength
-  records-long-after = put-long rs n b (a .whole) room ∙ s .records-long
+  records-long-after = put-long rs n b room ∙ s .records-long
 
   -- the counts of the sites
   counts-after :
@@ -101,12 +109,6 @@ module _ (t : Tables) (b : List ℕ) (s : Sound t) (wide : length (t .counters .
             (s .held x l ∙ omega arith))
       ]
 
-  -- the sum is that of the records
-  sum-after : wrapped (t .counters .sum + sumOf (recordWords b) b) ≡ sumHeld (n + 1) rs′
-  sum-after =
-      ap₂ (λ (x y : ℕ). wrapped (x + y)) (s .sum ∙ held-sum rs n) (record-sum b)
-      ∙ sym (held-sum rs′ (n + 1) ∙ ap sumOver held-after ∙ joined-sum (heldBy t) (e ∷ []))
-
   -- the records pass 1 to 5 in their order
   pass-after : recordsPass (t .counters .sites) rs′ (n + 1) ≡ true
   unfolding recordsPass
@@ -116,30 +118,66 @@ module _ (t : Tables) (b : List ℕ) (s : Sound t) (wide : length (t .counters .
       rw (add-one n)
       (all-on (suc n) f′ (λ p l. elim (last l) [
         | inl m ↦
-            rw (put-edits-before rs n b (a .whole) room p (omega arith), put-before rs n b (a .whole) room p m)
+            rw (put-edits-before rs n b room p (omega arith), put-before rs n b room p m)
             (all-at n f (s .pass) p m)
         | inr q ↦
-            rw (q, put-edits-before rs n b (a .whole) room n (omega arith), put-here rs n b (a .whole) room)
+            rw (q, put-edits-before rs n b room n (omega arith), put-here rs n b room)
             (admitted-passes t b a)
       ]))
+
+  -- and 16 is given to none of them
+  named-after : recordsNamed rs′ (n + 1) ≡ true
+  unfolding recordsNamed
+  named-after =
+      let f : ℕ → Bool = λ p. not (isNameless (editsOf rs p) (recordAt rs p)) in
+      let f′ : ℕ → Bool = λ p. not (isNameless (editsOf rs′ p) (recordAt rs′ p)) in
+      rw (add-one n)
+      (all-on (suc n) f′ (λ p l. elim (last l) [
+        | inl m ↦
+            ap₂ (λ (es : List Edit) (x : Edit). not (isNameless es x)) (put-edits-before rs n b room p (omega arith))
+            (put-before rs n b room p m)
+            ∙ all-at n f (s .named) p m
+        | inr q ↦
+            rw q
+            (ap₂ (λ (es : List Edit) (x : Edit). not (isNameless es x)) (put-edits-before rs n b room n (omega arith))
+            (put-here rs n b room)
+            ∙ ap not (a .named))
+      ]))
+
+  -- each place is zero past its record
+  rests-after : (p : ℕ) → p < n + 1 → restZero rs′ p ≡ true
+  rests-after p l =
+      let l′ : p < suc n = omega arith in
+      elim (last l′) [
+        | inl m ↦ put-rest-before rs n b room p m ∙ s .rests p m
+        | inr q ↦ rw q (put-rest-here rs n b room (s .records-zero))
+      ]
+
+  -- the sum is that of the records
+  sum-after : wrapped (t .counters .sum + sumOf (recordWords b) b) ≡ sumHeld (n + 1) rs′
+  sum-after =
+      ap₂ (λ (x y : ℕ). wrapped (x + y)) (s .sum ∙ held-sum rs n (passing-fit (t .counters .sites) rs n (s .pass)))
+      (record-sum b (few-members (t .counters .sites) b (a .fit)))
+      ∙ sym (held-sum rs′ (n + 1) (passing-fit (t .counters .sites) rs′ (n + 1) pass-after) ∙ ap sumOver held-after
+      ∙ joined-sum (heldBy t) (e ∷ []))
 
   -- past the last record there are zeros
   records-zero-after : ZeroFrom rs′ ((n + 1) * placeLength)
   records-zero-after i l k =
-      put-after rs n b (a .whole) room i (omega arith)
-      ∙ s .records-zero i (omega arith) (omega (arith, put-long rs n b (a .whole) room))
+      put-after rs n b room i (omega arith)
+      ∙ s .records-zero i (omega arith) (omega (arith, put-long rs n b room))
 
   -- the place p < n, looked at after the edit
   module _ (p : ℕ) (l : p < n) where
     same : recordAt rs′ p ≡ recordAt rs p
-    same = put-before rs n b (a .whole) room p l
+    same = put-before rs n b room p l
 
     create-after : isCreate (recordAt rs′ p) ≡ isCreate (recordAt rs p)
     create-after = ap isCreate same
 
     number-after : length (creates (editsOf rs′ p)) ≡ length (creates (editsOf rs p))
     number-after =
-        ap (λ (es : List Edit). length (creates es)) (put-edits-before rs n b (a .whole) room p (omega arith))
+        ap (λ (es : List Edit). length (creates es)) (put-edits-before rs n b room p (omega arith))
 
     -- the Sets on the Create in it are those before and the edit, if it is one
     sets-after :
@@ -203,4 +241,6 @@ module _ (t : Tables) (b : List ℕ) (s : Sound t) (wide : length (t .counters .
         records-zero = records-zero-after;
         objects-zero = os-zero;
         groups-zero = gs-zero;
+        rests = rests-after;
+        named = named-after;
       }

@@ -1,6 +1,6 @@
 -- Answers 6 and 7, as their rows of document 01's 'Numbers given back' say them, and the answer to an arriving edit at
--- sound tables: 1 to 7 in turn, the first that applies. Assumes nothing.
-use Prim.Native.Nat.{ℕ, suc}
+-- sound tables: 1 to 7 in turn, with 16 after 5, the first that applies. Assumes nothing.
+use Prim.Native.Nat.{ℕ}
 use mathlib.Core.List.{List, [], _∷_}
 use mathlib.Core.Bool.{Bool, _&&_, _||_, cond}
 use lib.ListN.{length, take}
@@ -11,6 +11,7 @@ use Rattle.edit_record.specs.Answer1.{isCreate, isSet, malformed}
 use Rattle.edit_causal.specs.Conflict.{conflictsWith}
 use Rattle.edit_history.specs.EditsHeld.{setsOn, objectOf, mostRecords}
 use Rattle.edit_history.specs.Answers2to5.{isRepeated, isEarly, isTorn, isAstray}
+use Rattle.edit_history.specs.Answer16.{isNameless}
 use Rattle.math_maximal.specs.Step.{step}
 use Rattle.group_step.specs.GroupRows.{mostObjects, mostSets, mostGroups, row}
 use Rattle.table_drawing.specs.Tables.{Tables, groupsAt, heldBy}
@@ -39,12 +40,16 @@ isFull t e =
 unfoldable pub isCrowded : Tables → Edit → Bool
 isCrowded t e = isSet e && ltb mostGroups (length (groupsAfter t e))
 
--- the number, counted from n, of the first reason that is present, or 0
-unfoldable pub firstOf : ℕ → List Bool → ℕ
-firstOf n [] = 0
-firstOf n (b ∷ bs) = cond b n (firstOf (suc n) bs)
+-- the number of the first reason that is present, or 0
+unfoldable pub firstOf : List ℕ → List Bool → ℕ
+firstOf [] bs = 0
+firstOf (n ∷ ns) [] = 0
+firstOf (n ∷ ns) (b ∷ bs) = cond b n (firstOf ns bs)
 
--- 1 to 7 in turn
+-- the numbers in the order in which their reasons are looked at
+abbrev pub inTurn : List ℕ
+inTurn = 1 ∷ 2 ∷ 3 ∷ 4 ∷ 5 ∷ 16 ∷ 6 ∷ 7 ∷ []
+
 abbrev pub reasons : Tables → List ℕ → List Bool
 reasons t b =
     let e = decodeOf b in
@@ -54,9 +59,10 @@ reasons t b =
     ∷ isEarly es e
     ∷ isTorn es e
     ∷ isAstray es e
+    ∷ isNameless es e
     ∷ isFull t e
     ∷ isCrowded t e
     ∷ []
 
 unfoldable pub answerTo : Tables → List ℕ → ℕ
-answerTo t b = firstOf 1 (reasons t b)
+answerTo t b = firstOf inTurn (reasons t b)

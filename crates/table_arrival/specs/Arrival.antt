@@ -1,5 +1,5 @@
--- What an arriving edit does: 8, then 1 to 7 in turn, the first that applies; else the tables with the Create, the Set
--- or the layer edit in. Assumes nothing.
+-- What an arriving edit does: 8, then 1 to 7 in turn, with 16 after 5, the first that applies; else the tables with the
+-- Create, the Set or the layer edit in. Assumes nothing.
 use Prim.Native.Nat.{ℕ, _+_, _-_, _*_}
 use mathlib.Core.List.{List, _++_}
 use mathlib.Core.Bool.{cond}

@@ -3,10 +3,12 @@ use edit_history::RECORDS;
 use edit_history::Surveyed;
 use edit_record::CREATE;
 use edit_record::Edit;
+use edit_record::LIMITED;
 use edit_record::PLACE;
-use edit_record::SET;
 use edit_record::Site;
+use group_limited::Judged;
 use group_step::OBJECTS;
+use group_step::SETS;
 use table_drawing::Answer;
 use table_drawing::Counters;
 use table_drawing::ENTRY;
@@ -15,17 +17,18 @@ ghost use mathlib.Core.Bool.{true};
 ghost use mathlib.Core.List.{[], _∷_};
 ghost use Prim.Native.Nat.{_+_, _≤_, _<_};
 ghost use lib.ListN.{length, getD};
-ghost use Rattle.edit_record.specs.Layout.{twoBytes};
+ghost use Rattle.edit_record.specs.Layout.{twoBytes, placeLength};
 ghost use Rattle.edit_record.specs.RecordBytes.{decodeOf, spanOf};
-ghost use Rattle.edit_history.specs.EditsHeld.{mostRecords, editsOf};
+ghost use Rattle.edit_history.specs.EditsHeld.{mostRecords, editsOf, setsOn};
 ghost use Rattle.edit_history.specs.SurveyForms.{surveyOf};
-ghost use Rattle.group_step.specs.GroupRows.{mostObjects};
+ghost use Rattle.group_step.specs.GroupRows.{mostObjects, mostSets};
+ghost use Rattle.group_limited.specs.LimitedForms.{JudgedOf};
 ghost use Rattle.table_drawing.specs.Tables.{tablesOf, recordsLength, objectsLength};
 ghost use Rattle.table_drawing.specs.AnswerNumbers.{outcomeOf, numberOf};
 ghost use Rattle.table_soundness.specs.Sound.{sound};
-ghost use Rattle.table_arrival.specs.Answers6and7.{firstOf};
+ghost use Rattle.table_arrival.specs.Answers6and7.{firstOf, inTurn};
 ghost use Rattle.table_arrival.specs.Arrival.{counted, putRecord, putCounts, putEntry, acceptanceOf, arrivalOf};
-ghost use Rattle.table_arrival.specs.ArrivalForms.{fullWith, sixBy, Ready};
+ghost use Rattle.table_arrival.specs.ArrivalForms.{fullWith, toSixBy, Ready};
 
 // An answer to an arriving edit, and the counters after it.
 #[repr(C)]
@@ -48,7 +51,10 @@ fn copy_record(d: &mut [u8], src: &[u8])
 
 // The record rec at the front of place p.
 fn put_record(recs: &mut [u8], p: usize, rec: &[u8])
-    requires { ⌜ (p < mostRecords) × (length (now recs) ≡ recordsLength) × (length (now rec) ≡ spanOf (now rec)) ⌝ }
+    requires { ⌜ (p < mostRecords)
+        × (length (now recs) ≡ recordsLength)
+        × (length (now rec) ≡ spanOf (now rec))
+        × (spanOf (now rec) ≤ placeLength) ⌝ }
     ensures { λ r. ⌜ now (recs .exit) ≡ putRecord (now (recs .entry)) p (now (rec .entry)) ⌝ }
 {
     let at = p * PLACE;
@@ -103,12 +109,20 @@ fn is_full(c: Counters, e: Edit, k: usize) -> bool
 {
     (RECORDS <= c.records as usize)
         | ((e.kind == CREATE) & (OBJECTS <= c.objects as usize))
-        | ((e.kind == SET) & (group_step::SETS <= k))
+        | (edit_record::is_set_kind(e.kind) & (SETS <= k))
 }
 
-// The first of 1 to 6 whose reason is present.
-fn first_reason(one: bool, two: bool, three: bool, four: bool, five: bool, six: bool) -> Answer
-    ensures { λ r. ⌜ numberOf r ≡ firstOf 1 (one ∷ two ∷ three ∷ four ∷ five ∷ six ∷ []) ⌝ }
+// The first of 1 to 6, with 16 after 5, whose reason is present.
+fn first_reason(
+    one: bool,
+    two: bool,
+    three: bool,
+    four: bool,
+    five: bool,
+    sixteen: bool,
+    six: bool,
+) -> Answer
+    ensures { λ r. ⌜ numberOf r ≡ firstOf inTurn (one ∷ two ∷ three ∷ four ∷ five ∷ sixteen ∷ six ∷ []) ⌝ }
 {
     if one {
         return Answer::Malformed;
@@ -125,15 +139,19 @@ fn first_reason(one: bool, two: bool, three: bool, four: bool, five: bool, six: 
     if five {
         return Answer::Astray;
     }
+    if sixteen {
+        return Answer::Nameless;
+    }
     if six {
         return Answer::Full;
     }
     Answer::Done
 }
 
-// 1 to 6, the first that applies to a record with its edit e, from the counters and the survey of the records.
-fn refusal(c: Counters, rec: &[u8], e: Edit, v: Surveyed) -> Answer
-    ensures { λ r. ⌜ numberOf r ≡ firstOf 1 (sixBy c (now (rec .entry)) e v) ⌝ }
+// 1 to 6, the first that applies to a record with its edit e, from the counters, the survey of the records and what is
+// judged of the edit.
+fn refusal(c: Counters, rec: &[u8], e: Edit, v: Surveyed, j: Judged) -> Answer
+    ensures { λ r. ⌜ numberOf r ≡ firstOf inTurn (toSixBy c (now (rec .entry)) e v j) ⌝ }
 {
     let held = c.held;
     let span = edit_record::span_of(rec);
@@ -142,7 +160,7 @@ fn refusal(c: Counters, rec: &[u8], e: Edit, v: Surveyed) -> Answer
     let three = edit_history::is_early(held, e);
     let five = edit_record::is_aimed(e) & !v.found;
     let six = is_full(c, e, v.sets);
-    first_reason(one, two, three, v.torn, five, six)
+    first_reason(one, two, three, v.torn, five, j.nameless, six)
 }
 
 // Takes a Create that passes 1 to 6: its record, its object's entry and the counters after it.
@@ -158,6 +176,7 @@ fn take_create(
         × (length (now records) ≡ recordsLength)
         × (length (now objects) ≡ objectsLength)
         × (length (now rec) ≡ spanOf (now rec))
+        × (spanOf (now rec) ≤ placeLength)
         × (getD (c .held) (s .0) 0 < mostRecords) ⌝ }
     ensures { λ r. ⌜ (r ≡ counted c s (now (rec .entry)) 1)
         × (now (records .exit) ≡ putRecord (now (records .entry)) (c .records) (now (rec .entry)))
@@ -186,6 +205,7 @@ fn store_set(
         × (length (now records) ≡ recordsLength)
         × (length (now objects) ≡ objectsLength)
         × (length (now rec) ≡ spanOf (now rec))
+        × (spanOf (now rec) ≤ placeLength)
         × (getD (c .held) (s .0) 0 < mostRecords) ⌝ }
     ensures { λ r. ⌜ (r ≡ counted c s (now (rec .entry)) 0)
         × (now (records .exit) ≡ putRecord (now (records .entry)) (c .records) (now (rec .entry)))
@@ -205,8 +225,9 @@ fn take_set(
     rec: &[u8],
     e: Edit,
     v: Surveyed,
+    j: Judged,
 ) -> Arrived
-    requires { ⌜ Ready (tablesOf c (now records) (now objects) (now groups)) (now rec) e v ⌝ }
+    requires { ⌜ Ready (tablesOf c (now records) (now objects) (now groups)) (now rec) e v j ⌝ }
     ensures { λ r. ⌜ outcomeOf (numberOf (r .answer))
         (tablesOf (r .counters) (now (records .exit)) (now (objects .exit)) (now (groups .exit)))
         ≡ acceptanceOf (tablesOf c (now (records .entry)) (now (objects .entry)) (now (groups .entry)))
@@ -215,7 +236,7 @@ fn take_set(
     let o = v.object;
     let k = v.sets;
     let g = objects[o * ENTRY + 2];
-    let m = group_step::step_at(groups, o, g as usize, v.conflicts, k);
+    let m = group_step::step_at(groups, o, g as usize, j.conflicts, k);
     if group_step::GROUPS < m {
         return Arrived {
             answer: Answer::Crowded,
@@ -235,6 +256,7 @@ fn take_layer(c: Counters, records: &mut [u8], rec: &[u8], s: Site) -> Counters
         × (c .objects ≤ mostObjects)
         × (length (now records) ≡ recordsLength)
         × (length (now rec) ≡ spanOf (now rec))
+        × (spanOf (now rec) ≤ placeLength)
         × (getD (c .held) (s .0) 0 < mostRecords) ⌝ }
     ensures { λ r. ⌜ (r ≡ counted c s (now (rec .entry)) 0)
         × (now (records .exit) ≡ putRecord (now (records .entry)) (c .records) (now (rec .entry))) ⌝ }
@@ -243,8 +265,29 @@ fn take_layer(c: Counters, records: &mut [u8], rec: &[u8], s: Site) -> Counters
     counted_with(c, s, rec, 0)
 }
 
+// What is judged of an arriving edit e, with its survey v, where the first n records are held. Where no Set of its
+// object is limited, and it is not, document 01's conflicts are all that there are; else the places of those Sets are
+// looked for.
+pub fn judge(recs: &[u8], n: usize, e: Edit, v: Surveyed) -> Judged
+    requires { ⌜ (n ≤ mostRecords)
+        × (length (setsOn (e .tsite) (e .tseq) (editsOf (now recs) n)) ≤ mostSets)
+        × (v ≡ surveyOf (editsOf (now recs) n) e) ⌝ }
+    ensures { λ r. ⌜ JudgedOf (setsOn (e .tsite) (e .tseq) (editsOf (now (recs .entry)) n)) e r ⌝ }
+{
+    if !((e.kind == LIMITED) | v.limited) {
+        return Judged {
+            nameless: false,
+            conflicts: v.plain,
+        };
+    }
+    // what work space holds at first does not matter; zeros would be set by memset (docs/DECISIONS.md, 24)
+    let mut places = [1u16; SETS];
+    let k = edit_object::put_places(&mut places, recs, n, e.tsite, e.tseq);
+    group_limited::judge(recs, &places, k, e)
+}
+
 // An arrival at tables that are known to be sound, as those that an arrival left are, of the record's edit e with its
-// survey v.
+// survey v and what is judged of it, j.
 pub fn accept(
     c: Counters,
     records: &mut [u8],
@@ -253,16 +296,18 @@ pub fn accept(
     rec: &[u8],
     e: Edit,
     v: Surveyed,
+    j: Judged,
 ) -> Arrived
     requires { ⌜ (sound (tablesOf c (now records) (now objects) (now groups)) ≡ true)
         × (e ≡ decodeOf (now rec))
-        × (v ≡ surveyOf (editsOf (now records) (c .records)) e) ⌝ }
+        × (v ≡ surveyOf (editsOf (now records) (c .records)) e)
+        × JudgedOf (setsOn (e .tsite) (e .tseq) (editsOf (now records) (c .records))) e j ⌝ }
     ensures { λ r. ⌜ outcomeOf (numberOf (r .answer))
         (tablesOf (r .counters) (now (records .exit)) (now (objects .exit)) (now (groups .exit)))
         ≡ acceptanceOf (tablesOf c (now (records .entry)) (now (objects .entry)) (now (groups .entry)))
         (now (rec .entry)) ⌝ }
 {
-    let answer = refusal(c, rec, e, v);
+    let answer = refusal(c, rec, e, v, j);
     if table_drawing::number(answer) != 0 {
         return Arrived {
             answer,
@@ -276,8 +321,8 @@ pub fn accept(
             counters: d,
         };
     }
-    if e.kind == SET {
-        return take_set(c, records, objects, groups, rec, e, v);
+    if edit_record::is_set_kind(e.kind) {
+        return take_set(c, records, objects, groups, rec, e, v, j);
     }
     let d = take_layer(c, records, rec, e.site);
     Arrived {
@@ -286,7 +331,8 @@ pub fn accept(
     }
 }
 
-// An arriving edit, any bytes, at any tables: 8, then 1 to 7 in turn, the first that applies; else the edit is taken.
+// An arriving edit, any bytes, at any tables: 8, then 1 to 7 in turn, with 16 after 5, the first that applies; else the
+// edit is taken.
 pub fn arrive(
     c: Counters,
     records: &mut [u8],
@@ -307,5 +353,6 @@ pub fn arrive(
     }
     let e = edit_record::decode(rec);
     let v = edit_history::survey(records, c.records as usize, e);
-    accept(c, records, objects, groups, rec, e, v)
+    let j = judge(records, c.records as usize, e, v);
+    accept(c, records, objects, groups, rec, e, v, j)
 }

@@ -1,8 +1,8 @@
--- The records of sound tables whose rows are true are all taken by a replay: none of 1 to 7 applies to a record after
--- those before it. Assumes nothing.
+-- The records of sound tables whose rows are true are all taken by a replay: none of 1 to 7 and 16 applies to a record
+-- after those before it. Assumes nothing.
 use mathlib.Core.Path.{_≡_, refl, sym, ap, _∙_}
 use mathlib.Core.Logic.{inl, inr}
-use mathlib.Core.Bool.{Bool, true, false, _&&_, _||_, cond}
+use mathlib.Core.Bool.{Bool, true, false, not, _&&_, _||_, cond}
 use mathlib.Core.List.{
   List,
   [],
@@ -14,7 +14,7 @@ use mathlib.Core.List.{
   List·Memᴰ·append-cases,
   List·Memᴰ·eq-of-singleton,
 }
-use Prim.Native.Nat.{ℕ, zero, suc, _+_, _≤_, _<_}
+use Prim.Native.Nat.{ℕ, zero, suc, _≤_, _<_}
 use native.Mathlib.Omega.{arith}
 use native.Mathlib.Decide.{ℕ-discrete}
 use lib.ListN.{length}
@@ -33,16 +33,18 @@ use Rattle.edit_history.specs.EditsHeld.{bytesAt, recordAt, editsOf, creates, i
 use Rattle.edit_history.proofs.FieldsInPlace.{bytes-whole}
 use Rattle.edit_history.specs.EditsHeld.{mostRecords}
 use Rattle.edit_history.specs.Answers2to5.{isRepeated, isEarly, isTorn, isAstray, passes, recordsPass}
+use Rattle.edit_history.specs.Answer16.{isNameless, recordsNamed}
 use Rattle.edit_history.proofs.EditsHeld.{edits-length, any-edit-on, chosen-more, chosen-grow, create-less}
-use Rattle.edit_history.proofs.RecordsPassed.{target-before}
+use Rattle.edit_history.proofs.RecordsPassed.{target-before, few-at}
 use Rattle.group_step.specs.GroupRows.{mostObjects, mostSets, mostGroups}
 use Rattle.table_drawing.specs.Tables.{Tables, heldBy, placeAt, groupsAt}
 use Rattle.table_soundness.proofs.SoundFacts.{Sound}
 use Rattle.table_arrival.specs.Answers6and7.{firstOf, rowOf}
 use Rattle.group_true.specs.TrueGroups.{trueGroups}
 use Rattle.group_true.proofs.TrueGroups.{groups-grow}
-use Rattle.table_arrival.proofs.ObjectsByNumber.{sets-few}
+use Rattle.table_soundness.proofs.ObjectsByNumber.{sets-few}
 use Rattle.table_arrival.proofs.ObjectOfSet.{object-less, target-site, target-seq, row-few, row-fits}
+use Rattle.table_arrival.proofs.ProperWith.{proper-held}
 use Rattle.table_arrival.proofs.Faithful.{RowsTrue}
 use Rattle.table_replay.specs.Replay.{replayOf}
 use Rattle.table_replay.proofs.OwnRecords.{edits-held}
@@ -52,13 +54,13 @@ use Rattle.demand_any_order.proofs.Identities.{one-object}
 use Rattle.demand_any_order.proofs.ReplayAccepted.{accepted-none, accepted-more, refuses-none-exactly}
 use Rattle.table_check.proofs.SettledByRecords.{used-long}
 
--- ---- an edit that passes 1 to 5, and to which neither 6 nor 7 applies
+-- ---- an edit that passes 1 to 5, and to which none of 16, 6 and 7 applies
 
 taken-over :
-    (n : ℕ) (es : List Edit) (e : Edit) → passes n es e ≡ true → fullOver es e ≡ false → crowdedOver es e ≡ false →
-    listAnswer n es e ≡ 0
+    (n : ℕ) (es : List Edit) (e : Edit) → passes n es e ≡ true → isNameless es e ≡ false →
+    fullOver es e ≡ false → crowdedOver es e ≡ false → listAnswer n es e ≡ 0
 unfolding passes listAnswer firstOf
-taken-over n es e h full crowded =
+taken-over n es e h version full crowded =
     let a = unfit n e in
     let b = isRepeated es e in
     let c = isEarly es e in
@@ -67,7 +69,7 @@ taken-over n es e h full crowded =
     let (h3, torn) = neither (a || b || c) d h4 in
     let (h2, early) = neither (a || b) c h3 in
     let (fit, repeated) = neither a b h2 in
-    rw (fit, repeated, early, torn, astray, full, crowded)
+    rw (fit, repeated, early, torn, astray, version, full, crowded)
 
 -- ---- more records never lose a group
 
@@ -116,6 +118,11 @@ module _ (t : Tables) (s : Sound t) (rows : RowsTrue t) where
     unfolding recordsPass
     pass = all-at n (λ q. passes sites (editsOf rs q) (recordAt rs q)) (s .pass) p l
 
+    has-version : isNameless es e ≡ false
+    unfolding recordsNamed
+    has-version =
+        not-true (isNameless es e) (all-at n (λ q. not (isNameless (editsOf rs q) (recordAt rs q))) (s .named) p l)
+
     sets-room : isSet e ≡ true → length (setsOn (e .tsite) (e .tseq) es) < mostSets
     unfolding setsOn
     sets-room k =
@@ -150,7 +157,8 @@ module _ (t : Tables) (s : Sound t) (rows : RowsTrue t) where
         = rows o (object-less t s e aim) ∙ one-object (heldBy t) c (named e) (target-site t s e aim)
         (target-seq t s e aim) in
         let long = used-long (t .groups) o (groupsAt (t .objects) o) (row-few t s e aim) (row-fits t s e aim) in
-        let irr = none-itself (setsOn (named e .site) (named e .seq) (editsOf rs n)) in
+        let irr = none-itself (setsOn (named e .site) (named e .seq) (editsOf rs n))
+        (proper-held t s (named e .site) (named e .seq)) in
         omega (arith, groups-later rs (named e) (suc p) n l irr, ap length its, row-few t s e aim)
 
     not-crowded : crowdedOver es e ≡ false
@@ -160,7 +168,7 @@ module _ (t : Tables) (s : Sound t) (rows : RowsTrue t) where
         off-where (isSet e) (ltb mostGroups many) (λ k. le-ltb mostGroups many (few-groups k))
 
     taken-at : listAnswer sites es e ≡ 0
-    taken-at = taken-over sites es e pass not-full not-crowded
+    taken-at = taken-over sites es e pass has-version not-full not-crowded
 
   -- ---- all of them
 
@@ -177,7 +185,7 @@ module _ (t : Tables) (s : Sound t) (rows : RowsTrue t) where
     | inl i ↦ all-whole k (omega arith) b i
     | inr i ↦
         rw (List·Memᴰ·eq-of-singleton i)
-        (bytes-whole rs k (omega (arith, s .records-long, s .few-records)))
+        (bytes-whole rs k (omega (arith, s .records-long, s .few-records)) (few-at sites rs n (s .pass) k l))
   ]
 
   pub all-taken : replayOf sites (bytesAt rs) n .answer ≡ 0

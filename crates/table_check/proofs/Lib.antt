@@ -1,4 +1,5 @@
 pub mod SettledByRecords
 pub mod AllTaken
 pub mod TrueExactly
+pub mod SetsInTurn
 pub mod RowWorkedOut

@@ -21,6 +21,7 @@ use Rattle.edit_causal.specs.ConflictForms.{NoneItself}
 use Rattle.edit_history.specs.EditsHeld.{recordAt, mostRecords}
 use Rattle.edit_history.proofs.EditsInPlaces.{sets-length}
 use Rattle.edit_walk.specs.WalkForms.{placeOf, Indexed}
+use Rattle.group_limited.specs.LimitedForms.{setsIn}
 use Rattle.math_maximal.specs.Groups.{every}
 use Rattle.math_maximal.specs.Step.{step}
 use Rattle.math_maximal.proofs.Groups.{groups-ascending, no-elements}
@@ -35,7 +36,9 @@ use Rattle.table_arrival.specs.Answers6and7.{rowOf}
 use Rattle.group_true.specs.TrueGroups.{groupsOf, trueGroups}
 use Rattle.group_true.proofs.GroupsGrow.{is-maximal, never-fewer-groups, sets-step}
 use Rattle.table_check.specs.CheckForms.{rowTrue, aimOf, Aims, TellsSets, placesAimed, groupsIn, WorkedOut}
+use Rattle.table_check.specs.CheckForms.{ProperInTurn}
 use Rattle.table_check.proofs.SettledByRecords.{used-long}
+use Rattle.table_check.proofs.SetsInTurn.{in-turn}
 
 -- ---- where the Create of each Set stands
 
@@ -84,56 +87,53 @@ module _ (f : ℕ → Bool) (ms : List ℕ) (k i n : ℕ) (e : take k ms ≡ kee
 -- ---- one step after another
 
 module _ (rs ms : List ℕ) where
-  abbrev setsIn : ℕ → List Edit
-  setsIn k = map (recordAt rs) (take k ms)
-
   pub groups-none : groupsIn rs ms 0 ≡ 0 ∷ []
   unfolding groupsIn groupsOf
   groups-none = no-elements (conflictsIn []) every
 
   groups-next :
-      (i : ℕ) → i < length ms → NoneItself (setsIn (i + 1)) →
-      step (conflictsWith (recordAt rs (getD ms i 0)) (setsIn i)) i (groupsIn rs ms i) ≡ groupsIn rs ms (i + 1)
+      (i : ℕ) → i < length ms → NoneItself (setsIn rs ms (i + 1)) →
+      step (conflictsWith (recordAt rs (getD ms i 0)) (setsIn rs ms i)) i (groupsIn rs ms i) ≡ groupsIn rs ms (i + 1)
   unfolding groupsIn
   groups-next i l irr =
       let e = recordAt rs (getD ms i 0) in
-      let more : setsIn (i + 1) ≡ setsIn i ++ (e ∷ [])
+      let more : setsIn rs ms (i + 1) ≡ setsIn rs ms i ++ (e ∷ [])
       = rw (add-one, take-suc ms i 0 l) (map-append (recordAt rs) (take i ms) (getD ms i 0 ∷ [])) in
-      ap (λ (k : ℕ). step (conflictsWith e (setsIn i)) k (groupsOf (setsIn i)))
+      ap (λ (k : ℕ). step (conflictsWith e (setsIn rs ms i)) k (groupsOf (setsIn rs ms i)))
       (sym (sets-length rs ms i (omega arith)))
-      ∙ sets-step (setsIn i) e (rw more at irr)
+      ∙ sets-step (setsIn rs ms i) e (rw more at irr)
       ∙ ap groupsOf (sym more)
 
   -- the step for the Set e in the i-th place, whose conflicts are m, on a row that has the groups of those before it
   pub stepped :
-      (i n : ℕ) (gs : List ℕ) → i < length ms → NoneItself (setsIn (i + 1)) → take n gs ≡ groupsIn rs ms i →
-      (e : Edit) → e ≡ recordAt rs (getD ms i 0) → (m : ℕ) → m ≡ conflictsWith e (setsIn i) →
+      (i n : ℕ) (gs : List ℕ) → i < length ms → NoneItself (setsIn rs ms (i + 1)) → take n gs ≡ groupsIn rs ms i →
+      (e : Edit) → e ≡ recordAt rs (getD ms i 0) → (m : ℕ) → m ≡ conflictsWith e (setsIn rs ms i) →
       step m i (take n gs) ≡ groupsIn rs ms (i + 1)
   stepped i n gs l irr h e q m d = rw (h, d, q) (groups-next i l irr)
 
   pub in-ascending : (i : ℕ) → Ascending (groupsIn rs ms i)
   unfolding groupsIn groupsOf
-  in-ascending i = groups-ascending (conflictsIn (setsIn i)) (length (setsIn i)) every
+  in-ascending i = groups-ascending (conflictsIn (setsIn rs ms i)) (length (setsIn rs ms i)) every
 
   pub in-below : (i : ℕ) → i ≤ length ms → (x : ℕ) → elem x (groupsIn rs ms i) ≡ true → x < 2 ^ i
   unfolding groupsIn
-  in-below i l x h = rw (sets-length rs ms i l) at (is-maximal (setsIn i) x h .0)
+  in-below i l x h = rw (sets-length rs ms i l) at (is-maximal (setsIn rs ms i) x h .0)
 
   in-longer :
-      (i j : ℕ) → NoneItself (setsIn (i + j)) → length (groupsIn rs ms i) ≤ length (groupsIn rs ms (i + j))
+      (i j : ℕ) → NoneItself (setsIn rs ms (i + j)) → length (groupsIn rs ms i) ≤ length (groupsIn rs ms (i + j))
   unfolding groupsIn
   in-longer i j irr =
       let rest = take j (drop i ms) in
-      let parts : setsIn (i + j) ≡ setsIn i ++ map (recordAt rs) rest
+      let parts : setsIn rs ms (i + j) ≡ setsIn rs ms i ++ map (recordAt rs) rest
       = rw (take-add i j ms) (map-append (recordAt rs) (take i ms) rest) in
-      rw parts (never-fewer-groups (setsIn i) (map (recordAt rs) rest) (rw parts at irr))
+      rw parts (never-fewer-groups (setsIn rs ms i) (map (recordAt rs) rest) (rw parts at irr))
 
   -- once they are many they stay so
-  pub in-more : (i k : ℕ) → i ≤ k → NoneItself (setsIn k) → length (groupsIn rs ms i) ≤ length (groupsIn rs ms k)
+  pub in-more : (i k : ℕ) → i ≤ k → NoneItself (setsIn rs ms k) → length (groupsIn rs ms i) ≤ length (groupsIn rs ms k)
   in-more i k l irr =
       let e : i + (k - i) ≡ k = omega arith in
       subst (λ (x : ℕ). length (groupsIn rs ms i) ≤ length (groupsIn rs ms x)) e
-      (in-longer i (k - i) (subst (λ (x : ℕ). NoneItself (setsIn x)) (sym e) irr))
+      (in-longer i (k - i) (subst (λ (x : ℕ). NoneItself (setsIn rs ms x)) (sym e) irr))
 
 -- what a step leaves in a row that holds it
 pub settled-front :
@@ -179,6 +179,10 @@ module _ (t : Tables) (s : Sound t) (ts : List ℕ) (tells : TellsSets (t .recor
   groups-are ms k e =
       ap (λ (qs : List ℕ). groupsOf (map (recordAt rs) qs)) (e ∙ aimed-are)
       ∙ ap groupsOf (places-sets rs p n)
+
+  pub aimed-in-turn :
+      (ms : List ℕ) (k : ℕ) → k ≤ length ms → take k ms ≡ placesAimed ts n p → ProperInTurn rs ms k
+  aimed-in-turn ms k fits e = in-turn t s p ms k fits (e ∙ aimed-are)
 
   pub row-fits-in : o * mostGroups + mostGroups ≤ length (t .groups)
   row-fits-in = omega (arith, s .groups-long, s .few-objects)

@@ -1,6 +1,7 @@
 -- Sound tables whose rows are true are settled by their records: two of them that hold the same records are the same to
 -- the last entry, the number of sites left out. Assumes nothing.
 use mathlib.Core.Path.{_≡_, refl, sym, ap, ap₂, _∙_}
+use mathlib.Core.Bool.{true}
 use mathlib.Core.List.{List, _++_}
 use Prim.Native.Nat.{ℕ, zero, suc, _+_, _*_, _≤_, _<_}
 use native.Mathlib.Omega.{arith}
@@ -9,14 +10,17 @@ use lib.ListN.{length, getD, take, drop, length-drop}
 use lib.Seq.{ext-getD, getD-take, getD-drop, length-take-le, take-add}
 use Rattle.math_lists.proofs.LastBelow.{by-rows}
 use Rattle.edit_record.specs.declared.Edit.{Edit}
-use Rattle.edit_record.specs.Layout.{mostSites, placeLength}
+use Rattle.edit_record.specs.Layout.{mostSites, mostMembers, placeLength}
 use Rattle.edit_record.specs.RecordBytes.{spanOf}
+use Rattle.edit_record.proofs.RecordSpans.{span-most, span-agree, span-own}
 use Rattle.edit_history.specs.EditsHeld.{bytesAt, recordAt, editsOf, countFrom, creates, setsOn}
+use Rattle.edit_history.proofs.RecordsPassed.{few-at}
 use Rattle.edit_sum.specs.WordSum.{sumHeld}
 use Rattle.group_step.specs.GroupRows.{mostGroups, row}
 use Rattle.table_drawing.specs.Tables.{Tables, entryLength, placeAt, setsAt, groupsAt, heldBy}
 use Rattle.table_soundness.proofs.EachObject.{Object}
-use Rattle.table_soundness.proofs.SoundFacts.{Sound, ZeroFrom}
+use Rattle.table_soundness.specs.Sound.{restZero}
+use Rattle.table_soundness.proofs.SoundFacts.{Sound, ZeroFrom, zero-at}
 use Rattle.table_index.proofs.PlacesOfSets.{one-number}
 use Rattle.group_true.specs.TrueGroups.{trueGroups}
 use Rattle.table_arrival.proofs.Faithful.{RowsTrue}
@@ -33,25 +37,67 @@ zeros-agree l m k long same z w =
       | no a ↦ z i (omega arith) b ∙ sym (w i (omega arith) (omega arith))
     ])
 
--- a record fills its place, so tables that hold the same records have the same bytes there
-fills : (s : List ℕ) → spanOf s ≡ placeLength
-unfolding spanOf
-fills s = refl
+-- ---- the places
+
+-- the first n places are there, and each has a record with no more members than it has room for, and zeros behind it
+pub record Rested (rs : List ℕ) (n : ℕ) : Type 0 where
+  pub there : n * placeLength ≤ length rs
+  pub few : (p : ℕ) → p < n → recordAt rs p .count ≤ mostMembers
+  pub rests : (p : ℕ) → p < n → restZero rs p ≡ true
+
+pub rested : (t : Tables) → Sound t → Rested (t .records) (t .counters .records)
+rested t s = record {
+  there = omega (arith, s .records-long, s .few-records);
+  few = few-at (t .counters .sites) (t .records) (t .counters .records) (s .pass);
+  rests = s .rests;
+}
+
+module _ (rs : List ℕ) (n : ℕ) (r : Rested rs n) (p : ℕ) (l : p < n) where
+  abbrev from : List ℕ
+  from = drop (p * placeLength) rs
+
+  abbrev place : List ℕ
+  place = take placeLength from
+
+  place-long : length place ≡ placeLength
+  place-long = length-take-le placeLength from (omega (arith, length-drop (p * placeLength) rs, r .there))
+
+  place-span : spanOf place ≡ spanOf from
+  place-span =
+      span-agree from place (λ i m. getD-take placeLength from i 0 (omega (arith, span-most from (r .few p l))))
+
+  -- the record's own bytes stand in front
+  place-front : (i : ℕ) → i < spanOf from → getD place i 0 ≡ getD (bytesAt rs p) i 0
+  place-front i m =
+      getD-take placeLength from i 0 (omega (arith, span-most from (r .few p l)))
+      ∙ sym (getD-take (spanOf from) from i 0 m)
+
+  place-rest : ZeroFrom place (spanOf from)
+  unfolding restZero
+  place-rest = rw place-span at (zero-at place (spanOf place) (r .rests p l))
+
+-- places that hold the same record have the same bytes
+place-same :
+    (rs rs′ : List ℕ) (n : ℕ) (r : Rested rs n) (r′ : Rested rs′ n) (p : ℕ) (l : p < n) →
+    bytesAt rs p ≡ bytesAt rs′ p → place rs n r p l ≡ place rs′ n r′ p l
+place-same rs rs′ n r r′ p l h =
+    let span : spanOf (from rs n r p l) ≡ spanOf (from rs′ n r′ p l)
+    = sym (span-own (from rs n r p l)) ∙ ap spanOf h ∙ span-own (from rs′ n r′ p l) in
+    zeros-agree (place rs n r p l) (place rs′ n r′ p l) (spanOf (from rs n r p l))
+    (place-long rs n r p l ∙ sym (place-long rs′ n r′ p l))
+    (λ i a b. place-front rs n r p l i a ∙ ap (λ (x : List ℕ). getD x i 0) h
+    ∙ sym (place-front rs′ n r′ p l i (omega (arith, span))))
+    (place-rest rs n r p l) (rw (← span) at (place-rest rs′ n r′ p l))
 
 pub places-same :
-    (rs rs′ : List ℕ) (n : ℕ) → ((p : ℕ) → p < n → bytesAt rs p ≡ bytesAt rs′ p) →
-    take (n * placeLength) rs ≡ take (n * placeLength) rs′
-places-same rs rs′ zero h = refl
-places-same rs rs′ (suc n) h =
-    let e : suc n * placeLength ≡ n * placeLength + placeLength = omega arith in
-    let place = drop (n * placeLength) rs in
-    let place′ = drop (n * placeLength) rs′ in
-    let last : take placeLength place ≡ take placeLength place′ =
-    ap (λ (w : ℕ). take w place) (sym (fills place))
-    ∙ h n (omega arith)
-    ∙ ap (λ (w : ℕ). take w place′) (fills place′) in
-    rw (e, take-add (n * placeLength) placeLength rs, take-add (n * placeLength) placeLength rs′)
-    (ap₂ (λ (x y : List ℕ). x ++ y) (places-same rs rs′ n (λ p l. h p (omega arith))) last)
+    (rs rs′ : List ℕ) (n : ℕ) → Rested rs n → Rested rs′ n → ((p : ℕ) → p < n → bytesAt rs p ≡ bytesAt rs′ p) →
+    (k : ℕ) → k ≤ n → take (k * placeLength) rs ≡ take (k * placeLength) rs′
+places-same rs rs′ n r r′ h zero l = refl
+places-same rs rs′ n r r′ h (suc k) l =
+    let e : suc k * placeLength ≡ k * placeLength + placeLength = omega arith in
+    rw (e, take-add (k * placeLength) placeLength rs, take-add (k * placeLength) placeLength rs′)
+    (ap₂ (λ (x y : List ℕ). x ++ y) (places-same rs rs′ n r r′ h k (omega arith))
+    (place-same rs rs′ n r r′ k l (h k l)))
 
 -- ---- the groups in use
 

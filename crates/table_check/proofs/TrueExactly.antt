@@ -4,6 +4,7 @@ use mathlib.Core.Path.{_≡_, sym, ap, ap₂, subst, _∙_}
 use mathlib.Core.Bool.{Bool, true, false, _&&_, cond}
 use mathlib.Core.List.{List}
 use Prim.Native.Nat.{ℕ, _*_, _<_}
+use native.Mathlib.Omega.{arith}
 use lib.ListN.{length, getD}
 use lib.Seq.{getD-take}
 use lib.Dec.{eqb, leb}
@@ -29,7 +30,7 @@ use Rattle.table_replay.proofs.OwnRecords.{Holds, going-of, holds}
 use Rattle.table_check.specs.Check.{sameCounters, sameTables, givesBack, isTrue, checkOf}
 use Rattle.table_check.specs.CheckForms.{rowTrue, rowsTrue}
 use Rattle.table_check.proofs.SettledByRecords.{same-records, same-number, same-counts, same-sum, same-groups}
-use Rattle.table_check.proofs.SettledByRecords.{same-objects, places-same}
+use Rattle.table_check.proofs.SettledByRecords.{same-objects, Rested, rested, places-same}
 use Rattle.table_check.proofs.AllTaken.{all-taken}
 
 -- ---- the rows
@@ -133,6 +134,8 @@ module _ (t : Tables) where
           records-zero = s .records-zero;
           objects-zero = s .objects-zero;
           groups-zero = s .groups-zero;
+          rests = s .rests;
+          named = s .named;
         },
         f .rows,
       )
@@ -158,9 +161,12 @@ module _ (t : Tables) where
 
     bytes : (i : ℕ) → i < c .records * placeLength → getD (t .records) i 0 ≡ getD (u .records) i 0
     bytes i l =
-        let k = c .records * placeLength in
+        let n = c .records in
+        let k = n * placeLength in
+        let rests = subst (Rested (u .records)) (its .count) (rested u (faithful .kept .isSound)) in
+        let same = places-same (u .records) (t .records) n rests (rested t s) (its .bytes) n (omega arith) in
         sym (getD-take k (t .records) i 0 l)
-        ∙ ap (λ (x : List ℕ). getD x i 0) (sym (places-same (u .records) (t .records) (c .records) (its .bytes)))
+        ∙ ap (λ (x : List ℕ). getD x i 0) (sym same)
         ∙ getD-take k (u .records) i 0 l
 
     count : c .records ≡ d .records

@@ -2,18 +2,20 @@
 -- worked out from the places of its object's Sets. No one need believe them: laws in proofs/ tie them to `Check`.
 -- Assumes nothing.
 use mathlib.Core.Path.{_≡_}
-use mathlib.Core.Bool.{Bool, cond}
-use mathlib.Core.List.{List, map}
+use mathlib.Core.Bool.{Bool, false, cond}
+use mathlib.Core.List.{List}
 use Prim.Native.Nat.{ℕ, _≤_, _<_}
 use lib.ListN.{getD, length, take}
 use lib.Dec.{eqb}
 use Rattle.math_lists.specs.NumbersBelow.{all, keep, sameList}
 use Rattle.edit_record.specs.declared.Edit.{Edit}
 use Rattle.edit_record.specs.Answer1.{isSet}
-use Rattle.edit_causal.specs.ConflictForms.{NoneItself}
+use Rattle.edit_causal.specs.ConflictForms.{Proper}
 use Rattle.edit_history.specs.EditsHeld.{recordAt, mostRecords}
+use Rattle.edit_history.specs.Answer16.{namelessAmong}
 use Rattle.edit_walk.specs.WalkForms.{placeOf}
 use Rattle.group_step.specs.GroupRows.{mostGroups}
+use Rattle.group_limited.specs.LimitedForms.{setsIn}
 use Rattle.table_index.specs.IndexForms.{isOn}
 use Rattle.table_drawing.specs.Tables.{Tables, placeAt, heldBy}
 use Rattle.table_arrival.specs.Answers6and7.{rowOf}
@@ -50,11 +52,12 @@ placesAimed ts n p = keep n (λ q. eqb (getD ts q 0) p)
 
 -- those of the Sets in the first k of the places ms
 unfoldable pub groupsIn : List ℕ → List ℕ → ℕ → List ℕ
-groupsIn rs ms k = groupsOf (map (recordAt rs) (take k ms))
+groupsIn rs ms k = groupsOf (setsIn rs ms k)
 
--- for each i up to k, none of the Sets in the first i of the places ms conflicts with itself
-abbrev pub NoneItselfIn : List ℕ → List ℕ → ℕ → Type 0
-NoneItselfIn rs ms k = (i : ℕ) → i ≤ k → NoneItself (map (recordAt rs) (take i ms))
+-- the first of them are proper, however many they are, and 16 is given to none of them after those before it
+pub record ProperInTurn (rs ms : List ℕ) (k : ℕ) : Type 0 where
+  pub proper : (i : ℕ) → i ≤ k → Proper (setsIn rs ms i)
+  pub named : (i : ℕ) → i < k → namelessAmong (setsIn rs ms i) (recordAt rs (getD ms i 0)) ≡ false
 
 -- the groups l stand at the front of the row gs, and are r; or r says that they are too many for a row
 pub record WorkedOut (l gs : List ℕ) (r : ℕ) : Type 0 where

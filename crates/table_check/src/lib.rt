@@ -2,7 +2,6 @@
 // untrue in sound tables is the rows of groups alone, so each row is worked out anew from the Sets of its object, and
 // held against the table's.
 use edit_history::RECORDS;
-use edit_record::SET;
 use edit_walk::PLACES;
 use group_step::GROUPS;
 use group_step::SETS;
@@ -11,20 +10,24 @@ use table_drawing::Counters;
 use table_drawing::ENTRY;
 use table_drawing::entries::at16;
 ghost use mathlib.Core.Path.{_≡_};
-ghost use mathlib.Core.Bool.{true};
+ghost use mathlib.Core.Bool.{true, false};
+ghost use mathlib.Core.List.{[], _∷_};
 ghost use Prim.Native.Nat.{_+_, _*_, _≤_, _<_};
 ghost use lib.ListN.{length, take};
 ghost use Rattle.math_lists.specs.NumbersBelow.{sameList};
+ghost use Rattle.math_lists.specs.SortedLists.{any};
 ghost use Rattle.edit_record.specs.Layout.{twoBytes};
+ghost use Rattle.edit_record.specs.Answer1.{isLimited};
 ghost use Rattle.edit_history.specs.EditsHeld.{recordAt, mostRecords};
 ghost use Rattle.edit_walk.specs.WalkForms.{Indexed};
 ghost use Rattle.group_step.specs.GroupRows.{mostGroups, mostSets, row};
+ghost use Rattle.group_limited.specs.LimitedForms.{setsIn};
 ghost use Rattle.table_drawing.specs.Tables.{tablesOf};
 ghost use Rattle.table_drawing.specs.AnswerNumbers.{numberOf};
 ghost use Rattle.table_soundness.specs.Sound.{sound};
 ghost use Rattle.table_check.specs.Check.{checkOf};
 ghost use Rattle.table_check.specs.CheckForms.{rowTrue, rowsTrue, aimOf, Aims, TellsSets, placesAimed};
-ghost use Rattle.table_check.specs.CheckForms.{groupsIn, NoneItselfIn, WorkedOut};
+ghost use Rattle.table_check.specs.CheckForms.{groupsIn, ProperInTurn, WorkedOut};
 
 // Whether two rows of groups are the same.
 fn is_same(a: &[u64], b: &[u64]) -> bool
@@ -59,7 +62,8 @@ fn aim_at(recs: &[u8], places: &[u16], q: usize) -> u16
     requires { ⌜ q < twoBytes ⌝ }
     ensures { λ r. ⌜ r ≡ aimOf (now (places .entry)) (recordAt (now (recs .entry)) q) ⌝ }
 {
-    if edit_history::kind_at(recs, q) == SET {
+    let kind = edit_history::kind_at(recs, q);
+    if edit_record::is_set_kind(kind) {
         edit_walk::target_place(recs, places, q)
     } else {
         RECORDS as u16
@@ -99,21 +103,23 @@ fn gather(aims: &[u16], n: usize, p: u16, members: &mut [u16]) -> usize
     k
 }
 
-// Puts the groups of the Sets in the first k places at the front of gs, by the step for one Set after another from the
-// empty group; says how many they are. Once they are more than a row holds, they stay so, and the rest is left.
-fn work_out(recs: &[u8], places: &[u16], k: usize, gs: &mut [u64]) -> usize
-    requires { ⌜ (k ≤ length (now places))
+// Makes the step for one after another of the Sets in the first k places, none of which is limited, on a row that has
+// the empty group alone; says how many groups there are. Once they are more than a row holds, they stay so, and the
+// rest is left.
+fn step_plainly(gs: &mut [u64], recs: &[u8], places: &[u16], k: usize) -> usize
+    requires { ⌜ (length (now gs) ≡ mostGroups)
+        × (take 1 (now gs) ≡ 0 ∷ [])
+        × (k ≤ length (now places))
         × (k ≤ mostSets)
-        × (length (now gs) ≡ mostGroups)
-        × NoneItselfIn (now recs) (now places) k ⌝ }
+        × ProperInTurn (now recs) (now places) k
+        × (any isLimited (setsIn (now recs) (now places) k) ≡ false) ⌝ }
     ensures { λ r. ⌜ WorkedOut (groupsIn (now (recs .entry)) (now (places .entry)) k) (now (gs .exit)) r ⌝ }
 {
-    gs[0] = 0;
     let mut n: usize = 1;
     let mut i: usize = 0;
     while i < k {
         let e = edit_history::decode_at(recs, places[i] as usize);
-        let m = table_index::conflicts_in(recs, places, i, e);
+        let m = table_index::plain_marks(recs, places, i, e);
         n = group_step::step_row(gs, n, m, i);
         if GROUPS < n {
             return n;
@@ -121,6 +127,59 @@ fn work_out(recs: &[u8], places: &[u16], k: usize, gs: &mut [u64]) -> usize
         i += 1;
     }
     n
+}
+
+// The same where Sets may be limited: the conflicts of each are told by the rows of those before it, which are put down
+// in `plain` and `ctx`.
+fn step_limited(
+    gs: &mut [u64],
+    plain: &mut [u64],
+    ctx: &mut [u64],
+    recs: &[u8],
+    places: &[u16],
+    k: usize,
+) -> usize
+    requires { ⌜ (length (now gs) ≡ mostGroups)
+        × (take 1 (now gs) ≡ 0 ∷ [])
+        × (k ≤ length (now plain))
+        × (k ≤ length (now ctx))
+        × (k ≤ length (now places))
+        × (k ≤ mostSets)
+        × ProperInTurn (now recs) (now places) k ⌝ }
+    ensures { λ r. ⌜ WorkedOut (groupsIn (now (recs .entry)) (now (places .entry)) k) (now (gs .exit)) r ⌝ }
+{
+    let mut n: usize = 1;
+    let mut i: usize = 0;
+    while i < k {
+        let e = edit_history::decode_at(recs, places[i] as usize);
+        let t = group_limited::told_of(recs, places, i, plain, ctx, e);
+        n = group_step::step_row(gs, n, t.conflicts, i);
+        if GROUPS < n {
+            return n;
+        }
+        group_limited::put_told(plain, ctx, i, t.row, t.context);
+        i += 1;
+    }
+    n
+}
+
+// Puts the groups of the Sets in the first k places at the front of gs, by the step for one Set after another from the
+// empty group; says how many they are, or that they are more than a row holds.
+fn work_out(recs: &[u8], places: &[u16], k: usize, gs: &mut [u64]) -> usize
+    requires { ⌜ (k ≤ length (now places))
+        × (k ≤ mostSets)
+        × (length (now gs) ≡ mostGroups)
+        × ProperInTurn (now recs) (now places) k ⌝ }
+    ensures { λ r. ⌜ WorkedOut (groupsIn (now (recs .entry)) (now (places .entry)) k) (now (gs .exit)) r ⌝ }
+{
+    gs[0] = 0;
+    if !group_limited::is_any_limited(recs, places, k) {
+        return step_plainly(gs, recs, places, k);
+    }
+    // what work space holds at first does not matter; zeros would be set by memset (docs/DECISIONS.md, 24)
+    let mut plain = [1u64; SETS];
+    let mut ctx = [1u64; SETS];
+    step_limited(gs, &mut plain, &mut ctx, recs, places, k)
 }
 
 // Whether the row of object o has the groups of the object's Sets.

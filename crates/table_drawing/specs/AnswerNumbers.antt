@@ -3,7 +3,7 @@ use Prim.Native.Nat.{ℕ}
 use Rattle.table_drawing.specs.declared.Answer.{Answer}
 use Rattle.table_drawing.specs.declared.Answer.the-variants.{Done, Malformed, Repeated, Early, Torn, Astray, Full}
 use Rattle.table_drawing.specs.declared.Answer.the-variants.{Crowded, Unsound, BadSites, BadFile, NoRoom, NoLine}
-use Rattle.table_drawing.specs.declared.Answer.the-variants.{TooManySets}
+use Rattle.table_drawing.specs.declared.Answer.the-variants.{Nameless, TooManySets}
 use Rattle.table_drawing.specs.Tables.{Tables}
 
 abbrev pub numberOf : Answer → ℕ
@@ -20,6 +20,7 @@ numberOf BadSites = 9
 numberOf BadFile = 10
 numberOf NoRoom = 11
 numberOf NoLine = 12
+numberOf Nameless = 16
 numberOf TooManySets = 18
 
 -- what a call gives back and the tables that it leaves

@@ -31,6 +31,7 @@ pub enum Answer {
     BadFile,
     NoRoom,
     NoLine,
+    Nameless,
     TooManySets,
 }
 
@@ -83,6 +84,7 @@ pub fn number(a: Answer) -> u8
         Answer::BadFile => 10,
         Answer::NoRoom => 11,
         Answer::NoLine => 12,
+        Answer::Nameless => 16,
         Answer::TooManySets => 18,
     }
 }

@@ -30,7 +30,7 @@ use Rattle.table_drawing.specs.Tables.{Tables, heldBy, placeAt, setsAt, groupsA
 use Rattle.table_soundness.specs.Sound.{sound}
 use Rattle.table_soundness.proofs.SoundFacts.{Sound, sound-on}
 use Rattle.table_arrival.specs.Answers6and7.{rowOf}
-use Rattle.table_arrival.proofs.ObjectsByNumber.{object-at-place}
+use Rattle.table_soundness.proofs.ObjectsByNumber.{object-at-place}
 use Rattle.table_arrival.proofs.Faithful.{Faithful}
 use Rattle.table_engine.specs.Enumeration.{mostDecided, Enumeration, enumeration, enumerationIn, enumerationOf}
 use Rattle.table_engine.proofs.EnumerationOutcomes.{no-create, too-many-sets, right-length}

@@ -1,18 +1,15 @@
 -- Forms that the code uses. No one need believe them: laws in proofs/ tie them to `Enumeration`. Assumes nothing.
 use mathlib.Core.Path.{_≡_}
-use mathlib.Core.List.{List, map}
+use mathlib.Core.List.{List}
 use Prim.Native.Nat.{ℕ, _<_}
-use lib.ListN.{length, getD, take}
+use lib.ListN.{length, getD}
 use Rattle.math_lists.specs.NumbersBelow.{mask}
 use Rattle.edit_record.specs.declared.Edit.{Edit}
 use Rattle.edit_causal.specs.Conflict.{conflictsIn}
-use Rattle.edit_history.specs.EditsHeld.{recordAt}
+use Rattle.group_limited.specs.LimitedForms.{setsIn}
 use Rattle.group_true.specs.TrueGroups.{groupsOf}
 
--- the Sets in the first k of the places ps, and their groups
-abbrev pub setsIn : List ℕ → List ℕ → ℕ → List Edit
-setsIn rs ps k = map (recordAt rs) (take k ps)
-
+-- the groups of the Sets in the first k of the places ps
 unfoldable pub groupsIn : List ℕ → List ℕ → ℕ → List ℕ
 groupsIn rs ps k = groupsOf (setsIn rs ps k)
 

@@ -9,14 +9,15 @@ use table_drawing::Counters;
 ghost use mathlib.Core.Path.{_≡_};
 ghost use Prim.Native.Nat.{_≤_};
 ghost use lib.ListN.{length};
-ghost use Rattle.edit_causal.specs.ConflictForms.{NoneItself};
+ghost use Rattle.edit_causal.specs.ConflictForms.{Proper};
 ghost use Rattle.edit_history.specs.EditsHeld.{mostRecords, editsOf, setsOn};
 ghost use Rattle.group_step.specs.GroupRows.{mostGroups, mostSets, settled};
 ghost use Rattle.group_engine.specs.SearchForms.{countTold};
+ghost use Rattle.group_limited.specs.LimitedForms.{setsIn};
 ghost use Rattle.table_drawing.specs.Tables.{tablesOf};
 ghost use Rattle.table_drawing.specs.AnswerNumbers.{numberOf};
 ghost use Rattle.table_engine.specs.Enumeration.{mostDecided, enumeration, enumerationIn, enumerationOf};
-ghost use Rattle.table_engine.specs.EngineForms.{setsIn, groupsIn, MaskedTo};
+ghost use Rattle.table_engine.specs.EngineForms.{groupsIn, MaskedTo};
 
 // The Sets of a box that the engine decides at most.
 pub const DECIDED: usize = 20;
@@ -29,15 +30,17 @@ pub struct Enumerated {
 
 // Puts down for each of the Sets in the k first places which of them conflict with it.
 fn put_masks(recs: &[u8], places: &[u16], k: usize, masks: &mut [u64])
-    requires { ⌜ (k ≤ length (now places)) × (k ≤ mostSets) × (k ≤ length (now masks)) ⌝ }
+    requires { ⌜ (k ≤ length (now places))
+        × (k ≤ mostDecided)
+        × (k ≤ length (now masks))
+        × Proper (setsIn (now recs) (now places) k) ⌝ }
     ensures { λ r. ⌜ MaskedTo k (setsIn (now (recs .entry)) (now (places .entry)) k) (now (masks .exit)) ⌝ }
 {
-    let mut i: usize = 0;
-    while i < k {
-        let e = edit_history::decode_at(recs, places[i] as usize);
-        masks[i] = table_index::conflicts_in(recs, places, k, e);
-        i += 1;
-    }
+    // what work space holds at first does not matter; zeros would be set by memset (docs/DECISIONS.md, 24)
+    let mut plain = [1u64; DECIDED];
+    let mut ctx = [1u64; DECIDED];
+    group_limited::put_rows(&mut plain, &mut ctx, recs, places, k);
+    group_context::put_conflicts(masks, &plain, &ctx, k);
 }
 
 // Puts the groups of the Sets in the k first places into out, ascending, and 0 behind them; says how many they are.
@@ -46,7 +49,7 @@ fn put_groups(recs: &[u8], places: &[u16], k: usize, out: &mut [u64]) -> usize
     requires { ⌜ (k ≤ length (now places))
         × (k ≤ mostDecided)
         × (length (now out) ≡ mostGroups)
-        × NoneItself (setsIn (now recs) (now places) k) ⌝ }
+        × Proper (setsIn (now recs) (now places) k) ⌝ }
     ensures { λ r. ⌜ (r ≡ countTold (groupsIn (now (recs .entry)) (now (places .entry)) k))
         × (now (out .exit)
         ≡ settled (groupsIn (now (recs .entry)) (now (places .entry)) k) (now (out .entry))) ⌝ }
@@ -62,7 +65,7 @@ fn enumerate_held(recs: &[u8], n: usize, s: Site, q: Seq, out: &mut [u64]) -> En
     requires { ⌜ (n ≤ mostRecords)
         × (length (setsOn s q (editsOf (now recs) n)) ≤ mostSets)
         × (length (now out) ≡ mostGroups)
-        × NoneItself (setsOn s q (editsOf (now recs) n)) ⌝ }
+        × Proper (setsOn s q (editsOf (now recs) n)) ⌝ }
     ensures { λ r. ⌜ enumeration (numberOf (r .answer)) (r .count) (now (out .exit))
         ≡ enumerationIn (editsOf (now (recs .entry)) n) s q (now (out .entry)) ⌝ }
 {

@@ -1,5 +1,5 @@
 pub mod PlacesOfSets
 pub mod OneRecordMore
 pub mod SameEdits
-pub mod ConflictsInPlaces
+pub mod MarksInPlaces
 pub mod SurveyByIndex

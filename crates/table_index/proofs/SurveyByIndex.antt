@@ -20,9 +20,8 @@ use Rattle.edit_record.specs.Layout.{mostSites}
 use Rattle.edit_record.specs.Answer1.{isCreate, isSet, unfit}
 use Rattle.edit_record.proofs.WellFormed.{well-formed, create-aims-nowhere, set-aimed}
 use Rattle.edit_causal.specs.Causal.{sameEdit}
-use Rattle.edit_causal.specs.Conflict.{conflictsWith}
 use Rattle.edit_causal.proofs.Identities.{same-site, same-seq}
-use Rattle.edit_causal.proofs.ConflictsAmongSets.{none-marked}
+use Rattle.edit_causal.proofs.PlainMarks.{none-marked}
 use Rattle.edit_history.specs.EditsHeld.{recordAt, editsOf, creates, isSetOn, setsOn, isTarget, indexOf, objectOf}
 use Rattle.edit_history.specs.Answers2to5.{isTorn}
 use Rattle.edit_history.specs.SurveyForms.{repeatedAgainst, earlyAgainst, surveyOf}
@@ -33,7 +32,8 @@ use Rattle.edit_history.proofs.RecordsPassed.{InTurn, in-turn, formed-at, one-p
 use Rattle.edit_walk.proofs.LatestDecides.{torn-same, target-same}
 use Rattle.group_step.specs.GroupRows.{mostObjects, mostSets}
 use Rattle.table_drawing.specs.declared.Counters.{Counters}
-use Rattle.table_index.specs.IndexForms.{numberAt, placesOn, IndexOf, Holds}
+use Rattle.table_index.specs.IndexForms.{numberAt, placesOn, IndexOf, Holds, matesOf}
+use Rattle.table_index.specs.declared.Mates.{Mates}
 use Rattle.table_index.proofs.PlacesOfSets.{places-sets, places-length, row-places}
 
 module _
@@ -184,8 +184,9 @@ module _
 
     pub create-surveyed :
         (torn : Bool) → torn ≡ isTorn es e →
-        record { torn = torn; found = false; object = c .objects; sets = 0; conflicts = 0 } ≡ surveyOf es e
-    unfolding surveyOf
+        record { torn = torn; found = false; object = c .objects; sets = 0; plain = 0; limited = false }
+        ≡ surveyOf es e
+    unfolding surveyOf any
     create-surveyed torn y =
         rw (y, none-among e n not-target, object-none e n not-target, none-on, none-marked e, h .objects)
 
@@ -241,8 +242,16 @@ module _
         rw at (at-place q l t)
 
     pub target-surveyed :
-        (torn : Bool) (k : ℕ) (m : ℕ) → torn ≡ isTorn es e → k ≡ getD cs (objectOf e es) 0 →
-        m ≡ conflictsWith e (setsOn (e .tsite) (e .tseq) es) →
-        record { torn = torn; found = true; object = objectOf e es; sets = k; conflicts = m } ≡ surveyOf es e
+        (torn : Bool) (k : ℕ) (m : Mates) → torn ≡ isTorn es e → k ≡ getD cs (objectOf e es) 0 →
+        m ≡ matesOf e (setsOn (e .tsite) (e .tseq) es) →
+        record {
+          torn = torn;
+          found = true;
+          object = objectOf e es;
+          sets = k;
+          plain = m .plain;
+          limited = m .limited;
+        }
+        ≡ surveyOf es e
     unfolding surveyOf
     target-surveyed torn k m y z w = rw (y, z, w, held, aimed .count)

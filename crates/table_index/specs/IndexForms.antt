@@ -8,16 +8,20 @@ use mathlib.Core.List.{List}
 use Prim.Native.Nat.{ℕ, _+_, _*_, _≤_, _<_}
 use lib.ListN.{getD, length}
 use Rattle.math_lists.specs.NumbersBelow.{keep}
+use Rattle.math_lists.specs.SortedLists.{any}
 use Rattle.edit_record.specs.declared.Site.{Site}
 use Rattle.edit_record.specs.declared.Seq.{Seq}
 use Rattle.edit_record.specs.Layout.{mostSites}
-use Rattle.edit_record.specs.Answer1.{isCreate}
+use Rattle.edit_record.specs.declared.Edit.{Edit}
+use Rattle.edit_record.specs.Answer1.{isCreate, isLimited}
+use Rattle.edit_causal.specs.ConflictForms.{plainMarks}
 use Rattle.edit_history.specs.EditsHeld.{mostRecords, recordAt, editsOf, creates, isSetOn, setsOn}
 use Rattle.edit_history.specs.Answers2to5.{recordsPass}
 use Rattle.edit_history.specs.SurveyForms.{Counted}
 use Rattle.edit_walk.specs.WalkForms.{placesLength, Indexed}
 use Rattle.group_step.specs.GroupRows.{mostObjects, mostSets}
 use Rattle.table_drawing.specs.declared.Counters.{Counters}
+use Rattle.table_index.specs.declared.Mates.{Mates}
 
 -- the number of the object whose Create stands in place p: how many Creates stand before it
 abbrev pub numberAt : List ℕ → ℕ → ℕ
@@ -58,3 +62,7 @@ pub record Holds (c : Counters) (rs : List ℕ) : Type 0 where
   pub held : Counted (c .held) (editsOf rs (c .records))
   pub objects : c .objects ≡ numberAt rs (c .records)
   pub few-sets : (s : Site) (q : Seq) → length (setsOn s q (editsOf rs (c .records))) ≤ mostSets
+
+-- of the Sets ms of an object, those that conflict with e by document 01's rule, and whether one is limited
+abbrev pub matesOf : Edit → List Edit → Mates
+matesOf e ms = record { plain = plainMarks e ms; limited = any isLimited ms }

@@ -7,7 +7,6 @@ use edit_record::AT_SITE;
 use edit_record::CREATE;
 use edit_record::Edit;
 use edit_record::PLACE;
-use edit_record::SET;
 use edit_record::SITES;
 use edit_record::Seq;
 use edit_record::Site;
@@ -17,21 +16,28 @@ use table_drawing::Counters;
 use table_drawing::entries::at16;
 ghost use mathlib.Core.Path.{_≡_};
 ghost use mathlib.Core.Bool.{not, _||_};
-ghost use mathlib.Core.List.{map};
 ghost use Prim.Native.Nat.{_+_, _*_, _≤_, _<_};
-ghost use lib.ListN.{length, getD, set, take, replicate};
+ghost use lib.ListN.{length, getD, set, replicate};
 ghost use Rattle.edit_record.specs.Layout.{mostSites};
 ghost use Rattle.edit_record.specs.Answer1.{unfit};
-ghost use Rattle.edit_causal.specs.Conflict.{doConflict, conflictsWith};
+ghost use Rattle.edit_causal.specs.Conflict.{doConflict};
+ghost use Rattle.edit_causal.specs.ConflictForms.{plainMarks};
 ghost use Rattle.edit_history.specs.EditsHeld.{mostRecords, recordAt, editsOf};
 ghost use Rattle.edit_history.specs.SurveyForms.{surveyOf, repeatedAgainst, earlyAgainst};
 ghost use Rattle.edit_walk.specs.WalkForms.{placesLength, slotOf, Spaced, SameStarts, countIn};
 ghost use Rattle.group_step.specs.GroupRows.{mostObjects, mostSets};
+ghost use Rattle.group_limited.specs.LimitedForms.{setsIn};
 ghost use Rattle.table_drawing.specs.declared.Counters.{Counters};
-ghost use Rattle.table_index.specs.IndexForms.{numberAt, membersLength, IndexOf, Holds};
+ghost use Rattle.table_index.specs.IndexForms.{numberAt, membersLength, IndexOf, Holds, matesOf};
 
 // The entries of all rows of places.
 pub const MEMBERS: usize = OBJECTS * SETS;
+
+// Of the Sets of an object, those that conflict with an edit by document 01's rule, and whether one is limited.
+struct Mates {
+    plain: u64,
+    limited: bool,
+}
 
 // Where the index has the edit in place p of the records.
 fn spot(recs: &[u8], places: &[u16], p: usize) -> usize
@@ -87,7 +93,7 @@ pub fn add(
         numbers[p] = m;
         return m + 1;
     }
-    if kind != SET {
+    if !edit_record::is_set_kind(kind) {
         return m;
     }
     let q = edit_walk::target_place(recs, places, p);
@@ -133,10 +139,10 @@ pub fn is_conflict_at(recs: &[u8], p: u16, e: Edit) -> bool
     edit_causal::is_conflict(a, e)
 }
 
-// Which of the edits in the k first places conflict with e, bit i for the i-th.
-pub fn conflicts_in(recs: &[u8], places: &[u16], k: usize, e: Edit) -> u64
+// Which of the edits in the k first places conflict with e by document 01's rule, bit i for the i-th.
+pub fn plain_marks(recs: &[u8], places: &[u16], k: usize, e: Edit) -> u64
     requires { ⌜ (k ≤ length (now places)) × (k ≤ mostSets) ⌝ }
-    ensures { λ r. ⌜ r ≡ conflictsWith e (map (recordAt (now (recs .entry))) (take k (now (places .entry)))) ⌝ }
+    ensures { λ r. ⌜ r ≡ plainMarks e (setsIn (now (recs .entry)) (now (places .entry)) k) ⌝ }
 {
     let mut marks: u64 = 0;
     let mut i: usize = 0;
@@ -146,6 +152,16 @@ pub fn conflicts_in(recs: &[u8], places: &[u16], k: usize, e: Edit) -> u64
         i += 1;
     }
     marks
+}
+
+// The same, and whether one of those edits is limited.
+fn mates_in(recs: &[u8], places: &[u16], k: usize, e: Edit) -> Mates
+    requires { ⌜ (k ≤ length (now places)) × (k ≤ mostSets) ⌝ }
+    ensures { λ r. ⌜ r ≡ matesOf e (setsIn (now (recs .entry)) (now (places .entry)) k) ⌝ }
+{
+    let plain = plain_marks(recs, places, k, e);
+    let limited = group_limited::is_any_limited(recs, places, k);
+    Mates { plain, limited }
 }
 
 // Whether none of 1 to 3 applies to the edit, where so many edits of each site are held. It says as well what the type
@@ -185,7 +201,8 @@ pub fn survey(
             found: false,
             object: c.objects as usize,
             sets: 0,
-            conflicts: 0,
+            plain: 0,
+            limited: false,
         };
     }
     if !edit_walk::is_target_held(held, recs, places, e) {
@@ -194,12 +211,13 @@ pub fn survey(
     let q = edit_walk::place_at(places, e.tsite, e.tseq);
     let o = at16(numbers, q as usize) as usize;
     let k = at16(counts, o) as usize;
-    let conflicts = conflicts_in(recs, &members[o * SETS..], k, e);
+    let m = mates_in(recs, &members[o * SETS..], k, e);
     Surveyed {
         torn,
         found: true,
         object: o,
         sets: k,
-        conflicts,
+        plain: m.plain,
+        limited: m.limited,
     }
 }

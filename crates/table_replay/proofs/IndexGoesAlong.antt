@@ -20,7 +20,8 @@ use Rattle.table_index.specs.IndexForms.{numberAt, IndexOf, Holds}
 use Rattle.table_index.proofs.SameEdits.{number-same, index-same}
 use Rattle.table_arrival.specs.Arrival.{putRecord, taken, acceptanceOf}
 use Rattle.table_arrival.specs.Answers6and7.{answerTo}
-use Rattle.table_arrival.proofs.RecordsOneMore.{put-before, put-edits}
+use Rattle.table_arrival.proofs.RecordsOneMore.{Room, put-before, put-edits}
+use Rattle.table_arrival.proofs.UntouchedSound.{room}
 use Rattle.table_arrival.proofs.Admitted.{accepted, was-taken, taken-records}
 use Rattle.table_arrival.proofs.ArrivalKeepsSound.{acceptance-keeps}
 use Rattle.table_arrival.proofs.CodeInHand.{holds}
@@ -47,23 +48,20 @@ module _
   pub counted-on : t′ .counters .records ≡ t .counters .records + 1
   counted-on = ap (λ (u : Tables). u .counters .records) is-taken ∙ taken-records t b .1
 
+  has-room : Room (t .records) (t .counters .records) b
+  has-room = room t b (sound-at t s) wide (accepted t b answered .admitted)
+
   -- those before it are as they were
   stay : (p : ℕ) → p < t .counters .records → recordAt (t .records) p ≡ recordAt (t′ .records) p
   stay p l =
-      let x = accepted t b answered .admitted in
-      let k = sound-at t s in
-      sym
-      (ap (λ (rs : List ℕ). recordAt rs p) grown
-      ∙ put-before (t .records) (t .counters .records) b (x .whole) (omega (arith, k .records-long, x .room)) p l)
+      sym (ap (λ (rs : List ℕ). recordAt rs p) grown ∙ put-before (t .records) (t .counters .records) b has-room p l)
 
   edits-on :
       editsOf (t′ .records) (suc (t .counters .records))
       ≡ editsOf (t .records) (t .counters .records) ++ (decodeOf b ∷ [])
   edits-on =
-      let x = accepted t b answered .admitted in
-      let k = sound-at t s in
       ap (λ (rs : List ℕ). editsOf rs (suc (t .counters .records))) grown
-      ∙ put-edits (t .records) (t .counters .records) b (x .whole) (omega (arith, k .records-long, x .room))
+      ∙ put-edits (t .records) (t .counters .records) b has-room
 
   -- ---- what the index needs
 

@@ -4,24 +4,23 @@ use mathlib.Core.Path.{_≡_, refl, sym, ap, ap₂, _∙_}
 use mathlib.Core.Logic.{inl, inr}
 use mathlib.Core.Bool.{Bool, true, false, cond}
 use mathlib.Core.List.{List, [], _∷_, _++_}
-use Prim.Native.Nat.{ℕ, zero, suc, _+_, _*_, _≤_, _<_}
+use Prim.Native.Nat.{ℕ, zero, suc, _+_, _<_}
 use native.Mathlib.Omega.{arith}
 use native.Mathlib.Numerals.{add-one}
-use lib.ListN.{length}
 use lib.Dec.{eqb}
 use borrow.Author.Tests.{eqb-true, eqb-false, eq-eqb}
 use Rattle.math_lists.proofs.LastBelow.{last}
-use Rattle.edit_record.specs.Layout.{placeLength}
 use Rattle.edit_record.specs.declared.Edit.{Edit}
 use Rattle.edit_record.specs.RecordBytes.{decodeOf}
 use Rattle.edit_history.specs.EditsHeld.{bytesAt, editsOf}
 use Rattle.edit_history.proofs.FieldsInPlace.{bytes-decoded}
 use Rattle.table_drawing.specs.Tables.{Tables, emptyDrawing, sitesRight}
+use Rattle.edit_history.proofs.RecordsPassed.{few-at}
 use Rattle.table_drawing.specs.AnswerNumbers.{outcomeOf}
 use Rattle.table_soundness.proofs.SoundFacts.{Sound}
 use Rattle.table_arrival.specs.Arrival.{putRecord, acceptanceOf}
-use Rattle.table_arrival.proofs.Admitted.{Accepted, accepted, was-taken, taken-records}
-use Rattle.table_arrival.proofs.RecordsOneMore.{put-bytes-here, put-bytes-before}
+use Rattle.table_arrival.proofs.Admitted.{Accepted, accepted, admitted-span, was-taken, taken-records}
+use Rattle.table_arrival.proofs.RecordsOneMore.{Room, put-bytes-here, put-bytes-before}
 use Rattle.table_replay.specs.Replay.{Replayed, replayed, oneMore, replayOf, editsIn}
 use Rattle.table_replay.proofs.ReplayGoes.{Going, going-faithful}
 
@@ -100,8 +99,11 @@ holds sites rs right (suc n) t g =
     let a : Accepted u b = accepted u b zero-answer in
     let s : Sound u = going-faithful sites rs right n u before .kept .isSound in
     let h = holds sites rs right n u before in
-    let room : n * placeLength + placeLength ≤ length (u .records)
-    = omega (arith, s .records-long, a .admitted .room, h .count) in
+    let room : Room (u .records) n b = record {
+      whole = a .admitted .whole;
+      short = admitted-span u b (a .admitted);
+      there = omega (arith, s .records-long, a .admitted .room, h .count);
+    } in
     let (records, count, sites-are) = taken-records u b in
     let put : t .records ≡ putRecord (u .records) n b
     = ap (λ (x : Tables). x .records) is ∙ records ∙ ap (λ (k : ℕ). putRecord (u .records) k b) (h .count) in
@@ -111,8 +113,11 @@ holds sites rs right (suc n) t g =
       bytes =
           λ p l. ap (λ (x : List ℕ). bytesAt x p) put
           ∙ elim (last l) [
-            | inl m ↦ put-bytes-before (u .records) n b (a .admitted .whole) room p m ∙ h .bytes p m
-            | inr e ↦ rw e (put-bytes-here (u .records) n b (a .admitted .whole) room)
+            | inl m ↦
+                put-bytes-before (u .records) n b room p m
+                (few-at (u .counters .sites) (u .records) (u .counters .records) (s .pass) p (omega (arith, h .count)))
+                ∙ h .bytes p m
+            | inr e ↦ rw e (put-bytes-here (u .records) n b room)
           ];
     }
 

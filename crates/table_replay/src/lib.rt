@@ -1,4 +1,5 @@
 // Records taken one after another from an empty drawing.
+use edit_form::OLD;
 use edit_history::RECORDS;
 use edit_record::SITES;
 use edit_walk::PLACES;
@@ -9,21 +10,17 @@ use table_drawing::Counters;
 use table_index::MEMBERS;
 ghost use mathlib.Core.Path.{_≡_};
 ghost use mathlib.Core.Bool.{true};
-ghost use mathlib.Core.List.{[], _∷_, _++_};
 ghost use Prim.Native.Nat.{_≤_};
 ghost use lib.ListN.{length};
-ghost use Rattle.edit_record.specs.Layout.{mostSites};
-ghost use Rattle.edit_record.specs.RecordBytes.{decodeOf};
-ghost use Rattle.edit_form.specs.OldForm.{startOf, storedIn};
-ghost use Rattle.edit_history.specs.EditsHeld.{mostRecords, editsOf, countFrom};
+ghost use Rattle.edit_form.specs.OldForm.{lengthFrom, longFrom, startOf, storedIn};
+ghost use Rattle.edit_history.specs.EditsHeld.{mostRecords, countFrom};
 ghost use Rattle.edit_history.specs.SurveyForms.{Counted};
-ghost use Rattle.edit_walk.specs.WalkForms.{Spaced, SameStarts};
+ghost use Rattle.edit_walk.specs.WalkForms.{Spaced};
 ghost use Rattle.table_drawing.specs.Tables.{tablesOf, emptyDrawing, lengthsRight, sitesRight};
-ghost use Rattle.table_drawing.specs.AnswerNumbers.{outcomeOf, numberOf};
-ghost use Rattle.table_soundness.specs.Sound.{sound};
+ghost use Rattle.table_drawing.specs.AnswerNumbers.{numberOf};
 ghost use Rattle.table_index.specs.IndexForms.{IndexOf};
-ghost use Rattle.table_arrival.specs.Arrival.{acceptanceOf};
 ghost use Rattle.table_replay.specs.Replay.{replayed, replayOf, editsIn};
+ghost use Rattle.table_replay.specs.ReplayForms.{Takes, Leaves};
 
 // The answer to the first refused record and its index, or 0 and 0; and the counters after the records before it.
 pub struct Taken {
@@ -45,21 +42,17 @@ fn take_next(
     members: &mut [u16],
     rec: &[u8],
 ) -> Arrived
-    requires { ⌜ (sound (tablesOf c (now records) (now objects) (now groups)) ≡ true)
-        × (length (c .held) ≡ mostSites)
-        × IndexOf (now records) (c .records) (now places) (now numbers) (now counts) (now members)
-        × Spaced (λ s. countFrom s (editsOf (now records) (c .records) ++ (decodeOf (now rec) ∷ []))) (now places) ⌝ }
-    ensures { λ r. ⌜ (outcomeOf (numberOf (r .answer))
+    requires { ⌜ Takes (tablesOf c (now records) (now objects) (now groups)) (now places) (now numbers) (now counts)
+        (now members) (now rec) ⌝ }
+    ensures { λ r. ⌜ Leaves (tablesOf c (now (records .entry)) (now (objects .entry)) (now (groups .entry)))
+        (now (rec .entry)) (numberOf (r .answer))
         (tablesOf (r .counters) (now (records .exit)) (now (objects .exit)) (now (groups .exit)))
-        ≡ acceptanceOf (tablesOf c (now (records .entry)) (now (objects .entry)) (now (groups .entry)))
-        (now (rec .entry)))
-        × (numberOf (r .answer) ≡ 0 → IndexOf (now (records .exit)) (r .counters .records) (now (places .exit))
-        (now (numbers .exit)) (now (counts .exit)) (now (members .exit))
-        × SameStarts (now (places .entry)) (now (places .exit))) ⌝ }
+        (now (places .entry)) (now (places .exit)) (now (numbers .exit)) (now (counts .exit)) (now (members .exit)) ⌝ }
 {
     let e = edit_record::decode(rec);
     let v = table_index::survey(c, records, places, numbers, counts, members, e);
-    let a = table_arrival::accept(c, records, objects, groups, rec, e, v);
+    let j = table_arrival::judge(records, c.records as usize, e, v);
+    let a = table_arrival::accept(c, records, objects, groups, rec, e, v, j);
     let answer = a.answer;
     if table_drawing::number(answer) == 0 {
         table_index::add(
@@ -73,6 +66,57 @@ fn take_next(
         );
     }
     a
+}
+
+// Takes the record at the front of what is left of a stretch in a form: an old one as a long one, a long one where it
+// stands.
+fn take_one(
+    c: Counters,
+    records: &mut [u8],
+    objects: &mut [u16],
+    groups: &mut [u64],
+    places: &mut [u16],
+    numbers: &mut [u16],
+    counts: &mut [u16],
+    members: &mut [u16],
+    rest: &[u8],
+    form: u8,
+) -> Arrived
+    requires { ⌜ Takes (tablesOf c (now records) (now objects) (now groups)) (now places) (now numbers) (now counts)
+        (now members) (longFrom form (now rest))
+        × (lengthFrom form (now rest) ≤ length (now rest)) ⌝ }
+    ensures { λ r. ⌜ Leaves (tablesOf c (now (records .entry)) (now (objects .entry)) (now (groups .entry)))
+        (longFrom form (now (rest .entry))) (numberOf (r .answer))
+        (tablesOf (r .counters) (now (records .exit)) (now (objects .exit)) (now (groups .exit)))
+        (now (places .entry)) (now (places .exit)) (now (numbers .exit)) (now (counts .exit)) (now (members .exit)) ⌝ }
+{
+    if form == OLD {
+        let wide = edit_form::widened_from(rest);
+        return take_next(
+            c,
+            records,
+            objects,
+            groups,
+            places,
+            numbers,
+            counts,
+            members,
+            &wide,
+        );
+    }
+    let used = edit_form::length_from(rest, form);
+    let rec = &rest[..used];
+    take_next(
+        c,
+        records,
+        objects,
+        groups,
+        places,
+        numbers,
+        counts,
+        members,
+        rec,
+    )
 }
 
 // How many of the first n records of a stretch name each site.
@@ -125,9 +169,8 @@ fn take_records(
     let mut i: usize = 0;
     while i < n {
         let rest = &recs[at..];
-        let rec = edit_form::long_from(rest, form);
         at = at + edit_form::length_from(rest, form);
-        let a = take_next(
+        let a = take_one(
             c,
             records,
             objects,
@@ -136,7 +179,8 @@ fn take_records(
             numbers,
             counts,
             members,
-            &rec,
+            rest,
+            form,
         );
         let next = a.counters;
         let answer = a.answer;

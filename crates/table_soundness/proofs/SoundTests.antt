@@ -8,10 +8,11 @@ use lib.ListN.{getD, length}
 use borrow.Author.Tests.{eqb-true, leb-true, lt-ltb, le-ltb, le-leb, lt-leb, not-false}
 use Rattle.math_lists.specs.NumbersBelow.{all}
 use Rattle.math_lists.proofs.Booleans.{both}
-use Rattle.math_lists.proofs.NumbersBelow.{all-same}
+use Rattle.math_lists.proofs.NumbersBelow.{all-same, all-at}
 use Rattle.edit_record.specs.Layout.{mostSites, placeLength}
 use Rattle.edit_record.proofs.WellFormed.{set-aimed}
 use Rattle.edit_history.specs.Answers2to5.{recordsPass}
+use Rattle.edit_history.specs.Answer16.{recordsNamed}
 use Rattle.edit_history.specs.EditsHeld.{mostRecords, recordAt, creates, countFrom}
 use Rattle.edit_sum.specs.WordSum.{sumHeld}
 use Rattle.edit_walk.specs.declared.Walked.{Walked}
@@ -22,8 +23,10 @@ use Rattle.group_step.specs.GroupRows.{mostObjects, mostGroups}
 use Rattle.table_drawing.specs.declared.Counters.{Counters}
 use Rattle.table_drawing.specs.Tables.{Tables, entryLength, heldBy, recordsLength, objectsLength, groupsLength}
 use Rattle.table_drawing.specs.Tables.{lengthsRight, sitesRight}
-use Rattle.table_soundness.specs.Sound.{withinLimits, countsAgree, objectSound, zeroFrom, sound}
-use Rattle.table_soundness.specs.SoundnessForms.{Targeted, Passed}
+use Rattle.table_soundness.specs.Sound.{withinLimits, countsAgree, objectSound, zeroFrom, restZero, sound}
+use Rattle.table_soundness.specs.SoundnessForms.{Targeted, FewSets, Passed}
+use Rattle.table_soundness.proofs.EachObject.{object-at}
+use Rattle.table_soundness.proofs.ObjectsByNumber.{entered-sets-few}
 
 -- ---- an entry
 
@@ -123,16 +126,47 @@ module _ (t : Tables) (hs ps : List ℕ) (w : Passed t hs ps) where
       ≡ all mostSites (λ s. eqb (getD given s 0) (countFrom s (heldBy t)))
   same-counts = all-same mostSites _ _ (λ s l. ap (eqb (getD (t .counters .held) s 0)) (w .counted s l))
 
-  -- what is left to test of tables within their limits whose records pass
+  -- what is left to test of tables within their limits whose records pass, but for 16
+  abbrev each? : Bool
+  each? = all (t .counters .objects) (objectSound (t .records) (t .counters .records) (t .objects) (t .groups))
+
+  abbrev made? : Bool
+  made? = eqb (t .counters .objects) (length (creates (heldBy t)))
+
+  abbrev zero? : Bool
+  zero? =
+      zeroFrom (t .records) (t .counters .records * placeLength)
+      && zeroFrom (t .objects) (t .counters .objects * entryLength)
+      && zeroFrom (t .groups) (t .counters .objects * mostGroups)
+
+  abbrev added? : Bool
+  added? = eqb (t .counters .sum) (sumHeld (t .counters .records) (t .records))
+
+  abbrev counts? : Bool
+  counts? = all mostSites (λ s. eqb (getD (t .counters .held) s 0) (getD hs s 0))
+
+  abbrev rests? : Bool
+  rests? = all (t .counters .records) (restZero (t .records))
+
   pub rest-is :
-      let c = t .counters in
-      (all mostSites (λ s. eqb (getD (c .held) s 0) (getD hs s 0))
-      && eqb (c .sum) (sumHeld (c .records) (t .records))
-      && (eqb (c .objects) (length (creates (heldBy t)))
-      && all (c .objects) (objectSound (t .records) (c .records) (t .objects) (t .groups)))
-      && (zeroFrom (t .records) (c .records * placeLength)
-      && zeroFrom (t .objects) (c .objects * entryLength)
-      && zeroFrom (t .groups) (c .objects * mostGroups)))
+      (counts? && added? && (made? && each?) && zero? && rests? && recordsNamed (t .records) (t .counters .records))
       ≡ sound t
   unfolding sound countsAgree
   rest-is = rw (same-counts, w .lengths, w .limits, w .pass) (simp (and-assoc, and-true))
+
+  -- where it holds no object has too many Sets
+  pub rest-few :
+      (counts? && added? && (made? && each?) && zero? && rests?) ≡ true → FewSets (t .records) (t .counters .records)
+  rest-few h =
+      let (h2, _) = both (counts? && added? && (made? && each?) && zero?) rests? h in
+      let (h1, _) = both (counts? && added? && (made? && each?)) zero? h2 in
+      let (_, objects) = both (counts? && added?) (made? && each?) h1 in
+      let (made, each) = both made? each? objects in
+      entered-sets-few t (record {
+        objects = eqb-true (t .counters .objects) (length (creates (heldBy t))) made;
+        pass = w .pass;
+        object = λ o l.
+            object-at (t .records) (t .counters .records) (t .objects) (t .groups) o
+            (all-at (t .counters .objects)
+            (objectSound (t .records) (t .counters .records) (t .objects) (t .groups)) each o l);
+      })

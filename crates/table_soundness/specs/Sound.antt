@@ -1,16 +1,19 @@
 -- When tables are sound, in the order of document 01's sentence: counts within the limits that agree with the records;
 -- records that pass 1 to 5 in their order; objects in the order of their Creates, each with 1 to 32 groups in strictly
--- ascending order with no bit at or past its number of Sets; every unused entry zero. Assumes nothing.
+-- ascending order with no bit at or past its number of Sets; every unused entry zero. Then what document 02's Req 06
+-- adds: places that are zero past their records, and 16. Assumes nothing.
 use Prim.Native.Nat.{ℕ, _+_, _*_, _^_}
 use mathlib.Core.List.{List}
 use mathlib.Core.Bool.{Bool, _&&_, _||_}
-use lib.ListN.{getD, length}
+use lib.ListN.{getD, length, take, drop}
 use lib.Dec.{eqb, leb, ltb}
 use Rattle.math_lists.specs.NumbersBelow.{all}
 use Rattle.edit_record.specs.Layout.{mostSites, placeLength}
+use Rattle.edit_record.specs.RecordBytes.{spanOf}
 use Rattle.edit_record.specs.Answer1.{isCreate}
 use Rattle.edit_history.specs.EditsHeld.{recordAt, editsOf, countFrom, creates, setsOn, mostRecords}
 use Rattle.edit_history.specs.Answers2to5.{recordsPass}
+use Rattle.edit_history.specs.Answer16.{recordsNamed}
 use Rattle.edit_sum.specs.WordSum.{sumHeld}
 use Rattle.group_step.specs.GroupRows.{mostObjects, mostSets, mostGroups}
 use Rattle.table_drawing.specs.declared.Counters.{Counters}
@@ -61,6 +64,10 @@ objectSound rs n os gs o =
 unfoldable pub zeroFrom : List ℕ → ℕ → Bool
 zeroFrom l k = all (length l) (λ i. ltb i k || eqb (getD l i 0) 0)
 
+-- place p of the records is zero past its record
+unfoldable pub restZero : List ℕ → ℕ → Bool
+restZero rs p = let place = take placeLength (drop (p * placeLength) rs) in zeroFrom place (spanOf place)
+
 unfoldable pub sound : Tables → Bool
 sound t =
     let c = t .counters in
@@ -72,3 +79,5 @@ sound t =
     && zeroFrom (t .records) (c .records * placeLength)
     && zeroFrom (t .objects) (c .objects * entryLength)
     && zeroFrom (t .groups) (c .objects * mostGroups)
+    && all (c .records) (restZero (t .records))
+    && recordsNamed (t .records) (c .records)

@@ -3,13 +3,16 @@
 use mathlib.Core.Path.{_≡_}
 use mathlib.Core.Bool.{true}
 use mathlib.Core.List.{List}
-use Prim.Native.Nat.{ℕ, _<_}
+use Prim.Native.Nat.{ℕ, _≤_, _<_}
 use lib.ListN.{getD, length}
+use Rattle.edit_record.specs.declared.Site.{Site}
+use Rattle.edit_record.specs.declared.Seq.{Seq}
 use Rattle.edit_record.specs.Layout.{mostSites}
 use Rattle.edit_record.specs.Answer1.{isCreate, isSet}
 use Rattle.edit_history.specs.EditsHeld.{recordAt, editsOf, countFrom, creates, setsOn}
 use Rattle.edit_history.specs.Answers2to5.{recordsPass}
 use Rattle.edit_walk.specs.WalkForms.{Indexed}
+use Rattle.group_step.specs.GroupRows.{mostSets}
 use Rattle.table_drawing.specs.Tables.{Tables, heldBy, lengthsRight}
 use Rattle.table_soundness.specs.Sound.{withinLimits}
 
@@ -37,6 +40,10 @@ Numbered rs n ns = (p : ℕ) → p < n → getD ns p 0 ≡ length (creates (edit
 abbrev pub Tallied : List ℕ → ℕ → List ℕ → Type 0
 Tallied rs n ts =
     (p : ℕ) → p < n → getD ts p 0 ≡ length (setsOn (recordAt rs p .site) (recordAt rs p .seq) (editsOf rs n))
+
+-- no object has more Sets, among the first n records, than it may have
+abbrev pub FewSets : List ℕ → ℕ → Type 0
+FewSets rs n = (s : Site) (q : Seq) → length (setsOn s q (editsOf rs n)) ≤ mostSets
 
 -- ---- what is known of tables once their limits are tested and their records walked
 

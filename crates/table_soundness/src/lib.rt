@@ -20,10 +20,11 @@ ghost use Rattle.math_lists.specs.NumbersBelow.{all};
 ghost use Rattle.group_step.specs.GroupRows.{mostObjects, mostGroups};
 ghost use Rattle.edit_record.specs.Layout.{mostSites, placeLength};
 ghost use Rattle.edit_history.specs.EditsHeld.{mostRecords};
+ghost use Rattle.edit_history.specs.Answer16.{recordsNamed};
 ghost use Rattle.edit_walk.specs.WalkForms.{placesLength, Indexed};
 ghost use Rattle.table_drawing.specs.Tables.{entryLength, tablesOf};
 ghost use Rattle.table_soundness.specs.Sound.{withinLimits, zeroFrom, sound};
-ghost use Rattle.table_soundness.specs.SoundnessForms.{Passed};
+ghost use Rattle.table_soundness.specs.SoundnessForms.{Passed, FewSets};
 
 // Whether the counters are within their limits.
 fn within_limits(c: Counters) -> bool
@@ -60,7 +61,8 @@ fn unused_zero(records: &[u8], objects: &[u16], groups: &[u64], n: usize, m: usi
     a & b & d
 }
 
-// Whether tables within their limits whose records pass are sound, by the counts and the index that the records gave.
+// Whether tables within their limits whose records pass are sound but for 16, by the counts and the index that the
+// records gave; then no object has more Sets than it may have.
 fn rest_sound(
     c: Counters,
     held: [u16; SITES],
@@ -70,7 +72,9 @@ fn rest_sound(
     groups: &[u64],
 ) -> bool
     requires { ⌜ Passed (tablesOf c (now records) (now objects) (now groups)) held (now places) ⌝ }
-    ensures { λ r. ⌜ r ≡ sound (tablesOf c (now (records .entry)) (now (objects .entry)) (now (groups .entry))) ⌝ }
+    ensures { λ r. ⌜ ((r && recordsNamed (now (records .entry)) (c .records))
+        ≡ sound (tablesOf c (now (records .entry)) (now (objects .entry)) (now (groups .entry))))
+        × (r ≡ true → FewSets (now (records .entry)) (c .records)) ⌝ }
 {
     let given = c.held;
     let kept = c.sum;
@@ -80,7 +84,8 @@ fn rest_sound(
     let added = edit_sum::sum_records(records, n);
     let drawing = objects::drawing_sound(records, n, places, objects, groups, m);
     let zero = unused_zero(records, objects, groups, n, m);
-    agree & (kept == added) & drawing & zero
+    let rests = unused::are_rests_zero(records, n);
+    agree & (kept == added) & drawing & zero & rests
 }
 
 // Whether the tables are sound, whatever stands in them; if they are, places is the index of their records. The records
@@ -108,7 +113,10 @@ pub fn is_sound_with(
         return false;
     }
     let held = w.held;
-    rest_sound(c, held, places, records, objects, groups)
+    if !rest_sound(c, held, places, records, objects, groups) {
+        return false;
+    }
+    group_named::are_all_named(records, c.records as usize)
 }
 
 // Whether the tables are sound, whatever stands in them.

@@ -2,7 +2,6 @@
 // what each object is then tested by, so that no object is held against every record.
 use edit_history::RECORDS;
 use edit_record::CREATE;
-use edit_record::SET;
 use edit_record::byte_at;
 use group_step::GROUPS;
 use group_step::SETS;
@@ -99,7 +98,7 @@ fn tally_sets(recs: &[u8], n: usize, places: &[u16], tallies: &mut [u8])
     while i < n {
         let kind = edit_history::kind_at(recs, i);
         let p = edit_walk::target_place(recs, places, i) as usize;
-        let more = one_if(kind == SET);
+        let more = one_if(edit_record::is_set_kind(kind));
         if p < RECORDS {
             tallies[p] = tallies[p] + more;
         }

@@ -57,41 +57,33 @@ returns c =
     (sym (l .is-left .ensures) ∙ not-true (l .is-left .result) (c .before .before .if1 .taken)) in
     rw (none, c .decode .ensures)
 
-sub-long-from : tie.Need-sub-long-from
-sub-long-from c = omega (arith, room c)
+sub-edit-from : tie.Need-sub-edit-from
+sub-edit-from c = omega (arith, room c)
 
-part-long-from-start : tie.Need-part-long-from-start
-part-long-from-start c = omega (arith, room c)
+part-edit-from-start : tie.Need-part-edit-from-start
+part-edit-from-start c = omega (arith, room c)
 
-part-long-from-end : tie.Need-part-long-from-end
-part-long-from-end c = search needs
+part-edit-from-end : tie.Need-part-edit-from-end
+part-edit-from-end c = search needs
 
-long-from-requires : tie.Need-long-from-requires
-long-from-requires c κs =
+edit-from-requires : tie.Need-edit-from-requires
+edit-from-requires c κs =
     let a = c .before .before .before .before .before .args in
     rw (from-place (now (a .stretch)) (a .place)) (simp length-drop (omega (arith, room (c .before))))
 
-slice-aggregate-decode-2 : tie.Need-slice-aggregate-decode-2
-slice-aggregate-decode-2 c = search needs
-
-decode-requires-2 : tie.Need-decode-requires-2
-decode-requires-2 c κs = search needs
-
-add-t11 : tie.Need-add-t11
-add-t11 c =
-    let e = c .before .before .before .before in
+add-t10 : tie.Need-add-t10
+add-t10 c =
+    let e = c .before .before in
     omega (arith, e .before .before .bytes-at .ensures, room e)
 
 returns-2 : tie.Need-returns-2
 unfolding takenAt
 returns-2 c =
-    let f = c .before .before in
-    let e = f .before .before in
+    let e = c .before .before in
     let a = e .before .before .before .before .args in
     let s = now (a .stretch) in
     rw (
-      c .decode2 .ensures,
-      f .long-from .ensures,
+      c .edit-from .ensures,
       from-place s (a .place),
       le-leb (a .place + lengthFrom (a .form) (drop (a .place) s)) (length s) (room e),
       ← (e .before .before .bytes-at .ensures),
@@ -106,11 +98,9 @@ take-spec =
     slice-aggregate-decode
     decode-requires
     returns
-    sub-long-from
-    part-long-from-start
-    part-long-from-end
-    long-from-requires
-    slice-aggregate-decode-2
-    decode-requires-2
-    add-t11
+    sub-edit-from
+    part-edit-from-start
+    part-edit-from-end
+    edit-from-requires
+    add-t10
     returns-2)

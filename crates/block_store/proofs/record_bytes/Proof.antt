@@ -48,9 +48,9 @@ add-bytes c =
     let w = c .span-of .result in
     omega (
       arith,
-      held-most rs (a .n) (s .pre .1) (a .n) (omega arith),
+      held-most rs (a .n) (s .pre .1) (s .pre .2) (a .n) (omega arith),
       chained-inside (bytesAt rs) (l .i) (a .n) (r .loop-test .taken),
-      held-long rs (a .n) (s .pre .1) (l .i) (r .loop-test .taken) w (c .span-of .ensures),
+      held-long rs (a .n) (s .pre .1) (s .pre .2) (l .i) (r .loop-test .taken) w (c .span-of .ensures),
       l .inv .1,
       s .pre .0,
     )
@@ -69,7 +69,7 @@ loop-again c =
     let a = s .args in (
       omega arith,
       rw (add-one (l .i))
-          (held-next (now (a .records)) (a .n) (s .pre .1) (l .i) (r .loop-test .taken) (c .span-of .result)
+          (held-next (now (a .records)) (a .n) (s .pre .1) (s .pre .2) (l .i) (r .loop-test .taken) (c .span-of .result)
           (c .span-of .ensures) (l .bytes) (l .inv .1)),
     )
 

@@ -8,6 +8,7 @@ use denote.Ref.{now}
 use borrow.Author.Needs.{needs}
 use borrow.Author.Tests.{leb-true, not-true, not-false}
 use Rattle.edit_record.specs.Layout.{placeLength}
+use Rattle.edit_sum.proofs.SumOfRecords.{passing-fit}
 use Rattle.table_drawing.specs.Tables.{tablesOf}
 use Rattle.table_soundness.proofs.SoundFacts.{sound-at}
 use Rattle.block_store.specs.Writing.{blockOf}
@@ -32,8 +33,11 @@ record-bytes-requires c κs =
     let i = c .before in
     let a = i .before .before .before .before .before .before .args in
     let t = tablesOf (a .c) (now (a .records)) (now (a .objects)) (now (a .groups)) in
-    let s = sound-at t (sym (i .before .is-sound .ensures) ∙ not-false _ (i .if1 .left)) in
-    (s .few-records, omega (arith, s .few-records, s .records-long))
+    let s = sound-at t (sym (i .before .is-sound .ensures) ∙ not-false _ (i .if1 .left)) in (
+      s .few-records,
+      omega (arith, s .few-records, s .records-long),
+      passing-fit (a .c .sites) (now (a .records)) (a .c .records) (s .pass),
+    )
 
 add-bytes : tie.Need-add-bytes
 add-bytes c =
@@ -46,7 +50,7 @@ add-bytes c =
     omega (
       arith,
       c .record-bytes .ensures,
-      held-most (now (a .records)) n there n (omega arith),
+      held-most (now (a .records)) n there (passing-fit (a .c .sites) (now (a .records)) n (s .pass)) n (omega arith),
       s .few-records,
     )
 
@@ -86,6 +90,7 @@ write-block-requires c κs =
     let room = sym (r .has-room .ensures) ∙ not-false _ (c .before .if2 .left) in (
       s .few-records,
       omega (arith, s .few-records, s .records-long),
+      passing-fit (a .c .sites) (now (a .records)) (a .c .records) (s .pass),
       b .record-bytes .ensures,
       omega (arith, leb-true),
     )

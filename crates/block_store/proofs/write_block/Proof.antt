@@ -19,13 +19,18 @@ use Rattle.block_store.proofs.write_block.Tie as tie
 write-records-requires : tie.Need-write-records-requires
 write-records-requires c κs =
     let s = c .before .before .before in
-    (s .pre .0, s .pre .1, omega (arith, s .pre .2, s .pre .3))
+    (s .pre .0, s .pre .1, s .pre .2, omega (arith, s .pre .3, s .pre .4))
 
 trailer-bytes-requires : tie.Need-trailer-bytes-requires
 trailer-bytes-requires c κs =
     let s = c .before .before .before .before .before .before in
     let a = s .args in
-    omega (arith, held-most (now (a .records)) (a .n) (s .pre .1) (a .n) (omega arith), s .pre .0, s .pre .2)
+    omega (
+      arith,
+      held-most (now (a .records)) (a .n) (s .pre .1) (s .pre .2) (a .n) (omega arith),
+      s .pre .0,
+      s .pre .3,
+    )
 
 sub-copy-in : tie.Need-sub-copy-in
 sub-copy-in c = search needs
@@ -56,8 +61,8 @@ returns c =
     let front = chained (bytesAt (now (a .records))) (a .n) in
     let bytes = t .trailer-bytes .result in
     let whole = ap length (t .trailer-bytes .ensures) ∙ trailer-long (a .n) (a .sites) (a .end) in
-    block-put out front bytes (a .end) trailerLength (sym (s .pre .2))
-    (w .write-records .ensures ∙ ap (λ (k : ℕ). front ++ drop k out) (sym (s .pre .2)))
+    block-put out front bytes (a .end) trailerLength (sym (s .pre .3))
+    (w .write-records .ensures ∙ ap (λ (k : ℕ). front ++ drop k out) (sym (s .pre .3)))
     (y .copy-in .ensures ∙ rw (take-all trailerLength bytes (omega (arith, whole))))
     ∙ rw (t .trailer-bytes .ensures)
 

@@ -49,9 +49,10 @@ room c =
     omega (
       arith,
       chained-inside (bytesAt rs) (l .i) (a .n) (r .loop-test .taken),
-      held-long rs (a .n) (s .pre .1) (l .i) (r .loop-test .taken) (c .span-of .result) (c .span-of .ensures),
+      held-long rs (a .n) (s .pre .1) (s .pre .2) (l .i) (r .loop-test .taken) (c .span-of .result)
+          (c .span-of .ensures),
       l .inv .1,
-      s .pre .2,
+      s .pre .3,
     )
 
 loop-holds : tie.Need-loop-holds Inv-loop μ-loop
@@ -90,7 +91,7 @@ copy-in-requires c κs =
     let s = r .before .before .before .before in
     let a = s .args in (
       search (needs, room d, long-still (r .before)),
-      place-there (now (a .records)) (a .n) (s .pre .1) (l .i) (r .loop-test .taken) (d .span-of .result)
+      place-there (now (a .records)) (a .n) (s .pre .1) (s .pre .2) (l .i) (r .loop-test .taken) (d .span-of .result)
           (d .span-of .ensures),
     )
 
@@ -117,9 +118,10 @@ loop-again c =
     let is = d .span-of .ensures in
     let copied = y .copy-in .ensures
     ∙ ap (λ (b : List ℕ). b ++ drop w (midOf (l .end) (length (l .out) - l .end) (l .out)))
-    (held-is rs (a .n) (s .pre .1) (l .i) (r .loop-test .taken) w is) in (
+    (held-is rs (a .n) (s .pre .1) (s .pre .2) (l .i) (r .loop-test .taken) w is) in (
       omega arith,
-      rw (add-one (l .i)) (held-next rs (a .n) (s .pre .1) (l .i) (r .loop-test .taken) w is (l .end) (l .inv .1)),
+      rw (add-one (l .i)) (held-next rs (a .n) (s .pre .1) (s .pre .2) (l .i) (r .loop-test .taken) w is (l .end)
+          (l .inv .1)),
       room d,
       rw (add-one (l .i))
           (block-put (now (a .out)) (chained (bytesAt rs) (l .i)) (bytesAt rs (l .i)) (l .end) w (sym (l .inv .1))

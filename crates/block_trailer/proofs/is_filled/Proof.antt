@@ -51,7 +51,9 @@ add-at c =
     let a = b .before .before .args in
     omega (
       arith,
-      few-bytes (a .form) (now (a .stretch)) (l .i) (l .at) (l .inv .1) (c .length-from .result)
+      few-bytes (a .form) (now (a .stretch)) (l .i) (l .at) (l .inv .1)
+          (λ k. omega (arith, b .before .shared-slice-known .given k))
+          (c .length-from .result)
           (c .length-from .ensures),
     )
 

@@ -38,21 +38,22 @@ marked-if-requires c κs =
     let v = start .args .v in
     let e = start .args .e in
     let set = c .before .before .before .before .before .before .is-set-on in (
-      start .pre .conflicts,
+      start .pre .plain,
       λ h. room-for-one (v .sets) markBits (isSetOn (e .tsite) (e .tseq) (start .args .a)) (start .pre .sets)
           (sym (set .ensures) ∙ both (set .result) (c .is-conflict .result) h .0),
     )
 
 returns : tie.Need-returns
 returns c =
+    let m = c .before .before in
     rw (
-      c .marked-if .ensures,
-      c .before .is-conflict .ensures,
-      c .before .before .before .one-if2 .ensures .0,
-      c .before .before .before .before .before .one-if .ensures .0,
-      c .before .before .before .before .before .before .before .is-set-on .ensures,
-      c .before .before .before .before .before .before .before .before .before .is-target .ensures,
-      c .before .before .before .before .before .before .before .before .before .before .before .is-torn-by .ensures,
+      m .marked-if .ensures,
+      m .before .is-conflict .ensures,
+      m .before .before .before .one-if2 .ensures .0,
+      m .before .before .before .before .before .one-if .ensures .0,
+      m .before .before .before .before .before .before .before .is-set-on .ensures,
+      m .before .before .before .before .before .before .before .before .before .is-target .ensures,
+      m .before .before .before .before .before .before .before .before .before .before .before .is-torn-by .ensures,
     )
 
 pub survey-with-spec : {M : Type 1} → statement M

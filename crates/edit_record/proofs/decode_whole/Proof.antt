@@ -45,6 +45,12 @@ mul-t22 c = search needs
 add-t23 : tie.Need-add-t23
 add-t23 c = search needs
 
+count-of-requires : tie.Need-count-of-requires
+count-of-requires c κs = search needs
+
+members-of-requires : tie.Need-members-of-requires
+members-of-requires c κs = search needs
+
 returns : tie.Need-returns
 returns c = cc
 
@@ -66,4 +72,6 @@ decode-whole-spec =
     cast-t21
     mul-t22
     add-t23
+    count-of-requires
+    members-of-requires
     returns)

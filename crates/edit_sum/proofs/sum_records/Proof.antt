@@ -52,7 +52,8 @@ sum-record-requires c κs =
     let i = c .before .before .loop .i in
     let rs = now (c .before .before .before .before .args .recs) in
     let d = drop (i * placeLength) rs in
-    rw (from-place rs i) (omega (arith, span-most d, length-drop (i * placeLength) rs))
+    let few = c .before .before .before .before .pre .1 i (omega arith) in
+    rw (from-place rs i) (omega (arith, span-most d few, length-drop (i * placeLength) rs))
 
 added-requires : tie.Need-added-requires Inv-loop μ-loop
 added-requires c κs = search needs

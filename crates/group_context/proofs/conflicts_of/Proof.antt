@@ -3,7 +3,7 @@ use mathlib.Core.Path.{ap, _∙_}
 use Prim.Native.Nat.{ℕ}
 use borrow.Author.Needs.{needs}
 use Rattle.group_context.specs.RowForms.{conflictsOf}
-use Rattle.group_context.proofs.NextByRows.{context-of-next, conflicts-of-next}
+use Rattle.group_context.proofs.NextByRows.{conflicts-of-next}
 use Rattle.group_context.proofs.conflicts_of.Statement.{statement}
 use Rattle.group_context.proofs.conflicts_of.Tie as tie
 
@@ -18,7 +18,7 @@ returns c b next its-row =
     let a = c .before .before .before .before .args in
     c .conflicts-by .ensures
     ∙ ap (λ (g : ℕ). conflictsOf (a .plain .now) (a .ctx .now) (a .n) (a .row) g)
-    (c .before .context-of .ensures ∙ context-of-next next)
+    (c .before .context-of .ensures b next)
     ∙ conflicts-of-next next (a .row) its-row
 
 pub conflicts-of-spec : {M : Type 1} → statement M

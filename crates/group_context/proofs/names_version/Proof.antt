@@ -4,7 +4,7 @@ use mathlib.Core.Bool.{Bool, not, _||_}
 use Prim.Native.Nat.{ℕ}
 use borrow.Author.Needs.{needs}
 use Rattle.group_context.specs.RowForms.{namesOf}
-use Rattle.group_context.proofs.NextByRows.{context-of-next, names-of-next}
+use Rattle.group_context.proofs.NextByRows.{names-of-next}
 use Rattle.group_context.proofs.names_version.Statement.{statement}
 use Rattle.group_context.proofs.names_version.Tie as tie
 
@@ -20,7 +20,7 @@ returns c b next =
     ap (λ (t : Bool). not (a .limited) || t)
     (c .names-by .ensures
     ∙ ap (λ (g : ℕ). namesOf (a .plain .now) (a .ctx .now) (a .n) (a .seen) (a .named) g)
-    (c .before .context-of .ensures ∙ context-of-next next))
+    (c .before .context-of .ensures b next))
     ∙ names-of-next next
 
 pub names-version-spec : {M : Type 1} → statement M

@@ -49,17 +49,33 @@ survey-requires c κs =
     let yes : sound t ≡ true = sym (y .ensures) ∙ not-false (y .result) (c .before .before .before .if1 .left) in
     surveyable t yes (c .before .before .decode .result)
 
-accept-requires : tie.Need-accept-requires
-accept-requires c κs =
-    let s6 = c .before .before .before .before .before .before in
-    let s7 = s6 .before in
-    let s8 = s7 .before in
-    let s = s8 .before .before .before .before .before .before .before .before in
+cast-judge : tie.Need-cast-judge
+cast-judge c = search needs
+
+judge-requires : tie.Need-judge-requires
+judge-requires c κs =
+    let s7 = c .before .before .before .before .before .before .before in
+    let s = s7 .before .before .before .before .before .before .before .before in
     let a = s .args in
     let t = tablesOf (a .c) (now (a .records)) (now (a .objects)) (now (a .groups)) in
-    let y = s8 .is-sound in
-    let yes : sound t ≡ true = sym (y .ensures) ∙ not-false (y .result) (s7 .if1 .left) in
-    (yes, s6 .decode .ensures, c .before .before .before .survey .ensures)
+    let y = s7 .is-sound in
+    let yes : sound t ≡ true
+    = sym (y .ensures) ∙ not-false (y .result) (c .before .before .before .before .before .before .if1 .left) in
+    let (few, sets) = surveyable t yes (c .before .before .before .before .before .decode .result) in
+    (few, sets, c .before .before .survey .ensures)
+
+accept-requires : tie.Need-accept-requires
+accept-requires c κs =
+    let s3 = c .before .before .before in
+    let s6 = s3 .before .before .before in
+    let s9 = s6 .before .before .before in
+    let s11 = s9 .before .before in
+    let s = s11 .before .before .before .before .before .before .before .before in
+    let a = s .args in
+    let t = tablesOf (a .c) (now (a .records)) (now (a .objects)) (now (a .groups)) in
+    let y = s11 .is-sound in
+    let yes : sound t ≡ true = sym (y .ensures) ∙ not-false (y .result) (s9 .before .if1 .left) in
+    (yes, s9 .decode .ensures, s6 .survey .ensures, s3 .judge .ensures)
 
 same-length-4 : tie.Need-same-length-4
 same-length-4 c = search needs
@@ -74,13 +90,13 @@ returns-2 : tie.Need-returns-2
 unfolding arrivalOf
 returns-2 c =
     let s6 = c .before .before .before .before .before .before in
-    let s14 = s6 .before .before .before .before .before .before .before .before in
-    let s15 = s14 .before in
-    let s = s15 .before .before .before .before .before .before .before .before in
+    let s17 = s6 .before .before .before .before .before .before .before .before .before .before .before in
+    let s18 = s17 .before in
+    let s = s18 .before .before .before .before .before .before .before .before in
     let a = s .args in
     let t = tablesOf (a .c) (now (a .records)) (now (a .objects)) (now (a .groups)) in
-    let y = s15 .is-sound in
-    let yes : sound t ≡ true = sym (y .ensures) ∙ not-false (y .result) (s14 .if1 .left) in
+    let y = s18 .is-sound in
+    let yes : sound t ≡ true = sym (y .ensures) ∙ not-false (y .result) (s17 .if1 .left) in
     rw yes (s6 .accept .ensures)
 
 pub arrive-spec : {M : Type 1} → statement M
@@ -95,6 +111,8 @@ arrive-spec =
     decode-requires
     cast-survey
     survey-requires
+    cast-judge
+    judge-requires
     accept-requires
     same-length-4
     same-length-5

@@ -49,14 +49,29 @@ unfolding firstOf
 returns-7 c =
     let s5 = c .before .before .before .before .before in
     rw (
-      s5 .if1 .left,
-      c .before .before .before .before .if2 .left,
-      c .before .before .before .if3 .left,
-      c .before .before .if4 .left,
-      c .before .if5 .left,
-      c .if6 .left,
+      s5 .before .if1 .left,
+      s5 .if2 .left,
+      c .before .before .before .before .if3 .left,
+      c .before .before .before .if4 .left,
+      c .before .before .if5 .left,
+      c .before .if6 .left,
+      c .if7 .taken,
+    )
+
+returns-8 : tie.Need-returns-8
+unfolding firstOf
+returns-8 c =
+    let s5 = c .before .before .before .before .before in
+    rw (
+      s5 .before .if1 .left,
+      s5 .if2 .left,
+      c .before .before .before .before .if3 .left,
+      c .before .before .before .if4 .left,
+      c .before .before .if5 .left,
+      c .before .if6 .left,
+      c .if7 .left,
     )
 
 pub first-reason-spec : {M : Type 1} → statement M
 first-reason-spec =
-    tie.close (tie.spec returns returns-2 returns-3 returns-4 returns-5 returns-6 returns-7)
+    tie.close (tie.spec returns returns-2 returns-3 returns-4 returns-5 returns-6 returns-7 returns-8)

@@ -8,7 +8,6 @@ use denote.Ref.{now}
 use borrow.Rule.Slice.PartMut.{post-is}
 use borrow.Author.Needs.{needs}
 use Rattle.edit_record.specs.Layout.{placeLength}
-use Rattle.edit_record.proofs.RecordSpans.{span-most}
 use Rattle.table_arrival.proofs.put_record.Statement.{statement}
 use Rattle.table_arrival.proofs.put_record.Tie as tie
 
@@ -25,7 +24,7 @@ part-copy-record-start : tie.Need-part-copy-record-start
 part-copy-record-start c = search needs
 
 part-copy-record-end : tie.Need-part-copy-record-end
-part-copy-record-end c = omega (arith, span-most (now (c .before .before .args .rec)))
+part-copy-record-end c = search needs
 
 copy-record-requires : tie.Need-copy-record-requires
 copy-record-requires c κs = search needs

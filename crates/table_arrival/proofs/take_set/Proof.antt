@@ -17,7 +17,7 @@ facts :
     (c .args .e) (c .args .v)
 facts c =
     set-given (tablesOf (c .args .c) (now (c .args .records)) (now (c .args .objects)) (now (c .args .groups)))
-    (now (c .args .rec)) (c .args .e) (c .args .v) (c .pre)
+    (now (c .args .rec)) (c .args .e) (c .args .v) (c .args .j) (c .pre)
 
 mul-g : tie.Need-mul-g
 mul-g c = let p = facts (c .before .before .before .before) in omega arith
@@ -48,8 +48,8 @@ returns c =
     let a = s .args in
     let t = tablesOf (a .c) (now (a .records)) (now (a .objects)) (now (a .groups)) in
     let m = c .before .before .before .step-at in
-    let many : mostGroups < length (stepBy t (a .v)) = rw (m .ensures .0) at (c .if1 .taken) in
-    rw (m .ensures .1) (set-refused t (now (a .rec)) (a .e) (a .v) (s .pre) many)
+    let many : mostGroups < length (stepBy t (a .v) (a .j .conflicts)) = rw (m .ensures .0) at (c .if1 .taken) in
+    rw (m .ensures .1) (set-refused t (now (a .rec)) (a .e) (a .v) (a .j) (s .pre) many)
 
 cast-store-set : tie.Need-cast-store-set
 cast-store-set c =
@@ -72,7 +72,7 @@ cast-store-set-2 c =
 store-set-requires : tie.Need-store-set-requires
 store-set-requires c κs =
     let p = facts (c .before .before .before .before .before .before .before .before .before .before .before .before) in
-    (p .room, p .few-objects, p .object, p .records-long, p .objects-long, p .whole, p .count)
+    (p .room, p .few-objects, p .object, p .records-long, p .objects-long, p .whole, p .short, p .count)
 
 same-length-2 : tie.Need-same-length-2
 same-length-2 c = search needs
@@ -93,9 +93,9 @@ returns-2 c =
     let t = tablesOf (a .c) (now (a .records)) (now (a .objects)) (now (a .groups)) in
     let m = s10 .step-at in
     let d = c .before .before .before .before .store-set in
-    let few : length (stepBy t (a .v)) ≤ mostGroups = rw (m .ensures .0) at (s7 .if1 .left) in
+    let few : length (stepBy t (a .v) (a .j .conflicts)) ≤ mostGroups = rw (m .ensures .0) at (s7 .if1 .left) in
     rw (d .ensures .0, d .ensures .1, d .ensures .2, m .ensures .1, m .ensures .0)
-    (set-stored t (now (a .rec)) (a .e) (a .v) (s .pre) few)
+    (set-stored t (now (a .rec)) (a .e) (a .v) (a .j) (s .pre) few)
 
 pub take-set-spec : {M : Type 1} → statement M
 take-set-spec =

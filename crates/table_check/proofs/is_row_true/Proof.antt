@@ -1,10 +1,9 @@
--- `table_check::is_row_true` meets its contract; no Set conflicts with itself, as `work_out` asks. Assumes nothing.
+-- `table_check::is_row_true` meets its contract; the Sets are proper in turn, as `work_out` asks. Assumes nothing.
 use native.Mathlib.Omega.{arith}
 use denote.Ref.{now}
-use Rattle.edit_causal.proofs.ConflictsAmongSets.{none-itself}
 use Rattle.table_drawing.specs.Tables.{tablesOf}
 use Rattle.table_soundness.proofs.SoundFacts.{sound-at}
-use Rattle.table_check.proofs.RowWorkedOut.{few-aimed, row-fits-in, too-many, row-decides}
+use Rattle.table_check.proofs.RowWorkedOut.{few-aimed, aimed-in-turn, row-fits-in, too-many, row-decides}
 use borrow.Author.Needs.{needs}
 use Rattle.table_check.proofs.is_row_true.Statement.{statement}
 use Rattle.table_check.proofs.is_row_true.Tie as tie
@@ -44,7 +43,18 @@ slice-aggregate-work-out-2 : tie.Need-slice-aggregate-work-out-2
 slice-aggregate-work-out-2 c = search needs
 
 work-out-requires : tie.Need-work-out-requires
-work-out-requires c κs = (search needs, search needs, search needs, λ i l. none-itself _)
+work-out-requires c κs =
+    let b = c .before .before .before .before .before .before .before in
+    let s = b .before .before .before .before .before in
+    let a = s .args in
+    let g = c .before .before .before .gather in
+    let t = tablesOf (a .c) (now (a .records)) (now (a .objects)) (now (a .groups)) in (
+      search needs,
+      search needs,
+      search needs,
+      aimed-in-turn t (sound-at t (s .pre .0)) (now (a .aims)) (s .pre .3) (a .o) (s .pre .1) _ (g .result)
+          (search needs) (rw (b .at16 .ensures) at (g .ensures .0)),
+    )
 
 returns : tie.Need-returns
 returns c =

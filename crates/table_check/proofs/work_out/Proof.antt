@@ -1,140 +1,79 @@
--- `table_check::work_out` meets its contract: after i Sets, their groups stand in front. Assumes nothing.
-use mathlib.Core.Path.{_≡_, sym, ap, _∙_}
-use Prim.Native.Nat.{_+_, _-_, _≤_}
+-- `table_check::work_out` meets its contract: the row starts with the empty group, in either way. Assumes nothing.
+use mathlib.Core.Path.{sym, _∙_}
 use native.Mathlib.Omega.{arith}
-use lib.ListN.{length, take, length-set}
+use lib.ListN.{length-set}
 use lib.Seq.{take-suc-set}
 use denote.Ref.{now}
-use Rattle.group_step.specs.GroupRows.{mostGroups}
-use Rattle.table_check.specs.CheckForms.{groupsIn}
-use Rattle.table_check.proofs.RowWorkedOut.{groups-none, stepped, in-ascending, in-below, in-more, settled-front}
+use borrow.Author.Tests.{not-true}
 use borrow.Author.Needs.{needs}
 use Rattle.table_check.proofs.work_out.Statement.{statement}
 use Rattle.table_check.proofs.work_out.Tie as tie
 
-abbrev Inv-loop : tie.InvT-loop
-Inv-loop recs places k gs₀ n₀ i₀ gs n i =
-    (i ≤ k) × (length gs ≡ mostGroups) × (n ≤ mostGroups) × (take n gs ≡ groupsIn recs places i)
-
-abbrev μ-loop : tie.MeasureT-loop
-μ-loop recs places k gs₀ n₀ i₀ gs n i = k - i
-
-slice-write-gs : tie.Need-slice-write-gs Inv-loop μ-loop
+slice-write-gs : tie.Need-slice-write-gs
 slice-write-gs c = search needs
 
-loop-holds : tie.Need-loop-holds Inv-loop μ-loop
-loop-holds c =
-    let s = c .before .before .before in
-    let a = s .args in (
-      omega arith,
+is-any-limited-requires : tie.Need-is-any-limited-requires
+is-any-limited-requires c κs = search needs
+
+step-plainly-requires : tie.Need-step-plainly-requires
+step-plainly-requires c κs =
+    let s = c .before .before .before .before .before .before in
+    let limited = c .before .before .is-any-limited in (
       simp length-set (s .pre .2),
-      omega arith,
-      take-suc-set (now (a .gs)) 0 0 (omega (arith, s .pre .2)) ∙ sym (groups-none (now (a .recs)) (now (a .places))),
+      take-suc-set (now (s .args .gs)) 0 0 (omega (arith, s .pre .2)),
+      s .pre .0,
+      s .pre .1,
+      s .pre .3,
+      sym (limited .ensures) ∙ not-true (limited .result) (c .before .if1 .taken),
     )
 
-mul-decode-at : tie.Need-mul-decode-at Inv-loop μ-loop
-mul-decode-at c = search needs
+same-length : tie.Need-same-length
+same-length c =
+    let r = c .before .before in
+    let s = r .before .before .before .before .before .before .before in
+    r .step-plainly .kept .0 ∙ length-set (now (s .args .gs)) 0 _
 
-shared-slice-read-decode-at : tie.Need-shared-slice-read-decode-at Inv-loop μ-loop
-shared-slice-read-decode-at c = search needs
+returns : tie.Need-returns
+returns c = search needs
 
-cast-decode-at : tie.Need-cast-decode-at Inv-loop μ-loop
-cast-decode-at c = omega (arith, c .shared-slice-known3 .given (c .before .before .loop .i))
+slice-aggregate-step-limited : tie.Need-slice-aggregate-step-limited
+slice-aggregate-step-limited c = search needs
 
-decode-at-requires : tie.Need-decode-at-requires Inv-loop μ-loop
-decode-at-requires c κs = omega (arith, c .shared-slice-known3 .given (c .before .before .loop .i))
+slice-aggregate-step-limited-2 : tie.Need-slice-aggregate-step-limited-2
+slice-aggregate-step-limited-2 c = search needs
 
-conflicts-in-requires : tie.Need-conflicts-in-requires Inv-loop μ-loop
-conflicts-in-requires c κs = search needs
-
-step-row-requires : tie.Need-step-row-requires Inv-loop μ-loop
-step-row-requires c κs =
-    let s = c .before .before .before .before .before .before .before .before .before in
-    let a = s .args in
-    let l = c .before .before .before .before .before .loop in (
-      l .inv .1,
-      l .inv .2,
-      omega arith,
-      rw (l .inv .3) (in-ascending (now (a .recs)) (now (a .places)) (l .i)),
-      rw (l .inv .3) (in-below (now (a .recs)) (now (a .places)) (l .i) (omega arith)),
+step-limited-requires : tie.Need-step-limited-requires
+step-limited-requires c κs =
+    let s = c .before .before .before .before .before .before .before .before in (
+      simp length-set (s .pre .2),
+      take-suc-set (now (s .args .gs)) 0 0 (omega (arith, s .pre .2)),
+      search needs,
+      search needs,
+      s .pre .0,
+      s .pre .1,
+      s .pre .3,
     )
 
-same-length : tie.Need-same-length Inv-loop μ-loop
-same-length c = search needs
+same-length-2 : tie.Need-same-length-2
+same-length-2 c =
+    let r = c .before .before .before .before in
+    let s = r .before .before .before .before .before .before .before .before .before in
+    r .step-limited .kept .0 ∙ length-set (now (s .args .gs)) 0 _
 
-returns : tie.Need-returns Inv-loop μ-loop
-returns c =
-    let b = c .before .before .before .before .before in
-    let s = b .before .before .before .before .before .before .before .before in
-    let a = s .args in
-    let l = b .before .before .before .before .loop in
-    let r = c .before .before .before .step-row in
-    let e = b .before .decode-at in
-    let m = b .conflicts-in in
-    let next = stepped (now (a .recs)) (now (a .places)) (l .i) (l .n) (l .gs) (omega arith)
-    (s .pre .3 (l .i + 1) (omega arith)) (l .inv .3) (e .result) (e .ensures) (m .result) (m .ensures) in
-    record {
-      few = λ h. absurd (omega arith);
-      many =
-          λ h. omega (
-            arith,
-            r .ensures .0,
-            ap length next,
-            in-more (now (a .recs)) (now (a .places)) (l .i + 1) (a .k) (omega arith)
-                (s .pre .3 (a .k) (omega arith)),
-          );
-    }
-
-add-i : tie.Need-add-i Inv-loop μ-loop
-add-i c = search needs
-
-loop-less : tie.Need-loop-less Inv-loop μ-loop
-loop-less c = search needs
-
-loop-again : tie.Need-loop-again Inv-loop μ-loop
-loop-again c =
-    let b = c .before .before .before .before .before in
-    let s = b .before .before .before .before .before .before .before .before in
-    let a = s .args in
-    let l = b .before .before .before .before .loop in
-    let r = c .before .before .before .step-row in
-    let e = b .before .decode-at in
-    let m = b .conflicts-in in
-    let next = stepped (now (a .recs)) (now (a .places)) (l .i) (l .n) (l .gs) (omega arith)
-    (s .pre .3 (l .i + 1) (omega arith)) (l .inv .3) (e .result) (e .ensures) (m .result) (m .ensures) in (
-      omega arith,
-      r .kept .0 ∙ l .inv .1,
-      omega arith,
-      settled-front _ (l .gs) (r .last .0) (r .result) (r .ensures .1) (r .ensures .0) (omega arith) ∙ next,
-    )
-
-same-length-2 : tie.Need-same-length-2 Inv-loop μ-loop
-same-length-2 c = search needs
-
-returns-2 : tie.Need-returns-2 Inv-loop μ-loop
-returns-2 c =
-    let l = c .before .loop in
-    let k : l .i ≡ c .before .before .before .before .before .args .k = omega arith in
-    record { few = λ h. rw (← k) (l .inv .3); many = λ h. absurd (omega (arith, l .inv .2)) }
+returns-2 : tie.Need-returns-2
+returns-2 c = search needs
 
 pub work-out-spec : {M : Type 1} → statement M
 work-out-spec =
     tie.close
     (tie.spec
-    Inv-loop
-    μ-loop
     slice-write-gs
-    loop-holds
-    mul-decode-at
-    shared-slice-read-decode-at
-    cast-decode-at
-    decode-at-requires
-    conflicts-in-requires
-    step-row-requires
+    is-any-limited-requires
+    step-plainly-requires
     same-length
     returns
-    add-i
-    loop-less
-    loop-again
+    slice-aggregate-step-limited
+    slice-aggregate-step-limited-2
+    step-limited-requires
     same-length-2
     returns-2)

@@ -1,14 +1,13 @@
 -- `table_engine::enumerate_groups` meets its contract: in sound tables no Create has more Sets than an object may have,
--- and none of them conflicts with itself. Assumes nothing.
+-- and they are proper. Assumes nothing.
 use mathlib.Core.Path.{sym, _∙_}
 use native.Mathlib.Omega.{arith}
 use denote.Ref.{now}
 use borrow.Author.Tests.{not-true, not-false}
-use Rattle.edit_causal.proofs.ConflictsAmongSets.{none-itself}
-use Rattle.edit_history.specs.EditsHeld.{setsOn}
-use Rattle.table_drawing.specs.Tables.{tablesOf, heldBy}
+use Rattle.table_drawing.specs.Tables.{tablesOf}
 use Rattle.table_soundness.proofs.SoundFacts.{sound-at}
-use Rattle.table_arrival.proofs.ObjectsByNumber.{sets-few}
+use Rattle.table_soundness.proofs.ObjectsByNumber.{sets-few}
+use Rattle.table_arrival.proofs.ProperWith.{proper-held}
 use Rattle.table_engine.proofs.EnumerationOutcomes.{not-sound, wrong-length, right-length}
 use borrow.Author.Needs.{needs}
 use Rattle.table_engine.proofs.enumerate_groups.Statement.{statement}
@@ -44,7 +43,7 @@ enumerate-held-requires c κs =
       s .few-records,
       sets-few t s (a .site) (a .seq),
       omega arith,
-      none-itself (setsOn (a .site) (a .seq) (heldBy t)),
+      proper-held t s (a .site) (a .seq),
     )
 
 same-length : tie.Need-same-length

@@ -7,6 +7,8 @@ use native.Mathlib.Omega.{arith}
 use denote.Ref.{now}
 use Rattle.group_step.specs.GroupRows.{settled}
 use Rattle.group_engine.specs.SearchForms.{countTold}
+use Rattle.edit_causal.proofs.ConflictsAmongSets.{none-itself}
+use Rattle.group_limited.specs.LimitedForms.{setsIn}
 use Rattle.table_engine.proofs.MasksOfSets.{masks-fit, masks-groups}
 use borrow.Author.Needs.{needs}
 use Rattle.table_engine.proofs.put_groups.Statement.{statement}
@@ -29,7 +31,8 @@ enumerate-requires c κs =
       omega arith,
       omega (arith, m .kept .1 .1 .1 .0),
       s .pre .2,
-      masks-fit (now (a .recs)) (now (a .places)) (a .k) (s .pre .0) (m .last .1 .1 .1 .0) (m .ensures) (s .pre .3),
+      masks-fit (now (a .recs)) (now (a .places)) (a .k) (s .pre .0) (m .last .1 .1 .1 .0) (m .ensures)
+          (none-itself (setsIn (now (a .recs)) (now (a .places)) (a .k)) (s .pre .3)),
     )
 
 same-length : tie.Need-same-length

@@ -3,7 +3,7 @@ use mathlib.Core.Path.{sym, _∙_}
 use denote.Ref.{now}
 use Rattle.edit_history.specs.EditsHeld.{recordAt}
 use Rattle.edit_history.proofs.FieldsInPlace.{key-in-place}
-use Rattle.table_index.proofs.ConflictsInPlaces.{keys-differ}
+use Rattle.table_index.proofs.MarksInPlaces.{keys-differ}
 use borrow.Author.Needs.{needs}
 use Rattle.table_index.proofs.is_conflict_at.Statement.{statement}
 use Rattle.table_index.proofs.is_conflict_at.Tie as tie

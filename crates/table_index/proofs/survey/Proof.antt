@@ -9,9 +9,9 @@ use lib.Seq.{take-take}
 use denote.Ref.{now}
 use borrow.Author.Tests.{eq-eqb, not-false}
 use Rattle.edit_record.specs.Layout.{createKind}
-use Rattle.edit_causal.specs.Conflict.{conflictsWith}
 use Rattle.edit_history.specs.EditsHeld.{recordAt, editsOf, setsOn, objectOf}
 use Rattle.group_step.specs.GroupRows.{mostObjects, mostSets}
+use Rattle.table_index.specs.IndexForms.{matesOf}
 use Rattle.table_index.proofs.SurveyByIndex.{turn, torn-is, create-surveyed, aimed, target-surveyed}
 use borrow.Author.Needs.{needs}
 use Rattle.table_index.proofs.survey.Statement.{statement}
@@ -85,14 +85,14 @@ at16-requires-2 c κs = search needs
 cast-k : tie.Need-cast-k
 cast-k c = search needs
 
-mul-conflicts-in : tie.Need-mul-conflicts-in
-mul-conflicts-in c = search needs
+mul-mates-in : tie.Need-mul-mates-in
+mul-mates-in c = search needs
 
-mul-conflicts-in-2 : tie.Need-mul-conflicts-in-2
-mul-conflicts-in-2 c = search needs
+mul-mates-in-2 : tie.Need-mul-mates-in-2
+mul-mates-in-2 c = search needs
 
-sub-conflicts-in : tie.Need-sub-conflicts-in
-sub-conflicts-in c =
+sub-mates-in : tie.Need-sub-mates-in
+sub-mates-in c =
     let s9 = c .before .before .before .before .before .before .before .before .before in
     let s = s9 .before .before .before .before .before .before .before .before in
     let (h, x) = s .pre in
@@ -114,8 +114,8 @@ sub-conflicts-in c =
     let many : c .at162 .result ≤ mostSets = rw (k, t .count) (h .few-sets (a .e .tsite) (a .e .tseq)) in
     omega (arith, x .members-long, low)
 
-part-conflicts-in-start : tie.Need-part-conflicts-in-start
-part-conflicts-in-start c =
+part-mates-in-start : tie.Need-part-mates-in-start
+part-mates-in-start c =
     let s9 = c .before .before .before .before .before .before .before .before .before in
     let s = s9 .before .before .before .before .before .before .before .before in
     let (h, x) = s .pre in
@@ -137,11 +137,11 @@ part-conflicts-in-start c =
     let many : c .at162 .result ≤ mostSets = rw (k, t .count) (h .few-sets (a .e .tsite) (a .e .tseq)) in
     search (needs, low, x .members-long)
 
-part-conflicts-in-end : tie.Need-part-conflicts-in-end
-part-conflicts-in-end c = search needs
+part-mates-in-end : tie.Need-part-mates-in-end
+part-mates-in-end c = search needs
 
-conflicts-in-requires : tie.Need-conflicts-in-requires
-conflicts-in-requires c κs =
+mates-in-requires : tie.Need-mates-in-requires
+mates-in-requires c κs =
     let s5 = c .before .before .before .before .before in
     let s10 = s5 .before .before .before .before .before in
     let s = s10 .before .before .before .before .before .before .before .before in
@@ -197,15 +197,15 @@ returns-4 c =
     let (y, fit) = turn (a .c) rs h ps ns cs ms x (a .e)
     (sym (i .ensures .0) ∙ not-false (i .result) (s10 .if1 .left)) in
     let at = c .before .before .before .at16 .result * mostSets in
-    let marks : c .conflicts-in .result ≡ conflictsWith (a .e) (setsOn (a .e .tsite) (a .e .tseq) es)
-    = c .conflicts-in .ensures
-    ∙ ap (λ (l : List ℕ). conflictsWith (a .e) (map (recordAt rs) l))
+    let marks : c .mates-in .result ≡ matesOf (a .e) (setsOn (a .e .tsite) (a .e .tseq) es)
+    = c .mates-in .ensures
+    ∙ ap (λ (l : List ℕ). matesOf (a .e) (map (recordAt rs) l))
     (take-take (c .before .before .at162 .result) (length ms - at) (drop at ms)
     (omega (arith, many, low, x .members-long)))
-    ∙ rw (o, k) (ap (conflictsWith (a .e)) (t .sets)) in
+    ∙ rw (o, k) (ap (matesOf (a .e)) (t .sets)) in
     rw o
     (target-surveyed (a .c) rs h ps ns cs ms x (a .e) long on (torn .result) (c .before .before .at162 .result)
-    (c .conflicts-in .result) (torn .ensures ∙ torn-is (a .c) rs h ps ns cs ms x (a .e) y) k marks)
+    (c .mates-in .result) (torn .ensures ∙ torn-is (a .c) rs h ps ns cs ms x (a .e) y) k marks)
 
 pub survey-spec : {M : Type 1} → statement M
 survey-spec =
@@ -227,10 +227,10 @@ survey-spec =
     cast-o
     at16-requires-2
     cast-k
-    mul-conflicts-in
-    mul-conflicts-in-2
-    sub-conflicts-in
-    part-conflicts-in-start
-    part-conflicts-in-end
-    conflicts-in-requires
+    mul-mates-in
+    mul-mates-in-2
+    sub-mates-in
+    part-mates-in-start
+    part-mates-in-end
+    mates-in-requires
     returns-4)

@@ -5,7 +5,7 @@ use native.Mathlib.Omega.{arith}
 use denote.Ref.{now}
 use Rattle.table_drawing.specs.Tables.{tablesOf}
 use Rattle.table_drawing.specs.AnswerNumbers.{numberOf}
-use Rattle.table_arrival.proofs.CodeInHand.{holds}
+use Rattle.table_arrival.proofs.CodeInHand.{surveyable, holds}
 use Rattle.table_replay.proofs.IndexGoesAlong.{counted-on, room-on, holds-on, index-on, numbered-on}
 use borrow.Author.Needs.{needs}
 use Rattle.table_replay.proofs.take_next.Statement.{statement}
@@ -19,13 +19,26 @@ survey-requires c κs =
     let s10 = c .before .before .before .before .before .before .before .before .before .before in
     let s = s10 .before .before .before .before in
     let a = s .args in
-    (holds (tablesOf (a .c) (now (a .records)) (now (a .objects)) (now (a .groups))) (s .pre .0), s .pre .2)
+    (holds (tablesOf (a .c) (now (a .records)) (now (a .objects)) (now (a .groups))) (s .pre .isSound), s .pre .index)
+
+cast-judge : tie.Need-cast-judge
+cast-judge c = search needs
+
+judge-requires : tie.Need-judge-requires
+judge-requires c κs =
+    let s8 = c .before .before .before .before .before .before .before .before in
+    let s = s8 .before .before .before .before .before .before .before .before .before in
+    let a = s .args in
+    let t = tablesOf (a .c) (now (a .records)) (now (a .objects)) (now (a .groups)) in
+    let (few, sets) = surveyable t (s .pre .isSound) (s8 .decode .result) in
+    (few, sets, c .before .before .survey .ensures)
 
 accept-requires : tie.Need-accept-requires
 accept-requires c κs =
-    let s9 = c .before .before .before .before .before .before .before .before .before in
-    let s = s9 .before .before .before .before .before .before .before .before .before in
-    (s .pre .0, s9 .decode .ensures, c .before .before .before .survey .ensures)
+    let s6 = c .before .before .before .before .before .before in
+    let s12 = s6 .before .before .before .before .before .before in
+    let s = s12 .before .before .before .before .before .before .before .before .before in
+    (s .pre .isSound, s12 .decode .ensures, s6 .survey .ensures, c .before .before .before .judge .ensures)
 
 number-requires : tie.Need-number-requires
 number-requires c κs = search needs
@@ -38,8 +51,9 @@ add-requires c κs =
     let s6 = c .before .before .before .before .before .before in
     let s7 = s6 .before in
     let s14 = s7 .before .before .before .before .before .before .before in
-    let s24 = s14 .before .before .before .before .before .before .before .before .before .before in
-    let s = s24 .before .before .before .before .before .before .before .before .before in
+    let s27 = s14 .before .before .before .before .before .before .before .before .before .before .before .before
+    .before in
+    let s = s27 .before .before .before .before .before .before .before .before .before in
     let a = s .args in
     let t = tablesOf (a .c) (now (a .records)) (now (a .objects)) (now (a .groups)) in
     let b = now (a .rec) in
@@ -48,15 +62,15 @@ add-requires c κs =
     let ok = rw z at (m .ensures) in (
       (
         m .result .counters,
-        holds-on t (s .pre .0) (s .pre .1) b _ ok,
+        holds-on t (s .pre .isSound) (s .pre .wide) b _ ok,
         omega
-            (arith, counted-on t (s .pre .0) (s .pre .1) b _ ok),
+            (arith, counted-on t (s .pre .isSound) (s .pre .wide) b _ ok),
       ),
-      index-on t (s .pre .0) (s .pre .1) b _ ok (now (a .places)) (now (a .numbers)) (now (a .counts))
+      index-on t (s .pre .isSound) (s .pre .wide) b _ ok (now (a .places)) (now (a .numbers)) (now (a .counts))
           (now (a .members))
-          (s .pre .2),
-      numbered-on t (s .pre .0) (s .pre .1) b _ ok,
-      room-on t (s .pre .0) (s .pre .1) b _ ok (now (a .places)) (s .pre .3),
+          (s .pre .index),
+      numbered-on t (s .pre .isSound) (s .pre .wide) b _ ok,
+      room-on t (s .pre .isSound) (s .pre .wide) b _ ok (now (a .places)) (s .pre .room),
     )
 
 same-length : tie.Need-same-length
@@ -86,17 +100,20 @@ returns c =
     let s15 = s8 .before .before .before .before .before .before .before in
     let s16 = s15 .before in
     let s23 = s16 .before .before .before .before .before .before .before in
-    let s33 = s23 .before .before .before .before .before .before .before .before .before .before in
-    let s = s33 .before .before .before .before .before .before .before .before .before in
+    let s36 = s23 .before .before .before .before .before .before .before .before .before .before .before .before
+    .before in
+    let s = s36 .before .before .before .before .before .before .before .before .before in
     let a = s .args in
     let t = tablesOf (a .c) (now (a .records)) (now (a .objects)) (now (a .groups)) in
     let b = now (a .rec) in
     let m = s23 .accept in
     let z : numberOf (m .result .answer) ≡ 0 = sym (s16 .number .ensures) ∙ s15 .if1 .taken in
-    let ok = rw z at (m .ensures) in (
-      m .ensures,
-      λ y. (rw (counted-on t (s .pre .0) (s .pre .1) b _ ok) (s8 .add .ensures .0), s8 .add .ensures .2),
-    )
+    let ok = rw z at (m .ensures) in
+    record {
+      outcome = m .ensures;
+      index = λ y. rw (counted-on t (s .pre .isSound) (s .pre .wide) b _ ok) (s8 .add .ensures .0);
+      starts = λ y. s8 .add .ensures .2;
+    }
 
 same-length-8 : tie.Need-same-length-8
 same-length-8 c = search needs
@@ -122,7 +139,12 @@ same-length-14 c = search needs
 returns-2 : tie.Need-returns-2
 returns-2 c =
     let s8 = c .before .before .before .before .before .before .before .before in
-    (s8 .accept .ensures, λ z. absurd (c .if1 .left (c .before .number .ensures ∙ z)))
+    let refused : numberOf (s8 .accept .result .answer) ≡ 0 → ⊥ = λ z. c .if1 .left (c .before .number .ensures ∙ z) in
+    record {
+      outcome = s8 .accept .ensures;
+      index = λ z. absurd (refused z);
+      starts = λ z. absurd (refused z);
+    }
 
 pub take-next-spec : {M : Type 1} → statement M
 take-next-spec =
@@ -130,6 +152,8 @@ take-next-spec =
     (tie.spec
     decode-requires
     survey-requires
+    cast-judge
+    judge-requires
     accept-requires
     number-requires
     cast-add

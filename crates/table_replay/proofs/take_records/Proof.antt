@@ -4,11 +4,11 @@ use mathlib.Core.List.{List}
 use Prim.Native.Nat.{ℕ, _-_, _≤_}
 use native.Mathlib.Numerals.{add-one}
 use native.Mathlib.Omega.{arith}
-use lib.ListN.{length}
+use lib.ListN.{length, take, drop}
 use denote.Ref.{now}
 use borrow.Author.Needs.{needs}
-use Rattle.edit_form.specs.OldForm.{startOf, storedIn}
-use Rattle.edit_form.proofs.Stretches.{start-most, lent-is, next-start, few-bytes, start-inside, lent-there}
+use Rattle.edit_form.specs.OldForm.{longFrom, startOf, storedIn}
+use Rattle.edit_form.proofs.Stretches.{lent-is, next-start, start-inside, next-inside, lent-there}
 use Rattle.edit_history.specs.EditsHeld.{countFrom}
 use Rattle.table_drawing.specs.Tables.{Tables, tablesOf}
 use Rattle.table_drawing.specs.AnswerNumbers.{outcomeOf, numberOf}
@@ -46,12 +46,10 @@ abbrev μ-loop : tie.MeasureT-loop
 abbrev start-of : tie.At-loop Inv-loop μ-loop → tie.Start Inv-loop μ-loop
 start-of b = b .before .before .before .before .before .before .before .before .before
 
-abbrev round-of : tie.After-take-next Inv-loop μ-loop → tie.In-loop Inv-loop μ-loop
-round-of m =
-    m .before .before .before .before .before .before
-    .before .before .before .before .before .before
+abbrev round-of : tie.After-take-one Inv-loop μ-loop → tie.In-loop Inv-loop μ-loop
+round-of m = m .before .before .before .before .before .before .before .before .before .before
 
-abbrev call-of : tie.After-number Inv-loop μ-loop → tie.After-take-next Inv-loop μ-loop
+abbrev call-of : tie.After-number Inv-loop μ-loop → tie.After-take-one Inv-loop μ-loop
 call-of d =
     d .before .before .before .before .before .before .before .before
     .before .before .before .before .before .before .before .before
@@ -87,14 +85,10 @@ inside r =
 
 -- and is the stretch's
 taken-is :
-    (m : tie.After-take-next Inv-loop μ-loop) →
-    m .before .before .before .before .before .before .before .before .before .before .long-from .result
-    ≡ given-of (round-of m .before) (round-of m .before .loop .i)
-taken-is m =
-    let b = round-of m .before in
-    let l = b .loop in
-    lent-is (form-of b) (recs-of b) (l .i) (l .at) (l .inv .1) _
-    (m .before .before .before .before .before .before .before .before .before .before .long-from .ensures)
+    (b : tie.At-loop Inv-loop μ-loop) →
+    longFrom (form-of b) (take (length (recs-of b) - b .loop .at) (drop (b .loop .at) (recs-of b)))
+    ≡ given-of b (b .loop .i)
+taken-is b = lent-is (form-of b) (recs-of b) (b .loop .i) (b .loop .at) (b .loop .inv .1) _ refl
 
 -- ---- the lengths stay
 
@@ -145,48 +139,35 @@ part-rest-start c = inside c
 part-rest-end : tie.Need-part-rest-end Inv-loop μ-loop
 part-rest-end c = search needs
 
-long-from-requires : tie.Need-long-from-requires Inv-loop μ-loop
-long-from-requires c κs =
-    let r = c .before in
-    let b = r .before in
-    let l = b .loop in
-    let s = start-of b in
-    lent-there (form-of b) (recs-of b) (l .i) (l .at) (l .inv .1) (s .args .n) (r .loop-test .taken) (s .pre .5)
-
 length-from-requires : tie.Need-length-from-requires Inv-loop μ-loop
 length-from-requires c κs = search needs
 
 add-at : tie.Need-add-at Inv-loop μ-loop
 add-at c =
-    let r = c .before .before .before in
+    let r = c .before .before in
     let b = r .before in
     let l = b .loop in
-    omega (
-      arith,
-      start-most (form-of b) (recs-of b) (l .i),
-      few-bytes (form-of b) (recs-of b) (l .i) (l .at) (l .inv .1) (c .length-from .result) (c .length-from .ensures),
-      l .inv .1,
-      r .loop-test .taken,
-      start-of b .pre .4,
-    )
+    let s = start-of b in
+    let next = next-inside (form-of b) (recs-of b) (l .i) (l .at) (l .inv .1) (s .args .n) (r .loop-test .taken)
+    (s .pre .5)
+    (c .length-from .result) (c .length-from .ensures) in
+    omega (arith, next, s .good)
 
-slice-aggregate-take-next : tie.Need-slice-aggregate-take-next Inv-loop μ-loop
-slice-aggregate-take-next c = search needs
-
-take-next-requires : tie.Need-take-next-requires Inv-loop μ-loop
-take-next-requires c κs =
-    let r = c .before .before .before .before .before .before .before .before .before .before .before in
+take-one-requires : tie.Need-take-one-requires Inv-loop μ-loop
+take-one-requires c κs =
+    let r = c .before .before .before .before .before .before .before .before .before in
     let b = r .before in
     let s = start-of b in
-    let l = b .loop in
-    let rec = lent-is (form-of b) (recs-of b) (l .i) (l .at) (l .inv .1) _
-    (c .before .before .before .before .before .before .before .before .before .long-from .ensures) in (
-      going-sound (s .args .empty .sites) (given-of b) (s .pre .3) (l .i) _ (l .inv .2),
-      going-faithful (s .args .empty .sites) (given-of b) (s .pre .3) (l .i) _ (l .inv .2) .kept .wide,
-      l .inv .3,
-      rw rec
-          (next-room (s .args .empty .sites) (given-of b) (s .pre .3) (l .i) (s .args .n) (r .loop-test .taken)
-          (tables-of b) (l .inv .2) (l .places) (l .inv .4)),
+    let l = b .loop in (
+      record {
+        isSound = going-sound (s .args .empty .sites) (given-of b) (s .pre .3) (l .i) _ (l .inv .2);
+        wide = going-faithful (s .args .empty .sites) (given-of b) (s .pre .3) (l .i) _ (l .inv .2) .kept .wide;
+        index = l .inv .3;
+        room = rw (taken-is b)
+            (next-room (s .args .empty .sites) (given-of b) (s .pre .3) (l .i) (s .args .n) (r .loop-test .taken)
+            (tables-of b) (l .inv .2) (l .places) (l .inv .4));
+      },
+      lent-there (form-of b) (recs-of b) (l .i) (l .at) (l .inv .1) (s .args .n) (r .loop-test .taken) (s .pre .5),
     )
 
 number-requires : tie.Need-number-requires Inv-loop μ-loop
@@ -196,19 +177,19 @@ same-length : tie.Need-same-length Inv-loop μ-loop
 same-length c =
     let m = call-of (c .before) in
     let b = round-of m .before in
-    call-long b _ _ (m .take-next .ensures .0 ∙ ap (acceptanceOf (tables-of b)) (taken-is m)) .0
+    call-long b _ _ (m .take-one .ensures .outcome ∙ ap (acceptanceOf (tables-of b)) (taken-is b)) .0
 
 same-length-2 : tie.Need-same-length-2 Inv-loop μ-loop
 same-length-2 c =
     let m = call-of (c .before) in
     let b = round-of m .before in
-    call-long b _ _ (m .take-next .ensures .0 ∙ ap (acceptanceOf (tables-of b)) (taken-is m)) .1
+    call-long b _ _ (m .take-one .ensures .outcome ∙ ap (acceptanceOf (tables-of b)) (taken-is b)) .1
 
 same-length-3 : tie.Need-same-length-3 Inv-loop μ-loop
 same-length-3 c =
     let m = call-of (c .before) in
     let b = round-of m .before in
-    call-long b _ _ (m .take-next .ensures .0 ∙ ap (acceptanceOf (tables-of b)) (taken-is m)) .2
+    call-long b _ _ (m .take-one .ensures .outcome ∙ ap (acceptanceOf (tables-of b)) (taken-is b)) .2
 
 same-length-4 : tie.Need-same-length-4 Inv-loop μ-loop
 same-length-4 c =
@@ -241,8 +222,8 @@ returns c =
     let s = start-of b in
     let l = b .loop in
     going-ends (s .args .empty .sites) (given-of b) (s .pre .3) (l .i) _ (l .inv .2)
-    (numberOf (m .take-next .result .answer)) _
-    (m .take-next .ensures .0 ∙ ap (acceptanceOf (tables-of b)) (taken-is m))
+    (numberOf (m .take-one .result .answer)) _
+    (m .take-one .ensures .outcome ∙ ap (acceptanceOf (tables-of b)) (taken-is b))
     (λ z. c .if1 .taken (c .before .number .ensures ∙ z))
     (s .args .n)
     (round-of m .loop-test .taken)
@@ -261,18 +242,18 @@ loop-again c =
     let b = round-of m .before in
     let s = start-of b in
     let l = b .loop in
-    let w = m .before .before .before .before .before .before .before .before .before in
-    let z : numberOf (m .take-next .result .answer) ≡ 0 = sym (c .before .number .ensures) ∙ c .if1 .left in (
+    let w = m .before .before .before .before .before .before .before .before in
+    let z : numberOf (m .take-one .result .answer) ≡ 0 = sym (c .before .number .ensures) ∙ c .if1 .left in (
       omega (arith, round-of m .loop-test .taken),
       rw (add-one (l .i))
           (next-start (form-of b) (recs-of b) (l .i) (l .at) (l .inv .1) (w .length-from .result)
           (w .length-from .ensures)),
       rw (add-one (l .i))
           (going-on (s .args .empty .sites) (given-of b) (s .pre .3) (l .i) _ (l .inv .2) _
-          (rw z at (m .take-next .ensures .0 ∙ ap (acceptanceOf (tables-of b)) (taken-is m)))),
-      m .take-next .ensures .1 z .0,
-      spaced-same (counted-in (form-of b) (recs-of b) (s .args .n)) _ _ (m .take-next .ensures .1 z .1)
-          (m .take-next .ensures .1 z .0 .places-long) (l .inv .4),
+          (rw z at (m .take-one .ensures .outcome ∙ ap (acceptanceOf (tables-of b)) (taken-is b)))),
+      m .take-one .ensures .index z,
+      spaced-same (counted-in (form-of b) (recs-of b) (s .args .n)) _ _ (m .take-one .ensures .starts z)
+          (m .take-one .ensures .index z .places-long) (l .inv .4),
     )
 
 same-length-8 : tie.Need-same-length-8 Inv-loop μ-loop
@@ -312,11 +293,9 @@ take-records-spec =
     sub-rest
     part-rest-start
     part-rest-end
-    long-from-requires
     length-from-requires
     add-at
-    slice-aggregate-take-next
-    take-next-requires
+    take-one-requires
     number-requires
     same-length
     same-length-2

@@ -81,10 +81,43 @@ same-length-2 c = search needs
 
 returns-4 : tie.Need-returns-4
 returns-4 c =
-    let w = c .before .before .before .before .before .before .before .walk in (
-      c .rest-sound .ensures,
-      λ y. w .ensures .indexed (not-false (w .result .ok) (c .before .before .before .if3 .left)),
-    )
+    let y = c .before .rest-sound in
+    let no = not-true (y .result) (c .if4 .taken) in
+    (rw no at (y .ensures .0), λ z. clash z refl)
+
+cast-are-all-named : tie.Need-cast-are-all-named
+cast-are-all-named c = search needs
+
+are-all-named-requires : tie.Need-are-all-named-requires
+are-all-named-requires c κs =
+    let y = c .before .before .rest-sound in
+    let s10 = c .before .before .before .before .before .before .before .before .before .before in
+    let s13 = s10 .before .before .before in
+    let s = s13 .before .before .before .before .before .before .before in
+    let w = s13 .within-limits in
+    let limits : withinLimits (s .args .c) ≡ true
+    = sym (w .ensures) ∙ not-false (w .result) (s10 .before .before .if2 .left) in
+    (few (s .args .c) limits .0, y .ensures .1 (not-false (y .result) (c .before .if4 .left)))
+
+same-length-3 : tie.Need-same-length-3
+same-length-3 c = search needs
+
+returns-5 : tie.Need-returns-5
+returns-5 c =
+    let y = c .before .before .before .rest-sound in
+    let s6 = c .before .before .before .before .before .before in
+    let s10 = s6 .before .before .before .before in
+    let s14 = s10 .before .before .before .before in
+    let s = s14 .before .before .before .before .before .before .before in
+    let a = s .args in
+    let v = s14 .within-limits in
+    let limits : withinLimits (a .c) ≡ true
+    = sym (v .ensures) ∙ not-false (v .result) (s10 .before .before .before .if2 .left) in
+    let w = s10 .walk in
+    let ok = not-false (w .result .ok) (s6 .if3 .left) in
+    let named = c .are-all-named .ensures (a .c .sites) (few-sites (a .c) limits) (sym (w .ensures .ok) ∙ ok) in
+    let yes = not-false (y .result) (c .before .before .if4 .left) in
+    (named ∙ (rw yes at (y .ensures .0)), λ z. w .ensures .indexed ok)
 
 pub is-sound-with-spec : {M : Type 1} → statement M
 is-sound-with-spec =
@@ -100,4 +133,8 @@ is-sound-with-spec =
     returns-3
     rest-sound-requires
     same-length-2
-    returns-4)
+    returns-4
+    cast-are-all-named
+    are-all-named-requires
+    same-length-3
+    returns-5)

@@ -13,6 +13,12 @@ use Rattle.table_soundness.proofs.SetTallies.{tallied}
 use Rattle.table_soundness.proofs.CountingPasses.{Aimed, aimed-none, aimed-low, aimed-more}
 use Rattle.table_soundness.proofs.objects.tally_sets.Statement.{statement}
 use Rattle.table_soundness.proofs.objects.tally_sets.Tie as tie
+use Rattle.table_soundness.proofs.objects.tally_sets.Reads as reads
+use Rattle.table_soundness.proofs.objects.tally_sets.Lts as lts
+use Rattle.edit_history.proofs.kind_at.Reads as kind-at-reads
+use Rattle.edit_record.proofs.is_set_kind.Reads as is-set-kind-reads
+use Rattle.edit_walk.proofs.target_place.Reads as target-place-reads
+use Rattle.table_soundness.proofs.objects.one_if.Reads as one-if-reads
 
 abbrev Inv-loop : tie.InvT-loop
 Inv-loop recs n places tallies₀ i₀ tallies i =
@@ -36,6 +42,9 @@ target-place-requires c κs = search needs
 cast-p : tie.Need-cast-p Inv-loop μ-loop
 cast-p c = search needs
 
+is-set-kind-requires : tie.Need-is-set-kind-requires Inv-loop μ-loop
+is-set-kind-requires c κs = search needs
+
 one-if-requires : tie.Need-one-if-requires Inv-loop μ-loop
 one-if-requires c κs = search needs
 
@@ -44,13 +53,14 @@ slice-read-tallies c = search needs
 
 add-tallies : tie.Need-add-tallies Inv-loop μ-loop
 add-tallies c =
-    let l = c .before .before .before .before .before .before .loop in
-    let s = c .before .before .before .before .before .before .before .before .before .before in
-    let p = c .before .before .before .target-place .result in
+    let l = c .before .before .before .before .before .before .before .loop in
+    let s = c .before .before .before .before .before .before .before .before .before .before .before in
+    let p = c .before .before .before .before .target-place .result in
     omega (
       arith,
       aimed-low (now (s .args .recs)) (now (s .args .places)) (l .tallies) (s .args .n) (l .i) p (s .pre .0)
-          (c .before .before .before .before .before .loop-test .taken) (s .pre .2) (l .inv .2) (c .before .if1 .taken),
+          (c .before .before .before .before .before .before .loop-test .taken) (s .pre .2) (l .inv .2)
+          (c .before .if1 .taken),
       c .before .before .one-if .ensures .1,
     )
 
@@ -65,7 +75,7 @@ loop-less c = search needs
 
 loop-again : tie.Need-loop-again Inv-loop μ-loop
 loop-again c =
-    let s = c .before .before in
+    let s = c .before .before .before in
     let l = s .before .before .before .loop in
     let a = s .before .before .before .before .before .before .before .args in
     let kind = s .before .kind-at .ensures in
@@ -75,7 +85,7 @@ loop-again c =
     = ⊎-elim (λ w. w .2) (λ w. w .1 ∙ sym (set-out (l .tallies) p t (omega arith))) (c .if1 .came) in (
       omega arith,
       rw e (simp length-set (l .inv .1)),
-      rw (e, c .before .one-if .ensures .0, s .target-place .ensures, kind)
+      rw (e, c .before .one-if .ensures .0, c .before .before .is-set-kind .ensures, s .target-place .ensures, kind)
           (aimed-more (now (a .recs)) (now (a .places)) (l .tallies) (l .i) (l .inv .1) (l .inv .2)),
     )
 
@@ -104,6 +114,7 @@ tally-sets-spec =
     kind-at-requires
     target-place-requires
     cast-p
+    is-set-kind-requires
     one-if-requires
     slice-read-tallies
     add-tallies

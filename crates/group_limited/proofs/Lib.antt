@@ -1,0 +1,7 @@
+pub mod OneMoreTaken
+pub mod MarkedRows
+pub mod MarksOfSets
+pub mod RowsOneMore
+pub mod ToldByRows
+pub mod RowsInPlaces
+pub mod NamedInTurn

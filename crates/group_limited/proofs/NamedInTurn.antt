@@ -1,0 +1,138 @@
+-- The Sets in the first places of which 16 is given to none, each after those before it: each that is limited names a
+-- version, and the first to which it is given ends the test. Assumes nothing.
+use mathlib.Core.Path.{_≡_, sym, ap, subst, _∙_}
+use mathlib.Core.Logic.{inl, inr}
+use mathlib.Core.Bool.{Bool, true, false, not}
+use mathlib.Core.List.{List, [], _∷_, _++_, map, map-append}
+use Prim.Native.Nat.{ℕ, zero, suc, _+_, _≤_, _<_}
+use native.Mathlib.Omega.{arith}
+use lib.ListN.{length, getD, take, drop, take-append-drop, length-append}
+use lib.Seq.{take-take, take-append-le, take-all}
+use borrow.Author.Tests.{not-true}
+use Rattle.math_lists.proofs.Booleans.{clash, off}
+use Rattle.math_lists.proofs.LastBelow.{last}
+use Rattle.math_lists.proofs.NumbersBelow.{all-on, all-at}
+use Rattle.math_contexts.specs.Box.{Lawful}
+use Rattle.math_contexts.specs.BoxByArrival.{rel}
+use Rattle.math_contexts.specs.SameSets.{SameBelow}
+use Rattle.math_contexts.specs.Versions.{AllNamed}
+use Rattle.edit_record.specs.declared.Edit.{Edit}
+use Rattle.edit_record.specs.RecordBytes.{noEdit}
+use Rattle.edit_causal.specs.Conflict.{boxOn}
+use Rattle.edit_causal.proofs.CausalLaws.{conflict-symmetric, conflict-irreflexive}
+use Rattle.edit_causal.proofs.ConflictsAmongSets.{first-sets}
+use Rattle.edit_history.specs.EditsHeld.{recordAt}
+use Rattle.edit_history.specs.Answer16.{namelessAmong}
+use Rattle.edit_history.proofs.EditsInPlaces.{sets-length, set-place}
+use Rattle.group_true.proofs.ProperSets.{named-version, named-snoc}
+use Rattle.group_limited.specs.declared.Told.{Told}
+use Rattle.group_limited.specs.LimitedForms.{setsIn, ToldOf, namedInTurn}
+use Rattle.group_limited.proofs.OneMoreTaken.{sets-more}
+
+-- the first of some Sets that are lawful are lawful
+first-lawful :
+    (ms more : List Edit) (n : ℕ) → length ms ≤ n → Lawful (boxOn (ms ++ more)) n → Lawful (boxOn ms) (length ms)
+first-lawful ms more n few law = record {
+  symmetric = λ i j. unfold rel in conflict-symmetric (getD ms i noEdit) (getD ms j noEdit);
+  irreflexive = λ i. unfold rel in conflict-irreflexive (getD ms i noEdit);
+  transitive = λ i j k l m o p q.
+      sym (same .seens i k l (omega arith))
+      ∙ law .transitive i j k (omega arith) m o (same .seens i j l (omega arith) ∙ p)
+      (same .seens j k (omega arith) (omega arith) ∙ q);
+  compatible = λ i j l m p.
+      sym (same .plains i j l (omega arith))
+      ∙ law .compatible i j (omega arith) m (same .seens i j l (omega arith) ∙ p);
+}
+  where
+    same : SameBelow (boxOn ms) (boxOn (ms ++ more)) (length ms)
+    same = first-sets ms more
+
+module _ (rs ps : List ℕ) where
+  -- the Set in the j-th of the places is nameless after those before it
+  abbrev pub nameless : ℕ → Bool
+  nameless j = namelessAmong (setsIn rs ps j) (recordAt rs (getD ps j 0))
+
+  -- where none of the first i is, each of them names a version
+  all-named : (i : ℕ) → i ≤ length ps → ((j : ℕ) → j < i → nameless j ≡ false) → AllNamed (boxOn (setsIn rs ps i)) i
+  all-named zero l h j m = absurd (omega arith)
+  all-named (suc i) l h j m =
+      let ms = setsIn rs ps i in
+      let e = recordAt rs (getD ps i 0) in
+      let size = sets-length rs ps i (omega arith) in
+      let before : AllNamed (boxOn ms) (length ms)
+      = rw size (all-named i (omega arith) (λ x o. h x (omega arith))) in
+      let long : length (ms ++ (e ∷ [])) ≡ suc i = omega (arith, length-append ms (e ∷ []), size) in
+      let after : AllNamed (boxOn (ms ++ (e ∷ []))) (suc i)
+      = subst (AllNamed (boxOn (ms ++ (e ∷ [])))) long
+      (named-snoc ms e before (named-version ms e (h i (omega arith)))) in
+      rw (sets-more rs ps i l) (after j m)
+
+  module _ (k : ℕ) (fits : k ≤ length ps) where
+    abbrev ms : List Edit
+    ms = setsIn rs ps k
+
+    -- ---- the first of them
+
+    split : (j : ℕ) → j ≤ k → ms ≡ setsIn rs ps j ++ map (recordAt rs) (drop j (take k ps))
+    split j l =
+        ap (map (recordAt rs))
+        (sym (take-append-drop j (take k ps))
+        ∙ ap (λ (t : List ℕ). t ++ drop j (take k ps)) (take-take j k ps l))
+        ∙ map-append (recordAt rs) (take j ps) (drop j (take k ps))
+
+    front : (j : ℕ) → j ≤ k → take j ms ≡ setsIn rs ps j
+    front j l =
+        let size = sets-length rs ps j (omega arith) in
+        ap (take j) (split j l)
+        ∙ take-append-le j (setsIn rs ps j) (map (recordAt rs) (drop j (take k ps))) (omega arith)
+        ∙ take-all j (setsIn rs ps j) (omega arith)
+
+    -- with the next one
+    lawful-to :
+        (i : ℕ) → i < k → (e : Edit) → e ≡ recordAt rs (getD ps i 0) → Lawful (boxOn ms) k →
+        Lawful (boxOn (setsIn rs ps i ++ (e ∷ []))) (suc (length (setsIn rs ps i)))
+    lawful-to i l e own law =
+        let size = sets-length rs ps (suc i) (omega arith) in
+        let more = map (recordAt rs) (drop (suc i) (take k ps)) in
+        let law′ : Lawful (boxOn (setsIn rs ps (suc i) ++ more)) k
+        = subst (λ (xs : List Edit). Lawful (boxOn xs) k) (split (suc i) (omega arith)) law in
+        let first : Lawful (boxOn (setsIn rs ps (suc i))) (suc i)
+        = subst (Lawful (boxOn (setsIn rs ps (suc i)))) size
+        (first-lawful (setsIn rs ps (suc i)) more k (omega arith) law′) in
+        rw (own, sets-length rs ps i (omega arith), ← sets-more rs ps i (omega arith)) first
+
+    -- ---- the test
+
+    pub in-turn-on : ((j : ℕ) → j < k → nameless j ≡ false) → namedInTurn ms ≡ true
+    unfolding namedInTurn
+    in-turn-on h =
+        let size = sets-length rs ps k fits in
+        all-on (length ms) (λ i. not (namelessAmong (take i ms) (getD ms i noEdit)))
+        (λ i l. rw (front i (omega arith), set-place rs ps k fits i (omega arith), h i (omega arith)))
+
+    pub in-turn-off : (j : ℕ) → j < k → nameless j ≡ true → namedInTurn ms ≡ false
+    unfolding namedInTurn
+    in-turn-off j l h =
+        let size = sets-length rs ps k fits in
+        off (namedInTurn ms) (λ t.
+        let free = not-true (namelessAmong (take j ms) (getD ms j noEdit))
+        (all-at (length ms) (λ i. not (namelessAmong (take i ms) (getD ms i noEdit))) t j (omega arith)) in
+        clash h (rw (front j (omega arith), set-place rs ps k fits j l) at free))
+
+    -- what is told of the next Set, where those before it name theirs
+    pub named-where-told :
+        (i : ℕ) → i < k → (e : Edit) → e ≡ recordAt rs (getD ps i 0) → (t : Told) → ToldOf (setsIn rs ps i) e t →
+        Lawful (boxOn ms) k → ((j : ℕ) → j < i → nameless j ≡ false) →
+        t .nameless ≡ namelessAmong (setsIn rs ps i) e
+    named-where-told i l e own t told law before =
+        told .nameless (lawful-to i l e own law)
+        (rw (sets-length rs ps i (omega arith)) (all-named i (omega arith) before))
+
+  -- 16 is not given to one more
+  pub passed-one-more :
+      (i : ℕ) (e : Edit) → e ≡ recordAt rs (getD ps i 0) → namelessAmong (setsIn rs ps i) e ≡ false →
+      ((j : ℕ) → j < i → nameless j ≡ false) → (j : ℕ) → j < i + 1 → nameless j ≡ false
+  passed-one-more i e own h before j l = elim (last {i = j} {n = i} (omega arith)) [
+    | inl m ↦ before j m
+    | inr q ↦ rw (q, ← own) h
+  ]

@@ -1,0 +1,98 @@
+-- Forms that the code uses: the Sets in some places of the records, what the rows of numbers tell of them, and what is
+-- told of a Set by those before it. No one need believe them: laws in proofs/ tie them to `Conflict` of `edit_causal`
+-- and to `Answer16` of `edit_history`. Assumes nothing.
+use mathlib.Core.Path.{_≡_}
+use mathlib.Core.Bool.{Bool, false, not, _&&_, cond}
+use mathlib.Core.List.{List, [], _∷_, _++_, map}
+use Prim.Native.Nat.{ℕ, suc, _+_, _-_, _^_, _<_}
+use lib.Bits.{bitAnd, bitOr}
+use lib.Dec.{eqb}
+use lib.ListN.{length, getD, take}
+use Rattle.math_lists.specs.NumbersBelow.{some, all, mask}
+use Rattle.math_maximal.specs.Groups.{bit}
+use Rattle.math_contexts.specs.Box.{Lawful}
+use Rattle.math_contexts.specs.Contexts.{contexts, context}
+use Rattle.math_contexts.specs.Versions.{AllNamed}
+use Rattle.edit_record.specs.declared.Edit.{Edit}
+use Rattle.edit_record.specs.RecordBytes.{noEdit}
+use Rattle.edit_record.specs.Answer1.{nameOf}
+use Rattle.edit_causal.specs.Conflict.{doConflict, lists, boxOn, conflictsWith}
+use Rattle.edit_causal.specs.ConflictForms.{Proper, plainMarks, saw}
+use Rattle.edit_history.specs.EditsHeld.{recordAt}
+use Rattle.edit_history.specs.Answer16.{namelessAmong}
+use Rattle.group_context.specs.RowsOfBox.{PlainRows}
+use Rattle.group_limited.specs.declared.Marks.{Marks}
+use Rattle.group_limited.specs.declared.Told.{Told}
+use Rattle.group_limited.specs.declared.Judged.{Judged}
+
+-- the Sets in the first k of the places ps
+abbrev pub setsIn : List ℕ → List ℕ → ℕ → List Edit
+setsIn rs ps k = map (recordAt rs) (take k ps)
+
+-- ---- the marks of the Sets before e
+
+-- those that its author had seen, and those that it lists: bit i stands for the i-th
+unfoldable pub seenMarks : Edit → List Edit → ℕ
+seenMarks e ms = mask (length ms) (λ i. saw e (getD ms i noEdit))
+
+unfoldable pub namedMarks : Edit → List Edit → ℕ
+namedMarks e ms = mask (length ms) (λ i. lists e (getD ms i noEdit))
+
+abbrev pub marksOn : Edit → List Edit → Marks
+marksOn e ms = record { plain = plainMarks e ms; seen = seenMarks e ms; named = namedMarks e ms }
+
+-- the marks m with those of one Set more, the i-th, a
+abbrev pub marksWith : Marks → ℕ → Edit → Edit → Marks
+marksWith m i a e =
+    record {
+      plain = m .plain + cond (doConflict a e) (2 ^ i) 0;
+      seen = m .seen + cond (saw e a) (2 ^ i) 0;
+      named = m .named + cond (lists e a) (2 ^ i) 0;
+    }
+
+-- they are marks of i Sets at most
+pub record Narrow (m : Marks) (i : ℕ) : Type 0 where
+  pub plain : m .plain < 2 ^ i
+  pub seen : m .seen < 2 ^ i
+  pub named : m .named < 2 ^ i
+
+-- one of the edits in the first k of the places, of those that are members of `seen`, has the name x
+unfoldable pub isMarkedName : List ℕ → List ℕ → ℕ → ℕ → ℕ → Bool
+isMarkedName rs ps k seen x = some k (λ i. bit seen i && eqb (nameOf (recordAt rs (getD ps i 0))) x)
+
+-- ---- the rows
+
+-- the number g of Set i, with Set n marked in it exactly if i is a member of `row`
+abbrev pub withMark : ℕ → ℕ → ℕ → ℕ → ℕ
+withMark n row i g =
+    let kept = g - bitAnd g (2 ^ n) in
+    cond (bit row i) (bitOr kept (2 ^ n)) kept
+
+-- the rows tell the conflicts of the Sets ms by document 01's rule, and their contexts
+pub record RowsTell (ms : List Edit) (plains cs : List ℕ) : Type 0 where
+  pub plainly : PlainRows (boxOn ms) (length ms) plains
+  pub held : take (length ms) cs ≡ contexts (boxOn ms) (length ms)
+
+-- what is told of a Set e that comes after the Sets ms, by rows that tell of these; whether it names a version, and
+-- its conflicts, where having seen goes through and those before it name theirs
+pub record ToldOf (ms : List Edit) (e : Edit) (t : Told) : Type 0 where
+  pub row : t .row ≡ plainMarks e ms
+  pub context : t .context ≡ context (boxOn (ms ++ (e ∷ []))) (length ms)
+  pub nameless :
+      Lawful (boxOn (ms ++ (e ∷ []))) (suc (length ms)) → AllNamed (boxOn ms) (length ms) →
+      t .nameless ≡ namelessAmong ms e
+  pub conflicts :
+      Lawful (boxOn (ms ++ (e ∷ []))) (suc (length ms)) → AllNamed (boxOn ms) (length ms) →
+      t .nameless ≡ false → t .conflicts ≡ conflictsWith e ms
+
+-- what is judged of a Set e that comes after the Sets ms, where these are proper and having seen goes through to it
+pub record JudgedOf (ms : List Edit) (e : Edit) (j : Judged) : Type 0 where
+  pub nameless :
+      Proper ms → Lawful (boxOn (ms ++ (e ∷ []))) (suc (length ms)) → j .nameless ≡ namelessAmong ms e
+  pub conflicts :
+      Proper ms → Lawful (boxOn (ms ++ (e ∷ []))) (suc (length ms)) → j .nameless ≡ false →
+      j .conflicts ≡ conflictsWith e ms
+
+-- 16 is given to none of the Sets ms, each after those before it
+unfoldable pub namedInTurn : List Edit → Bool
+namedInTurn ms = all (length ms) (λ i. not (namelessAmong (take i ms) (getD ms i noEdit)))

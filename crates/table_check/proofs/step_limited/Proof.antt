@@ -1,0 +1,189 @@
+-- `table_check::step_limited` meets its contract: after i Sets, their groups stand in front and their rows are put
+-- down. Assumes nothing.
+use mathlib.Core.Path.{_≡_, refl, sym, ap, _∙_}
+use Prim.Native.Nat.{_+_, _-_, _≤_}
+use native.Mathlib.Omega.{arith}
+use lib.ListN.{length, take}
+use denote.Ref.{now}
+use Rattle.edit_causal.proofs.ConflictsAmongSets.{none-itself}
+use Rattle.group_step.specs.GroupRows.{mostGroups}
+use Rattle.group_limited.specs.LimitedForms.{setsIn, RowsTell}
+use Rattle.group_limited.proofs.RowsInPlaces.{no-rows, rows-more}
+use Rattle.table_check.specs.CheckForms.{groupsIn}
+use Rattle.table_check.proofs.RowWorkedOut.{groups-none, stepped, in-ascending, in-below, in-more, settled-front}
+use Rattle.table_check.proofs.SetsInTurn.{told-are-all}
+use borrow.Author.Needs.{needs}
+use Rattle.table_check.proofs.step_limited.Statement.{statement}
+use Rattle.table_check.proofs.step_limited.Tie as tie
+
+abbrev Inv-loop : tie.InvT-loop
+Inv-loop gs₀ plain₀ ctx₀ recs places k n₀ i₀ gs plain ctx n i =
+    (i ≤ k)
+    × (length gs ≡ mostGroups)
+    × (n ≤ mostGroups)
+    × (take n gs ≡ groupsIn recs places i)
+    × (length plain ≡ length plain₀)
+    × (length ctx ≡ length ctx₀)
+    × RowsTell (setsIn recs places i) plain ctx
+
+abbrev μ-loop : tie.MeasureT-loop
+μ-loop gs₀ plain₀ ctx₀ recs places k n₀ i₀ gs plain ctx n i = k - i
+
+loop-holds : tie.Need-loop-holds Inv-loop μ-loop
+loop-holds c =
+    let s = c .before .before .before .before .before in
+    let a = s .args in (
+      omega arith,
+      s .pre .0,
+      omega arith,
+      s .pre .1 ∙ sym (groups-none (now (a .recs)) (now (a .places))),
+      refl,
+      refl,
+      no-rows (now (a .plain)) (now (a .ctx)),
+    )
+
+mul-decode-at : tie.Need-mul-decode-at Inv-loop μ-loop
+mul-decode-at c = search needs
+
+shared-slice-read-decode-at : tie.Need-shared-slice-read-decode-at Inv-loop μ-loop
+shared-slice-read-decode-at c = search needs
+
+cast-decode-at : tie.Need-cast-decode-at Inv-loop μ-loop
+cast-decode-at c = omega (arith, c .shared-slice-known3 .given (c .before .before .loop .i))
+
+decode-at-requires : tie.Need-decode-at-requires Inv-loop μ-loop
+decode-at-requires c κs = omega (arith, c .shared-slice-known3 .given (c .before .before .loop .i))
+
+told-of-requires : tie.Need-told-of-requires Inv-loop μ-loop
+told-of-requires c κs = search needs
+
+step-row-requires : tie.Need-step-row-requires Inv-loop μ-loop
+step-row-requires c κs =
+    let l = c .before .before .before .before .before .before .before .loop in
+    let a = c .before .before .before .before .before .before .before .before .before .before .before .before .before
+    .args in (
+      l .inv .1,
+      l .inv .2,
+      omega arith,
+      rw (l .inv .3) (in-ascending (now (a .recs)) (now (a .places)) (l .i)),
+      rw (l .inv .3) (in-below (now (a .recs)) (now (a .places)) (l .i) (omega arith)),
+    )
+
+same-length : tie.Need-same-length Inv-loop μ-loop
+same-length c = search needs
+
+same-length-2 : tie.Need-same-length-2 Inv-loop μ-loop
+same-length-2 c = search needs
+
+same-length-3 : tie.Need-same-length-3 Inv-loop μ-loop
+same-length-3 c = search needs
+
+returns : tie.Need-returns Inv-loop μ-loop
+returns c =
+    let b = c .before .before .before .before .before in
+    let d = b .before .before .before .decode-at in
+    let y = b .before .before .before .before .before in
+    let l = y .before .loop in
+    let s = y .before .before .before .before .before .before .before in
+    let a = s .args in
+    let rs = now (a .recs) in
+    let ps = now (a .places) in
+    let told = b .told-of .ensures (l .inv .6) in
+    let w = s .pre .6 in
+    let all = told-are-all rs ps (a .k) (s .pre .4) (l .i) (omega arith) (d .result) (d .ensures) w
+    (b .told-of .result) told in
+    let next = stepped rs ps (l .i) (l .n) (l .gs) (omega arith)
+    (none-itself _ (w .proper (l .i + 1) (omega arith))) (l .inv .3) (d .result) (d .ensures) _ all in
+    let r = c .before .before .before .step-row in
+    record {
+      few = λ h. absurd (omega arith);
+      many =
+          λ h. omega (
+            arith,
+            r .ensures .0,
+            ap length next,
+            in-more rs ps (l .i + 1) (a .k) (omega arith) (none-itself _ (w .proper (a .k) (omega arith))),
+          );
+    }
+
+put-told-requires : tie.Need-put-told-requires Inv-loop μ-loop
+put-told-requires c κs = search needs
+
+add-i : tie.Need-add-i Inv-loop μ-loop
+add-i c =
+    let b = c .before .before .before .before .before .before .before .before .before .before .before .before in
+    let y = b .before .before .before .before .before in
+    omega (arith, y .loop-test .taken, y .before .before .before .before .before .before .before .pre .5)
+
+loop-less : tie.Need-loop-less Inv-loop μ-loop
+loop-less c = search needs
+
+loop-again : tie.Need-loop-again Inv-loop μ-loop
+loop-again c =
+    let p = c .before .before .before .before .put-told in
+    let f = c .before .before .before .before .before .before .before .if1 in
+    let r = c .before .before .before .before .before .before .before .before .before .before .step-row in
+    let b = c .before .before .before .before .before .before .before .before .before .before .before .before in
+    let d = b .before .before .before .decode-at in
+    let y = b .before .before .before .before .before in
+    let l = y .before .loop in
+    let s = y .before .before .before .before .before .before .before in
+    let a = s .args in
+    let rs = now (a .recs) in
+    let ps = now (a .places) in
+    let told = b .told-of .ensures (l .inv .6) in
+    let w = s .pre .6 in
+    let all = told-are-all rs ps (a .k) (s .pre .4) (l .i) (omega arith) (d .result) (d .ensures) w
+    (b .told-of .result) told in
+    let next = stepped rs ps (l .i) (l .n) (l .gs) (omega arith)
+    (none-itself _ (w .proper (l .i + 1) (omega arith))) (l .inv .3) (d .result) (d .ensures) _ all in (
+      omega arith,
+      r .kept .0 ∙ l .inv .1,
+      omega (arith, f .left),
+      settled-front _ (l .gs) (r .last .0) (r .result) (r .ensures .1) (r .ensures .0) (omega (arith, f .left)) ∙ next,
+      p .kept .0 ∙ l .inv .4,
+      p .kept .1 .0 ∙ l .inv .5,
+      rows-more rs ps (l .i) (omega arith) (d .result) (b .told-of .result) (d .ensures) (l .plain) (l .ctx)
+          (p .last .0) (p .last .1 .0) (l .inv .6) told (p .ensures),
+    )
+
+same-length-4 : tie.Need-same-length-4 Inv-loop μ-loop
+same-length-4 c = search needs
+
+same-length-5 : tie.Need-same-length-5 Inv-loop μ-loop
+same-length-5 c = search needs
+
+same-length-6 : tie.Need-same-length-6 Inv-loop μ-loop
+same-length-6 c = search needs
+
+returns-2 : tie.Need-returns-2 Inv-loop μ-loop
+returns-2 c =
+    let l = c .before .loop in
+    let k : l .i ≡ c .before .before .before .before .before .before .before .args .k = omega arith in
+    record { few = λ h. rw (← k) (l .inv .3); many = λ h. absurd (omega (arith, l .inv .2)) }
+
+pub step-limited-spec : {M : Type 1} → statement M
+step-limited-spec =
+    tie.close
+    (tie.spec
+    Inv-loop
+    μ-loop
+    loop-holds
+    mul-decode-at
+    shared-slice-read-decode-at
+    cast-decode-at
+    decode-at-requires
+    told-of-requires
+    step-row-requires
+    same-length
+    same-length-2
+    same-length-3
+    returns
+    put-told-requires
+    add-i
+    loop-less
+    loop-again
+    same-length-4
+    same-length-5
+    same-length-6
+    returns-2)

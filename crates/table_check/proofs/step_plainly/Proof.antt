@@ -1,0 +1,139 @@
+-- `table_check::step_plainly` meets its contract: after i Sets, their groups stand in front. Assumes nothing.
+use mathlib.Core.Path.{_≡_, sym, ap, _∙_}
+use Prim.Native.Nat.{_+_, _-_, _≤_}
+use native.Mathlib.Omega.{arith}
+use lib.ListN.{length, take}
+use denote.Ref.{now}
+use Rattle.edit_causal.proofs.ConflictsAmongSets.{none-itself}
+use Rattle.group_step.specs.GroupRows.{mostGroups}
+use Rattle.table_check.specs.CheckForms.{groupsIn}
+use Rattle.table_check.proofs.RowWorkedOut.{groups-none, stepped, in-ascending, in-below, in-more, settled-front}
+use Rattle.table_check.proofs.SetsInTurn.{plain-are-all}
+use borrow.Author.Needs.{needs}
+use Rattle.table_check.proofs.step_plainly.Statement.{statement}
+use Rattle.table_check.proofs.step_plainly.Tie as tie
+
+abbrev Inv-loop : tie.InvT-loop
+Inv-loop gs₀ recs places k n₀ i₀ gs n i =
+    (i ≤ k) × (length gs ≡ mostGroups) × (n ≤ mostGroups) × (take n gs ≡ groupsIn recs places i)
+
+abbrev μ-loop : tie.MeasureT-loop
+μ-loop gs₀ recs places k n₀ i₀ gs n i = k - i
+
+loop-holds : tie.Need-loop-holds Inv-loop μ-loop
+loop-holds c =
+    let s = c .before .before .before in
+    let a = s .args in
+    (omega arith, s .pre .0, omega arith, s .pre .1 ∙ sym (groups-none (now (a .recs)) (now (a .places))))
+
+mul-decode-at : tie.Need-mul-decode-at Inv-loop μ-loop
+mul-decode-at c = search needs
+
+shared-slice-read-decode-at : tie.Need-shared-slice-read-decode-at Inv-loop μ-loop
+shared-slice-read-decode-at c = search needs
+
+cast-decode-at : tie.Need-cast-decode-at Inv-loop μ-loop
+cast-decode-at c = omega (arith, c .shared-slice-known3 .given (c .before .before .loop .i))
+
+decode-at-requires : tie.Need-decode-at-requires Inv-loop μ-loop
+decode-at-requires c κs = omega (arith, c .shared-slice-known3 .given (c .before .before .loop .i))
+
+plain-marks-requires : tie.Need-plain-marks-requires Inv-loop μ-loop
+plain-marks-requires c κs = search needs
+
+step-row-requires : tie.Need-step-row-requires Inv-loop μ-loop
+step-row-requires c κs =
+    let s = c .before .before .before .before .before .before .before .before .before in
+    let a = s .args in
+    let l = c .before .before .before .before .before .loop in (
+      l .inv .1,
+      l .inv .2,
+      omega arith,
+      rw (l .inv .3) (in-ascending (now (a .recs)) (now (a .places)) (l .i)),
+      rw (l .inv .3) (in-below (now (a .recs)) (now (a .places)) (l .i) (omega arith)),
+    )
+
+same-length : tie.Need-same-length Inv-loop μ-loop
+same-length c = search needs
+
+returns : tie.Need-returns Inv-loop μ-loop
+returns c =
+    let b = c .before .before .before .before .before in
+    let s = b .before .before .before .before .before .before .before .before in
+    let a = s .args in
+    let l = b .before .before .before .before .loop in
+    let r = c .before .before .before .step-row in
+    let e = b .before .decode-at in
+    let m = b .plain-marks in
+    let next = stepped (now (a .recs)) (now (a .places)) (l .i) (l .n) (l .gs) (omega arith)
+    (none-itself _ (s .pre .4 .proper (l .i + 1) (omega arith))) (l .inv .3) (e .result) (e .ensures) (m .result)
+    (m .ensures
+    ∙ plain-are-all (now (a .recs)) (now (a .places)) (a .k) (s .pre .2) (l .i) (omega arith) (e .result) (e .ensures)
+    (s .pre .5)) in
+    record {
+      few = λ h. absurd (omega arith);
+      many =
+          λ h. omega (
+            arith,
+            r .ensures .0,
+            ap length next,
+            in-more (now (a .recs)) (now (a .places)) (l .i + 1) (a .k) (omega arith)
+                (none-itself _ (s .pre .4 .proper (a .k) (omega arith))),
+          );
+    }
+
+add-i : tie.Need-add-i Inv-loop μ-loop
+add-i c = search needs
+
+loop-less : tie.Need-loop-less Inv-loop μ-loop
+loop-less c = search needs
+
+loop-again : tie.Need-loop-again Inv-loop μ-loop
+loop-again c =
+    let b = c .before .before .before .before .before in
+    let s = b .before .before .before .before .before .before .before .before in
+    let a = s .args in
+    let l = b .before .before .before .before .loop in
+    let r = c .before .before .before .step-row in
+    let e = b .before .decode-at in
+    let m = b .plain-marks in
+    let next = stepped (now (a .recs)) (now (a .places)) (l .i) (l .n) (l .gs) (omega arith)
+    (none-itself _ (s .pre .4 .proper (l .i + 1) (omega arith))) (l .inv .3) (e .result) (e .ensures) (m .result)
+    (m .ensures
+    ∙ plain-are-all (now (a .recs)) (now (a .places)) (a .k) (s .pre .2) (l .i) (omega arith) (e .result) (e .ensures)
+    (s .pre .5)) in (
+      omega arith,
+      r .kept .0 ∙ l .inv .1,
+      omega arith,
+      settled-front _ (l .gs) (r .last .0) (r .result) (r .ensures .1) (r .ensures .0) (omega arith) ∙ next,
+    )
+
+same-length-2 : tie.Need-same-length-2 Inv-loop μ-loop
+same-length-2 c = search needs
+
+returns-2 : tie.Need-returns-2 Inv-loop μ-loop
+returns-2 c =
+    let l = c .before .loop in
+    let k : l .i ≡ c .before .before .before .before .before .args .k = omega arith in
+    record { few = λ h. rw (← k) (l .inv .3); many = λ h. absurd (omega (arith, l .inv .2)) }
+
+pub step-plainly-spec : {M : Type 1} → statement M
+step-plainly-spec =
+    tie.close
+    (tie.spec
+    Inv-loop
+    μ-loop
+    loop-holds
+    mul-decode-at
+    shared-slice-read-decode-at
+    cast-decode-at
+    decode-at-requires
+    plain-marks-requires
+    step-row-requires
+    same-length
+    returns
+    add-i
+    loop-less
+    loop-again
+    same-length-2
+    returns-2)

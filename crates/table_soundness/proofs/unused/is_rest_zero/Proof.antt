@@ -1,0 +1,57 @@
+-- `table_soundness::unused::is_rest_zero` meets its contract. Assumes nothing.
+use mathlib.Core.Path.{_≡_, ap, _∙_}
+use Prim.Native.Nat.{ℕ, _+_, _*_, _-_}
+use native.Mathlib.Omega.{arith}
+use lib.ListN.{take, drop}
+use denote.Ref.{now}
+use borrow.Author.Needs.{needs}
+use Rattle.edit_record.specs.Layout.{placeLength}
+use Rattle.edit_record.specs.RecordBytes.{spanOf}
+use Rattle.table_soundness.specs.Sound.{zeroFrom, restZero}
+use Rattle.table_soundness.proofs.unused.is_rest_zero.Statement.{statement}
+use Rattle.table_soundness.proofs.unused.is_rest_zero.Tie as tie
+
+mul-at : tie.Need-mul-at
+mul-at c = search needs
+
+add-end : tie.Need-add-end
+add-end c = search needs
+
+sub-place : tie.Need-sub-place
+sub-place c = search needs
+
+part-place-start : tie.Need-part-place-start
+part-place-start c = search needs
+
+part-place-end : tie.Need-part-place-end
+part-place-end c = search needs
+
+span-of-requires : tie.Need-span-of-requires
+span-of-requires c κs = search needs
+
+is-zero-from8-requires : tie.Need-is-zero-from8-requires
+is-zero-from8-requires c κs = search needs
+
+returns : tie.Need-returns
+unfolding restZero
+returns c =
+    let a = c .before .before .before .before .args in
+    let at = a .p * placeLength in
+    let long : at + placeLength - at ≡ placeLength = omega arith in
+    let rest = drop at (now (a .recs)) in
+    c .is-zero-from8 .ensures
+    ∙ ap (zeroFrom (take (at + placeLength - at) rest)) (c .before .span-of .ensures)
+    ∙ ap (λ (k : ℕ). zeroFrom (take k rest) (spanOf (take k rest))) long
+
+pub is-rest-zero-spec : {M : Type 1} → statement M
+is-rest-zero-spec =
+    tie.close
+    (tie.spec
+    mul-at
+    add-end
+    sub-place
+    part-place-start
+    part-place-end
+    span-of-requires
+    is-zero-from8-requires
+    returns)
