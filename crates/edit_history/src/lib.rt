@@ -8,18 +8,20 @@ use edit_record::CREATE;
 use edit_record::Edit;
 use edit_record::LIMITED;
 use edit_record::PLACE;
+use edit_record::RECORD;
 use edit_record::SITES;
 use edit_record::Seq;
 use edit_record::Site;
 ghost use mathlib.Core.Path.{_≡_};
-ghost use mathlib.Core.Bool.{true, cond};
+ghost use mathlib.Core.Bool.{true, cond, _||_};
 ghost use Prim.Native.Nat.{_+_, _^_, _≤_, _<_};
 ghost use lib.ListN.{length, getD};
-ghost use Rattle.edit_record.specs.Layout.{twoBytes};
+ghost use lib.Dec.{leb, ltb};
+ghost use Rattle.edit_record.specs.Layout.{mostSites, twoBytes};
+ghost use Rattle.edit_record.specs.Answer1.{entryOf};
 ghost use Rattle.edit_history.specs.EditsHeld.{mostRecords, recordAt, editsOf, isSetOn, setsOn, isTarget};
 ghost use Rattle.edit_history.specs.Answers2to5.{largerSomewhere, tears};
-ghost use Rattle.edit_history.specs.SurveyForms.{bump, aheadElsewhere, repeatedAgainst, earlyAgainst};
-ghost use Rattle.edit_history.specs.SurveyForms.{markBits, surveyOf, surveyWith, Room};
+ghost use Rattle.edit_history.specs.SurveyForms.{bump, aheadElsewhere, markBits, surveyOf, surveyWith, Room};
 
 // The records held, Creates included, are at most so many.
 pub const RECORDS: usize = 256;
@@ -49,6 +51,19 @@ pub fn decode_at(recs: &[u8], p: usize) -> Edit
     }
 }
 
+// The vector of the edit in place p, read where it stands.
+pub fn vector_at(recs: &[u8], p: usize) -> [u16; SITES]
+    requires { ⌜ p < twoBytes ⌝ }
+    ensures { λ r. ⌜ r ≡ recordAt (now (recs .entry)) p .vector ⌝ }
+{
+    let at = p * PLACE;
+    if at + RECORD <= recs.len() {
+        return edit_record::vector_of(&recs[at..]);
+    }
+    let e = decode_at(recs, p);
+    e.vector
+}
+
 // The kind of the edit in place p, read where it stands.
 pub fn kind_at(recs: &[u8], p: usize) -> u8
     requires { ⌜ p < twoBytes ⌝ }
@@ -70,16 +85,24 @@ pub fn bumped(v: [u16; SITES], s: Site) -> [u16; SITES]
     w
 }
 
-// Whether answer 2 is given to the edit, where so many edits of each site are held.
-pub fn is_repeated(held: [u16; SITES], e: Edit) -> bool
-    ensures { λ r. ⌜ r ≡ repeatedAgainst held e ⌝ }
+// How many edits of site s are held, by the counts of all sites.
+pub fn held_from(held: &[u16], s: Site) -> u16
+    ensures { λ r. ⌜ r ≡ entryOf (now (held .entry)) s .0 ⌝ }
 {
-    e.seq.0 <= edit_record::entry(held, e.site).0
+    edit_record::entry_at(held, s.0 as usize)
+}
+
+// Whether answer 2 is given to the edit s.q, where so many edits of each site are held.
+pub fn is_repeated(held: &[u16], s: Site, q: Seq) -> bool
+    ensures { λ r. ⌜ r ≡ leb (q .0) (entryOf (now (held .entry)) s .0) ⌝ }
+{
+    q.0 <= held_from(held, s)
 }
 
 // Whether an entry of v other than the site's own is above that of held.
-fn is_ahead_elsewhere(held: [u16; SITES], v: [u16; SITES], s: Site) -> bool
-    ensures { λ r. ⌜ r ≡ aheadElsewhere held v s ⌝ }
+fn is_ahead_elsewhere(held: &[u16], v: [u16; SITES], s: Site) -> bool
+    requires { ⌜ mostSites ≤ length (now held) ⌝ }
+    ensures { λ r. ⌜ r ≡ aheadElsewhere (now (held .entry)) v s ⌝ }
 {
     let own = s.0 as usize;
     let mut found = false;
@@ -91,13 +114,14 @@ fn is_ahead_elsewhere(held: [u16; SITES], v: [u16; SITES], s: Site) -> bool
     found
 }
 
-// Whether answer 3 is given to the edit, where so many edits of each site are held.
-pub fn is_early(held: [u16; SITES], e: Edit) -> bool
-    ensures { λ r. ⌜ r ≡ earlyAgainst held e ⌝ }
+// Whether answer 3 is given to the edit s.q with the vector v, where so many edits of each site are held.
+pub fn is_early(held: &[u16], v: [u16; SITES], s: Site, q: Seq) -> bool
+    requires { ⌜ mostSites ≤ length (now held) ⌝ }
+    ensures { λ r. ⌜ r
+        ≡ (ltb (entryOf (now (held .entry)) s .0 + 1) (q .0) || aheadElsewhere (now (held .entry)) v s) ⌝ }
 {
-    let v = e.vector;
-    let own = edit_record::entry(held, e.site);
-    (own.0 as u32 + 1 < e.seq.0 as u32) | is_ahead_elsewhere(held, v, e.site)
+    let own = held_from(held, s);
+    (own as u32 + 1 < q.0 as u32) | is_ahead_elsewhere(held, v, s)
 }
 
 // Whether an entry of v is larger than w's.

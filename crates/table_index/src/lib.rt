@@ -39,18 +39,6 @@ struct Mates {
     limited: bool,
 }
 
-// Where the index has the edit in place p of the records.
-fn spot(recs: &[u8], places: &[u16], p: usize) -> usize
-    requires { ⌜ p < mostRecords ⌝ }
-    ensures { λ r. ⌜ r ≡ slotOf (now (places .entry)) (recordAt (now (recs .entry)) p .site .0)
-        (recordAt (now (recs .entry)) p .seq .0) ⌝ }
-{
-    let at = p * PLACE;
-    let site = edit_record::byte_at(recs, at + AT_SITE);
-    let seq = edit_record::two_at(recs, at + AT_SEQ);
-    edit_walk::slot_of(places, Site(site), Seq(seq))
-}
-
 // Puts the place p behind those of the Sets of object o.
 fn add_set(p: usize, o: usize, counts: &mut [u16], members: &mut [u16])
     requires { ⌜ (p < mostRecords)
@@ -86,7 +74,7 @@ pub fn add(
         × (r ≡ numberAt (now (recs .entry)) (p + 1))
         × SameStarts (now (places .entry)) (now (places .exit)) ⌝ }
 {
-    let at = spot(recs, places, p);
+    let at = edit_walk::spot(recs, places, p);
     places[at] = p as u16;
     let kind = edit_history::kind_at(recs, p);
     if kind == CREATE {

@@ -1,10 +1,10 @@
--- `table_index::spot` meets its contract: the site and the sequence number are three bytes of the table. Assumes
+-- `edit_walk::spot` meets its contract: the site and the sequence number are three bytes of the table. Assumes
 -- nothing.
 use denote.Ref.{now}
 use Rattle.edit_history.proofs.FieldsInPlace.{site-in-place, seq-in-place}
 use borrow.Author.Needs.{needs}
-use Rattle.table_index.proofs.spot.Statement.{statement}
-use Rattle.table_index.proofs.spot.Tie as tie
+use Rattle.edit_walk.proofs.spot.Statement.{statement}
+use Rattle.edit_walk.proofs.spot.Tie as tie
 
 mul-at : tie.Need-mul-at
 mul-at c = search needs
