@@ -1,27 +1,22 @@
 // The edits held, in the order of arrival: answers 2 to 5 of document 01 against them, and what an arriving edit asks
 // of them.
-use edit_causal::has_seen;
-use edit_causal::is_conflict;
-use edit_causal::is_same;
 use edit_record::AT_KIND;
-use edit_record::CREATE;
 use edit_record::Edit;
-use edit_record::LIMITED;
 use edit_record::PLACE;
 use edit_record::RECORD;
 use edit_record::SITES;
 use edit_record::Seq;
 use edit_record::Site;
 ghost use mathlib.Core.Path.{_≡_};
-ghost use mathlib.Core.Bool.{true, cond, _||_};
+ghost use mathlib.Core.Bool.{true, false, cond, _||_};
 ghost use Prim.Native.Nat.{_+_, _^_, _≤_, _<_};
 ghost use lib.ListN.{length, getD};
 ghost use lib.Dec.{leb, ltb};
 ghost use Rattle.edit_record.specs.Layout.{mostSites, twoBytes};
 ghost use Rattle.edit_record.specs.Answer1.{entryOf};
-ghost use Rattle.edit_history.specs.EditsHeld.{mostRecords, recordAt, editsOf, isSetOn, setsOn, isTarget};
-ghost use Rattle.edit_history.specs.Answers2to5.{largerSomewhere, tears};
-ghost use Rattle.edit_history.specs.SurveyForms.{bump, aheadElsewhere, markBits, surveyOf, surveyWith, Room};
+ghost use Rattle.edit_history.specs.EditsHeld.{mostRecords, recordAt};
+ghost use Rattle.edit_history.specs.Answers2to5.{largerSomewhere};
+ghost use Rattle.edit_history.specs.SurveyForms.{bump, aheadElsewhere, markBits};
 
 // The records held, Creates included, are at most so many.
 pub const RECORDS: usize = 256;
@@ -137,37 +132,6 @@ pub fn is_larger_somewhere(v: [u16; SITES], w: [u16; SITES]) -> bool
     found
 }
 
-// Whether e has seen a, whose vector has a larger entry somewhere.
-fn is_torn_by(e: Edit, a: Edit) -> bool
-    ensures { λ r. ⌜ r ≡ tears e a ⌝ }
-{
-    let v = a.vector;
-    let w = e.vector;
-    has_seen(w, a.site, a.seq) & is_larger_somewhere(v, w)
-}
-
-// Whether a is the Create that e targets, and e has seen it.
-fn is_target(e: Edit, a: Edit) -> bool
-    ensures { λ r. ⌜ r ≡ isTarget e a ⌝ }
-{
-    let w = e.vector;
-    (a.kind == CREATE) & is_same(a.site, a.seq, e.tsite, e.tseq) & has_seen(w, a.site, a.seq)
-}
-
-// Whether e is a Set on the Create s.q.
-fn is_set_on(s: Site, q: Seq, e: Edit) -> bool
-    ensures { λ r. ⌜ r ≡ isSetOn s q e ⌝ }
-{
-    edit_record::is_set_kind(e.kind) & is_same(e.tsite, e.tseq, s, q)
-}
-
-// 1 where b holds, else 0.
-fn one_if(b: bool) -> usize
-    ensures { λ r. ⌜ (r ≡ cond b 1 0) × (r ≤ 1) ⌝ }
-{
-    if b { 1 } else { 0 }
-}
-
 // The marks m with bit k, if b holds.
 pub fn marked_if(b: bool, m: u64, k: usize) -> u64
     requires { ⌜ (m < 2 ^ k) × (b ≡ true → k < markBits) ⌝ }
@@ -176,47 +140,16 @@ pub fn marked_if(b: bool, m: u64, k: usize) -> u64
     if b { m + (1 << k) } else { m }
 }
 
-// The survey with one edit more, a, of those that e asks of.
-fn survey_with(v: Surveyed, a: Edit, e: Edit) -> Surveyed
-    requires { ⌜ Room v a e ⌝ }
-    ensures { λ r. ⌜ r ≡ surveyWith v a e ⌝ }
+// What is found of an edit whose target is not held.
+pub fn none_found(torn: bool) -> Surveyed
+    ensures { λ r. ⌜ (r .torn ≡ torn) × (r .found ≡ false) ⌝ }
 {
-    let torn = v.torn | is_torn_by(e, a);
-    let found = v.found | is_target(e, a);
-    let set = is_set_on(e.tsite, e.tseq, a);
-    let object = v.object + one_if((a.kind == CREATE) & !found);
-    let sets = v.sets + one_if(set);
-    let plain = marked_if(set & is_conflict(a, e), v.plain, v.sets);
-    let limited = v.limited | (set & (a.kind == LIMITED));
     Surveyed {
         torn,
-        found,
-        object,
-        sets,
-        plain,
-        limited,
-    }
-}
-
-// The survey of the first n records for the edit e, whose object has at most as many Sets as a number has bits.
-pub fn survey(recs: &[u8], n: usize, e: Edit) -> Surveyed
-    requires { ⌜ (n ≤ mostRecords) × (length (setsOn (e .tsite) (e .tseq) (editsOf (now recs) n)) ≤ markBits) ⌝ }
-    ensures { λ r. ⌜ r ≡ surveyOf (editsOf (now (recs .entry)) n) e ⌝ }
-{
-    let mut v = Surveyed {
-        torn: false,
         found: false,
         object: 0,
         sets: 0,
         plain: 0,
         limited: false,
-    };
-    let mut i: usize = 0;
-    while i < n {
-        let a = decode_at(recs, i);
-        let next = survey_with(v, a, e);
-        v = next;
-        i += 1;
     }
-    v
 }

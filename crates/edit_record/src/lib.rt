@@ -276,7 +276,7 @@ fn is_nonzero_past(n: u8, rec: &[u8]) -> bool
 }
 
 // The value of a record that is there whole.
-fn value_of(rec: &[u8]) -> u32
+pub fn value_of(rec: &[u8]) -> u32
     requires { ⌜ recordLength ≤ length (now rec) ⌝ }
     ensures { λ r. ⌜ r ≡ four (now (rec .entry)) valueAt ⌝ }
 {

@@ -1,6 +1,5 @@
--- The survey by the index is the survey of the edits held, for an edit to which none of 1 to 3 applies: a Create has no
--- target, and any other edit whose target is held has it where the index says. Assumes that the records pass and are
--- within the limits.
+-- The survey by the index is the survey of the edits held, for an edit to which none of 1 to 3 applies: one whose target
+-- is held has it where the index says. Assumes that the records pass and are within the limits.
 use mathlib.Core.Path.{_≡_, refl, sym, ap, ap₂, _∙_}
 use mathlib.Core.Logic.{_⊎_, inl, inr}
 use mathlib.Core.Bool.{Bool, true, false, not, _&&_, _||_, cond}
@@ -25,11 +24,12 @@ use Rattle.edit_causal.proofs.PlainMarks.{none-marked}
 use Rattle.edit_history.specs.EditsHeld.{recordAt, editsOf, creates, isSetOn, setsOn, isTarget, indexOf, objectOf}
 use Rattle.edit_history.specs.Answers2to5.{isTorn}
 use Rattle.edit_history.specs.SurveyForms.{repeatedAgainst, earlyAgainst, surveyOf}
-use Rattle.edit_walk.specs.WalkForms.{placeOf, tornByLatest, targetHeld}
+use Rattle.edit_walk.specs.WalkForms.{placeOf, tornByNews, targetHeld, inTurnAgainst}
 use Rattle.edit_history.proofs.EditsHeld.{target-parts, any-edit-on, any-edit-at, chosen-more, create-less, object-snoc}
 use Rattle.edit_history.proofs.ByCounts.{repeated-against, early-against}
 use Rattle.edit_history.proofs.RecordsPassed.{InTurn, in-turn, formed-at, one-place, target-before}
-use Rattle.edit_walk.proofs.LatestDecides.{torn-same, target-same}
+use Rattle.edit_walk.proofs.LatestDecides.{target-same}
+use Rattle.edit_walk.proofs.NewsDecide.{news-same}
 use Rattle.group_step.specs.GroupRows.{mostObjects, mostSets}
 use Rattle.table_drawing.specs.declared.Counters.{Counters}
 use Rattle.table_index.specs.IndexForms.{numberAt, placesOn, IndexOf, Holds, matesOf}
@@ -125,70 +125,25 @@ module _
 
   -- ---- an edit to which none of 1 to 3 applies
 
-  pub turn :
-      (e : Edit) → not (unfit (c .sites) e || repeatedAgainst (c .held) e || earlyAgainst (c .held) e) ≡ true →
-      InTurn (c .sites) es e × (unfit (c .sites) e ≡ false)
+  pub turn : (e : Edit) → inTurnAgainst (c .sites) (c .held) e ≡ true → InTurn (c .sites) es e
+  unfolding inTurnAgainst
   turn e y =
       let u = unfit (c .sites) e in
       let r = repeatedAgainst (c .held) e in
       let a = earlyAgainst (c .held) e in
       let (ur, early) = neither (u || r) a (not-true (u || r || a) y) in
       let (fit, repeated) = neither u r ur in
-      let low : e .site .0 < mostSites = omega (arith, well-formed (c .sites) e fit .site, h .few-sites) in (
-        in-turn (c .sites) es e fit (sym (repeated-against (c .held) es (h .held) e low) ∙ repeated)
-            (sym (early-against (c .held) es (h .held) e low) ∙ early),
-        fit,
-      )
+      let low : e .site .0 < mostSites = omega (arith, well-formed (c .sites) e fit .site, h .few-sites) in
+      in-turn (c .sites) es e fit (sym (repeated-against (c .held) es (h .held) e low) ∙ repeated)
+      (sym (early-against (c .held) es (h .held) e low) ∙ early)
 
-  pub torn-is : (e : Edit) → InTurn (c .sites) es e → tornByLatest rs ps e ≡ isTorn es e
-  torn-is e t = torn-same (c .sites) (h .few-sites) rs n (h .pass) ps (x .indexed) e t
+  pub torn-is : (e : Edit) → InTurn (c .sites) es e → tornByNews rs ps (e .vector) (e .site) ≡ isTorn es e
+  torn-is e t = news-same (c .sites) (h .few-sites) rs n (h .pass) ps (x .indexed) e t
 
-  -- ---- a Create
-
-  no-sets : (f : Edit → Bool) (xs : List Edit) → any f xs ≡ false → filter f xs ≡ []
-  unfolding any filter
-  no-sets f [] y = refl
-  no-sets f (a ∷ xs) y = let (p, q) = neither (f a) (any f xs) y in rw p (no-sets f xs q)
-
-  module _ (e : Edit) (fit : unfit (c .sites) e ≡ false) (create : isCreate e ≡ true) where
-    no-target : e .tseq .0 ≡ 0
-    no-target = create-aims-nowhere (c .sites) e fit create
-
-    not-target : (p : ℕ) → p < n → isTarget e (recordAt rs p) ≡ false
-    not-target p l =
-        off (isTarget e (recordAt rs p))
-        (λ t. omega (
-          arith,
-          target-parts e (recordAt rs p) t .seq,
-          formed-at (c .sites) rs n (h .pass) p l .seq,
-          no-target,
-        ))
-
-    none-on : setsOn (e .tsite) (e .tseq) es ≡ []
-    unfolding setsOn
-    none-on =
-        no-sets (isSetOn (e .tsite) (e .tseq)) es
-        (off (any (isSetOn (e .tsite) (e .tseq)) es) (λ y.
-        let (p, l, on) = any-edit-at (isSetOn (e .tsite) (e .tseq)) rs n y in
-        let a = recordAt rs p in
-        let (set, same) = both (isSet a) (sameEdit (a .tsite) (a .tseq) (e .tsite) (e .tseq)) on in
-        let (_, seq) = both (eqb (a .tsite .0) (e .tsite .0)) (eqb (a .tseq .0) (e .tseq .0)) same in
-        let (u, k, t) = target-before (c .sites) rs n (h .pass) p l (set-aimed a set) in
-        omega (
-          arith,
-          target-parts a (recordAt rs u) t .seq,
-          formed-at (c .sites) rs n (h .pass) u (omega arith) .seq,
-          eqb-true (a .tseq .0) (e .tseq .0) seq,
-          no-target,
-        )))
-
-    pub create-surveyed :
-        (torn : Bool) → torn ≡ isTorn es e →
-        record { torn = torn; found = false; object = c .objects; sets = 0; plain = 0; limited = false }
-        ≡ surveyOf es e
-    unfolding surveyOf any
-    create-surveyed torn y =
-        rw (y, none-among e n not-target, object-none e n not-target, none-on, none-marked e, h .objects)
+  pub held-is :
+      (e : Edit) → length (c .held) ≡ mostSites → targetHeld (c .held) rs ps e ≡ any (isTarget e) es
+  held-is e long =
+      target-same (c .sites) (h .few-sites) rs n (h .pass) ps (x .indexed) (c .held) long (h .held) e
 
   -- ---- an edit whose target is held
 
@@ -203,12 +158,7 @@ module _
         map (recordAt rs) (take (getD cs (objectOf e es) 0) (drop (objectOf e es * mostSets) ms))
         ≡ setsOn (e .tsite) (e .tseq) es
 
-  module _ (e : Edit) (long : length (c .held) ≡ mostSites) (on : targetHeld (c .held) rs ps e ≡ true) where
-    held : any (isTarget e) es ≡ true
-    held =
-        sym (target-same (c .sites) (h .few-sites) rs n (h .pass) ps (x .indexed) (c .held) long (h .held) e)
-        ∙ on
-
+  module _ (e : Edit) (held : any (isTarget e) es ≡ true) where
     at-place : (q : ℕ) → q < n → isTarget e (recordAt rs q) ≡ true → Aimed e q
     at-place q l t =
         let parts = target-parts e (recordAt rs q) t in
