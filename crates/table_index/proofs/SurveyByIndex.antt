@@ -24,7 +24,7 @@ use Rattle.edit_causal.proofs.PlainMarks.{none-marked}
 use Rattle.edit_history.specs.EditsHeld.{recordAt, editsOf, creates, isSetOn, setsOn, isTarget, indexOf, objectOf}
 use Rattle.edit_history.specs.Answers2to5.{isTorn}
 use Rattle.edit_history.specs.SurveyForms.{repeatedAgainst, earlyAgainst, surveyOf}
-use Rattle.edit_walk.specs.WalkForms.{placeOf, tornByNews, targetHeld, inTurnAgainst}
+use Rattle.edit_walk.specs.WalkForms.{placeOf, Indexed, tornByNews, targetHeld, inTurnAgainst}
 use Rattle.edit_history.proofs.EditsHeld.{target-parts, any-edit-on, any-edit-at, chosen-more, create-less, object-snoc}
 use Rattle.edit_history.proofs.ByCounts.{repeated-against, early-against}
 use Rattle.edit_history.proofs.RecordsPassed.{InTurn, in-turn, formed-at, one-place, target-before}
@@ -36,12 +36,7 @@ use Rattle.table_index.specs.IndexForms.{numberAt, placesOn, IndexOf, Ho
 use Rattle.table_index.specs.declared.Mates.{Mates}
 use Rattle.table_index.proofs.PlacesOfSets.{places-sets, places-length, row-places}
 
-module _
-    (c : Counters)
-    (rs : List ℕ)
-    (h : Holds c rs)
-    (ps ns cs ms : List ℕ)
-    (x : IndexOf rs (c .records) ps ns cs ms) where
+module _ (c : Counters) (rs : List ℕ) (h : Holds c rs) where
   abbrev n : ℕ
   n = c .records
 
@@ -120,7 +115,7 @@ module _
             ∙ object-none e m (λ p k. not-before p (omega arith))
             ∙ ap (numberAt rs) (sym z)
 
-    object-is : objectOf e es ≡ numberAt rs q
+    pub object-is : objectOf e es ≡ numberAt rs q
     object-is = object-after n l (omega arith)
 
   -- ---- an edit to which none of 1 to 3 applies
@@ -137,71 +132,86 @@ module _
       in-turn (c .sites) es e fit (sym (repeated-against (c .held) es (h .held) e low) ∙ repeated)
       (sym (early-against (c .held) es (h .held) e low) ∙ early)
 
-  pub torn-is : (e : Edit) → InTurn (c .sites) es e → tornByNews rs ps (e .vector) (e .site) ≡ isTorn es e
-  torn-is e t = news-same (c .sites) (h .few-sites) rs n (h .pass) ps (x .indexed) e t
+  module _ (ps : List ℕ) (ix : Indexed rs n ps) where
+    pub torn-is : (e : Edit) → InTurn (c .sites) es e → tornByNews rs ps (e .vector) (e .site) ≡ isTorn es e
+    torn-is e t = news-same (c .sites) (h .few-sites) rs n (h .pass) ps ix e t
 
-  pub held-is :
-      (e : Edit) → length (c .held) ≡ mostSites → targetHeld (c .held) rs ps e ≡ any (isTarget e) es
-  held-is e long =
-      target-same (c .sites) (h .few-sites) rs n (h .pass) ps (x .indexed) (c .held) long (h .held) e
+    pub held-is :
+        (e : Edit) → length (c .held) ≡ mostSites → targetHeld (c .held) rs ps e ≡ any (isTarget e) es
+    held-is e long = target-same (c .sites) (h .few-sites) rs n (h .pass) ps ix (c .held) long (h .held) e
 
-  -- ---- an edit whose target is held
+    -- where the target stands, by the index of places
+    pub target-placed :
+        (e : Edit) → any (isTarget e) es ≡ true →
+        let q = placeOf ps (e .tsite .0) (e .tseq .0) in
+        (q < n) × (isTarget e (recordAt rs q) ≡ true)
+    target-placed e held =
+        let (q, l, t) = any-edit-at (isTarget e) rs n held in
+        let parts = target-parts e (recordAt rs q) t in
+        let at : placeOf ps (e .tsite .0) (e .tseq .0) ≡ q = rw (parts .site, parts .seq) at (ix q l) in
+        rw at (l, t)
 
-  -- where its target stands, and what the index has of it
+    -- a survey of an edit whose target stands where the index says
+    pub survey-found :
+        (e : Edit) → any (isTarget e) es ≡ true → (torn : Bool) (o k : ℕ) (m : Mates) → torn ≡ isTorn es e →
+        o ≡ numberAt rs (placeOf ps (e .tsite .0) (e .tseq .0)) → k ≡ length (setsOn (e .tsite) (e .tseq) es) →
+        m ≡ matesOf e (setsOn (e .tsite) (e .tseq) es) →
+        record { torn = torn; found = true; object = o; sets = k; plain = m .plain; limited = m .limited }
+        ≡ surveyOf es e
+    unfolding surveyOf
+    survey-found e held torn o k m y z w v =
+        let (l, t) = target-placed e held in
+        rw (y, z, w, v, held, object-is e (placeOf ps (e .tsite .0) (e .tseq .0)) l t)
+
+-- ---- by the whole index
+
+module _
+    (c : Counters)
+    (rs : List ℕ)
+    (h : Holds c rs)
+    (ps ns cs ms : List ℕ)
+    (x : IndexOf rs (c .records) ps ns cs ms) where
+  abbrev edits : List Edit
+  edits = editsOf rs (c .records)
+
+  -- where the target of an edit stands, and what the index has of it
   pub record Aimed (e : Edit) (q : ℕ) : Type 0 where
-    pub low : q < n
-    pub create : isCreate (recordAt rs q) ≡ true
-    pub number : getD ns q 0 ≡ objectOf e es
-    pub few : objectOf e es < mostObjects
-    pub count : getD cs (objectOf e es) 0 ≡ length (setsOn (e .tsite) (e .tseq) es)
+    pub low : q < (c .records)
+    pub target : isTarget e (recordAt rs q) ≡ true
+    pub number : getD ns q 0 ≡ objectOf e edits
+    pub few : objectOf e edits < mostObjects
+    pub count : getD cs (objectOf e edits) 0 ≡ length (setsOn (e .tsite) (e .tseq) edits)
     pub sets :
-        map (recordAt rs) (take (getD cs (objectOf e es) 0) (drop (objectOf e es * mostSets) ms))
-        ≡ setsOn (e .tsite) (e .tseq) es
+        map (recordAt rs) (take (getD cs (objectOf e edits) 0) (drop (objectOf e edits * mostSets) ms))
+        ≡ setsOn (e .tsite) (e .tseq) edits
 
-  module _ (e : Edit) (held : any (isTarget e) es ≡ true) where
-    at-place : (q : ℕ) → q < n → isTarget e (recordAt rs q) ≡ true → Aimed e q
+  module _ (e : Edit) (held : any (isTarget e) edits ≡ true) where
+    at-place : (q : ℕ) → q < (c .records) → isTarget e (recordAt rs q) ≡ true → Aimed e q
     at-place q l t =
         let parts = target-parts e (recordAt rs q) t in
-        let o = objectOf e es in
-        let is : o ≡ numberAt rs q = object-is e q l t in
-        let same : setsOn (recordAt rs q .site) (recordAt rs q .seq) es ≡ setsOn (e .tsite) (e .tseq) es
-        = ap₂ (λ (s : Site) (p : Seq). setsOn s p es) (same-site (recordAt rs q .site) (e .tsite) (parts .site))
+        let o = objectOf e edits in
+        let is : o ≡ numberAt rs q = object-is c rs h e q l t in
+        let same : setsOn (recordAt rs q .site) (recordAt rs q .seq) edits ≡ setsOn (e .tsite) (e .tseq) edits
+        = ap₂ (λ (s : Site) (p : Seq). setsOn s p edits) (same-site (recordAt rs q .site) (e .tsite) (parts .site))
         (same-seq (recordAt rs q .seq) (e .tseq) (parts .seq)) in
-        let many : getD cs o 0 ≡ length (placesOn rs n q) = rw is (x .counted q l (parts .create)) in
+        let many : getD cs o 0 ≡ length (placesOn rs (c .records) q) = rw is (x .counted q l (parts .create)) in
         let less : o < mostObjects
-        = omega (arith, create-less rs q n l (parts .create), h .objects, h .few-objects) in
+        = omega (arith, create-less rs q (c .records) l (parts .create), h .objects, h .few-objects) in
         let few : getD cs o 0 ≤ mostSets
-        = omega (arith, places-length rs q n, h .few-sets (recordAt rs q .site) (recordAt rs q .seq)) in
-        let part : take (getD cs o 0) (drop (o * mostSets) ms) ≡ placesOn rs n q
+        = omega (arith, places-length rs q (c .records), h .few-sets (recordAt rs q .site) (recordAt rs q .seq)) in
+        let part : take (getD cs o 0) (drop (o * mostSets) ms) ≡ placesOn rs (c .records) q
         = rw (many, is)
-        (row-places rs n ps ns cs ms x q l (parts .create) (omega arith) (omega (arith, is)) .1) in
+        (row-places rs (c .records) ps ns cs ms x q l (parts .create) (omega arith) (omega (arith, is)) .1) in
         record {
           low = l;
-          create = parts .create;
+          target = t;
           number = x .numbered q l (parts .create) ∙ sym is;
           few = less;
-          count = many ∙ places-length rs q n ∙ ap length same;
-          sets = ap (map (recordAt rs)) part ∙ places-sets rs q n ∙ same;
+          count = many ∙ places-length rs q (c .records) ∙ ap length same;
+          sets = ap (map (recordAt rs)) part ∙ places-sets rs q (c .records) ∙ same;
         }
 
     pub aimed : Aimed e (placeOf ps (e .tsite .0) (e .tseq .0))
     aimed =
-        let (q, l, t) = any-edit-at (isTarget e) rs n held in
-        let parts = target-parts e (recordAt rs q) t in
-        let at : placeOf ps (e .tsite .0) (e .tseq .0) ≡ q = rw (parts .site, parts .seq) at (x .indexed q l) in
-        rw at (at-place q l t)
-
-    pub target-surveyed :
-        (torn : Bool) (k : ℕ) (m : Mates) → torn ≡ isTorn es e → k ≡ getD cs (objectOf e es) 0 →
-        m ≡ matesOf e (setsOn (e .tsite) (e .tseq) es) →
-        record {
-          torn = torn;
-          found = true;
-          object = objectOf e es;
-          sets = k;
-          plain = m .plain;
-          limited = m .limited;
-        }
-        ≡ surveyOf es e
-    unfolding surveyOf
-    target-surveyed torn k m y z w = rw (y, z, w, held, aimed .count)
+        let (l, t) = target-placed c rs h ps (x .indexed) e held in
+        at-place (placeOf ps (e .tsite .0) (e .tseq .0)) l t

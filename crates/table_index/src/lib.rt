@@ -20,14 +20,14 @@ ghost use mathlib.Core.Bool.{true};
 ghost use Prim.Native.Nat.{_+_, _*_, _≤_, _<_};
 ghost use lib.ListN.{length, getD, set, replicate};
 ghost use Rattle.math_lists.specs.SortedLists.{any};
-ghost use Rattle.edit_record.specs.Layout.{recordLength};
+ghost use Rattle.edit_record.specs.Layout.{mostSites, recordLength};
 ghost use Rattle.edit_record.specs.RecordBytes.{decodeOf};
 ghost use Rattle.edit_causal.specs.Conflict.{doConflict};
 ghost use Rattle.edit_causal.specs.ConflictForms.{plainMarks};
 ghost use Rattle.edit_history.specs.EditsHeld.{mostRecords, recordAt, editsOf, isTarget};
 ghost use Rattle.edit_history.specs.Answers2to5.{isTorn};
 ghost use Rattle.edit_history.specs.SurveyForms.{surveyOf, SurveyedOf};
-ghost use Rattle.edit_walk.specs.WalkForms.{placesLength, Spaced, SameStarts, countIn, inTurnAgainst};
+ghost use Rattle.edit_walk.specs.WalkForms.{placesLength, Spaced, SameStarts, countIn, Indexed, inTurnAgainst};
 ghost use Rattle.group_step.specs.GroupRows.{mostObjects, mostSets};
 ghost use Rattle.group_limited.specs.LimitedForms.{setsIn};
 ghost use Rattle.table_drawing.specs.declared.Counters.{Counters};
@@ -40,6 +40,12 @@ pub const MEMBERS: usize = OBJECTS * SETS;
 pub struct Mates {
     pub plain: u64,
     pub limited: bool,
+}
+
+// Whether 4 is given to an edit, and whether its target is held and was seen.
+pub struct Aim {
+    pub torn: bool,
+    pub held: bool,
 }
 
 // Puts the place p behind those of the Sets of object o.
@@ -220,6 +226,24 @@ fn survey_held(
     }
 }
 
+// What is asked first of the records held for a record to which none of 1 to 3 is given, by the index of their places.
+pub fn aim_of(c: Counters, recs: &[u8], places: &[u16], rec: &[u8]) -> Aim
+    requires { ⌜ Holds c (now recs)
+        × Indexed (now recs) (c .records) (now places)
+        × (recordLength ≤ length (now rec))
+        × (inTurnAgainst (c .sites) (c .held) (decodeOf (now rec)) ≡ true)
+        × (length (c .held) ≡ mostSites) ⌝ }
+    ensures { λ r. ⌜ (r .torn ≡ isTorn (editsOf (now (recs .entry)) (c .records)) (decodeOf (now (rec .entry))))
+        × (r .held
+        ≡ any (isTarget (decodeOf (now (rec .entry)))) (editsOf (now (recs .entry)) (c .records))) ⌝ }
+{
+    let counts = c.held;
+    let v = edit_record::vector_of(rec);
+    let torn = edit_walk::is_torn_by_news(recs, places, v, Site(rec[AT_SITE]));
+    let held = edit_walk::is_target_held(&counts, recs, places, rec);
+    Aim { torn, held }
+}
+
 // All that an arriving edit to which none of 1 to 3 is given asks of the records held, by the index.
 pub fn survey(
     c: Counters,
@@ -233,15 +257,14 @@ pub fn survey(
     requires { ⌜ Holds c (now recs)
         × IndexOf (now recs) (c .records) (now places) (now numbers) (now counts) (now members)
         × (recordLength ≤ length (now rec))
-        × (inTurnAgainst (c .sites) (c .held) (decodeOf (now rec)) ≡ true) ⌝ }
+        × (inTurnAgainst (c .sites) (c .held) (decodeOf (now rec)) ≡ true)
+        × (length (c .held) ≡ mostSites) ⌝ }
     ensures { λ r.
         ⌜ SurveyedOf (editsOf (now (recs .entry)) (c .records)) (decodeOf (now (rec .entry))) r ⌝ }
 {
-    let held = c.held;
-    let v = edit_record::vector_of(rec);
-    let torn = edit_walk::is_torn_by_news(recs, places, v, Site(rec[AT_SITE]));
-    if !edit_walk::is_target_held(&held, recs, places, rec) {
-        return edit_history::none_found(torn);
+    let a = aim_of(c, recs, places, rec);
+    if !a.held {
+        return edit_history::none_found(a.torn);
     }
-    survey_held(c, recs, places, numbers, counts, members, rec, torn)
+    survey_held(c, recs, places, numbers, counts, members, rec, a.torn)
 }

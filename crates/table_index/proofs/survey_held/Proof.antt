@@ -1,6 +1,5 @@
 -- `table_index::survey_held` meets its contract. Assumes nothing.
 use mathlib.Core.Path.{_≡_, ap, ap₂, _∙_}
-use mathlib.Core.Bool.{true}
 use mathlib.Core.List.{List, map}
 use Prim.Native.Nat.{ℕ, _-_, _*_, _≤_, _<_}
 use native.Mathlib.Omega.{arith}
@@ -13,7 +12,7 @@ use Rattle.edit_history.specs.EditsHeld.{recordAt, editsOf, setsOn, objectOf}
 use Rattle.edit_walk.specs.WalkForms.{placeOf}
 use Rattle.group_step.specs.GroupRows.{mostObjects, mostSets}
 use Rattle.table_index.specs.IndexForms.{matesOf}
-use Rattle.table_index.proofs.SurveyByIndex.{aimed, target-surveyed}
+use Rattle.table_index.proofs.SurveyByIndex.{object-is, survey-found, aimed}
 use Rattle.table_index.proofs.survey_held.Statement.{statement}
 use Rattle.table_index.proofs.survey_held.Tie as tie
 
@@ -124,18 +123,10 @@ returns c torn =
     (omega (arith, t .few, t .low, x .members-long)))
     ∙ ap₂ (λ (o n : ℕ). matesOf e (map (recordAt rs) (take n (drop (o * mostSets) ms)))) (t .object) k
     ∙ ap (matesOf e) (m .sets) in
-    ap
-    (λ (o : ℕ). record {
-      torn = a .torn;
-      found = true;
-      object = o;
-      sets = c .before .before .at162 .result;
-      plain = c .mates-in .result .plain;
-      limited = c .mates-in .result .limited;
-    })
-    (t .object)
-    ∙ (target-surveyed (a .c) rs h ps ns cs ms x e held (a .torn) (c .before .before .at162 .result)
-    (c .mates-in .result) torn k marks)
+    survey-found (a .c) rs h ps (x .indexed) e held (a .torn) (c .before .before .before .at16 .result)
+    (c .before .before .at162 .result) (c .mates-in .result) torn
+    (t .object ∙ object-is (a .c) rs h e (placeOf ps (e .tsite .0) (e .tseq .0)) (m .low) (m .target))
+    (k ∙ m .count) marks
 
 pub survey-held-spec : {M : Type 1} → statement M
 survey-held-spec =
