@@ -167,7 +167,7 @@ fn is_conflict_with(recs: &[u8], p: u16, rec: &[u8]) -> bool
 }
 
 // Which of the edits in the k first places conflict with that of rec by document 01's rule, bit i for the i-th.
-pub fn marks_with(recs: &[u8], places: &[u16], k: usize, rec: &[u8]) -> u64
+fn marks_with(recs: &[u8], places: &[u16], k: usize, rec: &[u8]) -> u64
     requires { ⌜ (k ≤ length (now places)) × (k ≤ mostSets) × (recordLength ≤ length (now rec)) ⌝ }
     ensures { λ r. ⌜ r
         ≡ plainMarks (decodeOf (now (rec .entry))) (setsIn (now (recs .entry)) (now (places .entry)) k) ⌝ }
@@ -180,6 +180,20 @@ pub fn marks_with(recs: &[u8], places: &[u16], k: usize, rec: &[u8]) -> u64
         i += 1;
     }
     marks
+}
+
+// The same for the edit in place p.
+pub fn marks_at(recs: &[u8], places: &[u16], k: usize, p: u16) -> u64
+    requires { ⌜ (k ≤ length (now places)) × (k ≤ mostSets) ⌝ }
+    ensures { λ r. ⌜ r
+        ≡ plainMarks (recordAt (now (recs .entry)) p) (setsIn (now (recs .entry)) (now (places .entry)) k) ⌝ }
+{
+    let at = p as usize * PLACE;
+    if at + RECORD <= recs.len() {
+        return marks_with(recs, places, k, &recs[at..]);
+    }
+    let e = edit_history::decode_at(recs, p as usize);
+    plain_marks(recs, places, k, e)
 }
 
 // The same, and whether one of those edits is limited.
