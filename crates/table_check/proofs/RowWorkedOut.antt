@@ -26,6 +26,7 @@ use Rattle.math_maximal.specs.Groups.{every}
 use Rattle.math_maximal.specs.Step.{step}
 use Rattle.math_maximal.proofs.Groups.{groups-ascending, no-elements}
 use Rattle.group_step.specs.GroupRows.{mostSets, mostGroups, row, settled}
+use Rattle.group_step.specs.StepForms.{Apart}
 use Rattle.table_drawing.specs.Tables.{Tables, heldBy, placeAt, groupsAt}
 use Rattle.table_soundness.specs.SoundnessForms.{Targeted}
 use Rattle.table_soundness.proofs.SoundFacts.{Sound}
@@ -34,7 +35,7 @@ use Rattle.table_index.specs.IndexForms.{isOn, placesOn}
 use Rattle.table_index.proofs.PlacesOfSets.{places-sets, places-length}
 use Rattle.table_arrival.specs.Answers6and7.{rowOf}
 use Rattle.group_true.specs.TrueGroups.{groupsOf, trueGroups}
-use Rattle.group_true.proofs.GroupsGrow.{is-maximal, never-fewer-groups, sets-step}
+use Rattle.group_true.proofs.GroupsGrow.{is-maximal, none-part, never-fewer-groups, sets-step}
 use Rattle.table_check.specs.CheckForms.{rowTrue, aimOf, Aims, TellsSets, placesAimed, groupsIn, WorkedOut}
 use Rattle.table_check.specs.CheckForms.{ProperInTurn}
 use Rattle.table_check.proofs.SettledByRecords.{used-long}
@@ -118,6 +119,10 @@ module _ (rs ms : List ℕ) where
   pub in-below : (i : ℕ) → i ≤ length ms → (x : ℕ) → elem x (groupsIn rs ms i) ≡ true → x < 2 ^ i
   unfolding groupsIn
   in-below i l x h = rw (sets-length rs ms i l) at (is-maximal (setsIn rs ms i) x h .0)
+
+  pub in-apart : (i : ℕ) → Apart (groupsIn rs ms i)
+  unfolding groupsIn
+  in-apart i = none-part (setsIn rs ms i)
 
   in-longer :
       (i j : ℕ) → NoneItself (setsIn rs ms (i + j)) → length (groupsIn rs ms i) ≤ length (groupsIn rs ms (i + j))

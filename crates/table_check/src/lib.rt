@@ -120,7 +120,7 @@ fn step_plainly(gs: &mut [u64], recs: &[u8], places: &[u16], k: usize) -> usize
     while i < k {
         let e = edit_history::decode_at(recs, places[i] as usize);
         let m = table_index::plain_marks(recs, places, i, e);
-        n = group_step::step_row(gs, n, m, i);
+        n = group_step::step_apart(gs, n, m, i);
         if GROUPS < n {
             return n;
         }
@@ -153,7 +153,7 @@ fn step_limited(
     while i < k {
         let e = edit_history::decode_at(recs, places[i] as usize);
         let t = group_limited::told_of(recs, places, i, plain, ctx, e);
-        n = group_step::step_row(gs, n, t.conflicts, i);
+        n = group_step::step_apart(gs, n, t.conflicts, i);
         if GROUPS < n {
             return n;
         }

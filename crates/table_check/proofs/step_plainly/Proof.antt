@@ -7,7 +7,8 @@ use denote.Ref.{now}
 use Rattle.edit_causal.proofs.ConflictsAmongSets.{none-itself}
 use Rattle.group_step.specs.GroupRows.{mostGroups}
 use Rattle.table_check.specs.CheckForms.{groupsIn}
-use Rattle.table_check.proofs.RowWorkedOut.{groups-none, stepped, in-ascending, in-below, in-more, settled-front}
+use Rattle.table_check.proofs.RowWorkedOut.{groups-none, stepped, in-ascending, in-below, in-apart, in-more}
+use Rattle.table_check.proofs.RowWorkedOut.{settled-front}
 use Rattle.table_check.proofs.SetsInTurn.{plain-are-all}
 use borrow.Author.Needs.{needs}
 use Rattle.table_check.proofs.step_plainly.Statement.{statement}
@@ -41,8 +42,8 @@ decode-at-requires c κs = omega (arith, c .shared-slice-known3 .given (c .befor
 plain-marks-requires : tie.Need-plain-marks-requires Inv-loop μ-loop
 plain-marks-requires c κs = search needs
 
-step-row-requires : tie.Need-step-row-requires Inv-loop μ-loop
-step-row-requires c κs =
+step-apart-requires : tie.Need-step-apart-requires Inv-loop μ-loop
+step-apart-requires c κs =
     let s = c .before .before .before .before .before .before .before .before .before in
     let a = s .args in
     let l = c .before .before .before .before .before .loop in (
@@ -51,6 +52,7 @@ step-row-requires c κs =
       omega arith,
       rw (l .inv .3) (in-ascending (now (a .recs)) (now (a .places)) (l .i)),
       rw (l .inv .3) (in-below (now (a .recs)) (now (a .places)) (l .i) (omega arith)),
+      rw (l .inv .3) (in-apart (now (a .recs)) (now (a .places)) (l .i)),
     )
 
 same-length : tie.Need-same-length Inv-loop μ-loop
@@ -62,7 +64,7 @@ returns c =
     let s = b .before .before .before .before .before .before .before .before in
     let a = s .args in
     let l = b .before .before .before .before .loop in
-    let r = c .before .before .before .step-row in
+    let r = c .before .before .before .step-apart in
     let e = b .before .decode-at in
     let m = b .plain-marks in
     let next = stepped (now (a .recs)) (now (a .places)) (l .i) (l .n) (l .gs) (omega arith)
@@ -94,7 +96,7 @@ loop-again c =
     let s = b .before .before .before .before .before .before .before .before in
     let a = s .args in
     let l = b .before .before .before .before .loop in
-    let r = c .before .before .before .step-row in
+    let r = c .before .before .before .step-apart in
     let e = b .before .decode-at in
     let m = b .plain-marks in
     let next = stepped (now (a .recs)) (now (a .places)) (l .i) (l .n) (l .gs) (omega arith)
@@ -129,7 +131,7 @@ step-plainly-spec =
     cast-decode-at
     decode-at-requires
     plain-marks-requires
-    step-row-requires
+    step-apart-requires
     same-length
     returns
     add-i
