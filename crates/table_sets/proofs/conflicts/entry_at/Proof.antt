@@ -8,25 +8,25 @@ use borrow.Author.Needs.{needs}
 use Rattle.table_sets.proofs.conflicts.entry_at.Statement.{statement}
 use Rattle.table_sets.proofs.conflicts.entry_at.Tie as tie
 
-mul-two-at : tie.Need-mul-two-at
-mul-two-at c = search needs
+mul-pair-at : tie.Need-mul-pair-at
+mul-pair-at c = search needs
 
-add-two-at : tie.Need-add-two-at
-add-two-at c = search needs
+add-pair-at : tie.Need-add-pair-at
+add-pair-at c = search needs
 
-mul-two-at-2 : tie.Need-mul-two-at-2
-mul-two-at-2 c = search needs
+mul-pair-at-2 : tie.Need-mul-pair-at-2
+mul-pair-at-2 c = search needs
 
-add-two-at-2 : tie.Need-add-two-at-2
-add-two-at-2 c = search needs
+add-pair-at-2 : tie.Need-add-pair-at-2
+add-pair-at-2 c = search needs
 
-two-at-requires : tie.Need-two-at-requires
-two-at-requires c κs = search needs
+pair-at-requires : tie.Need-pair-at-requires
+pair-at-requires c κs = search needs
 
 returns : tie.Need-returns
 returns c =
     let a = c .before .before .before .args in
-    c .two-at .ensures ∙ sym (entry-in-place (now (a .recs)) (a .p) (a .site) (c .before .if1 .taken))
+    c .pair-at .ensures ∙ sym (entry-in-place (now (a .recs)) (a .p) (a .site) (c .before .if1 .taken))
 
 returns-2 : tie.Need-returns-2
 returns-2 c =
@@ -36,4 +36,11 @@ returns-2 c =
 pub entry-at-spec : {M : Type 1} → statement M
 entry-at-spec =
     tie.close
-    (tie.spec mul-two-at add-two-at mul-two-at-2 add-two-at-2 two-at-requires returns returns-2)
+    (tie.spec
+    mul-pair-at
+    add-pair-at
+    mul-pair-at-2
+    add-pair-at-2
+    pair-at-requires
+    returns
+    returns-2)

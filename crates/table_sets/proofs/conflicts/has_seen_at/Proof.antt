@@ -6,23 +6,23 @@ use borrow.Author.Needs.{needs}
 use Rattle.table_sets.proofs.conflicts.has_seen_at.Statement.{statement}
 use Rattle.table_sets.proofs.conflicts.has_seen_at.Tie as tie
 
-mul-byte-at : tie.Need-mul-byte-at
-mul-byte-at c = search needs
+mul-one-at : tie.Need-mul-one-at
+mul-one-at c = search needs
 
-add-byte-at : tie.Need-add-byte-at
-add-byte-at c = search needs
+add-one-at : tie.Need-add-one-at
+add-one-at c = search needs
 
-byte-at-requires : tie.Need-byte-at-requires
-byte-at-requires c κs = search needs
+one-at-requires : tie.Need-one-at-requires
+one-at-requires c κs = search needs
 
-mul-two-at : tie.Need-mul-two-at
-mul-two-at c = search needs
+mul-pair-at : tie.Need-mul-pair-at
+mul-pair-at c = search needs
 
-add-two-at : tie.Need-add-two-at
-add-two-at c = search needs
+add-pair-at : tie.Need-add-pair-at
+add-pair-at c = search needs
 
-two-at-requires : tie.Need-two-at-requires
-two-at-requires c κs = search needs
+pair-at-requires : tie.Need-pair-at-requires
+pair-at-requires c κs = search needs
 
 entry-at-requires : tie.Need-entry-at-requires
 entry-at-requires c κs = search needs
@@ -30,19 +30,19 @@ entry-at-requires c κs = search needs
 returns : tie.Need-returns
 returns c =
     let a = c .before .before .before .before .args in
-    let seq = c .before .two-at .ensures ∙ sym (seq-in-place (now (a .recs)) (a .q)) in
-    let site = c .before .before .byte-at .ensures ∙ sym (site-in-place (now (a .recs)) (a .q)) in
+    let seq = c .before .pair-at .ensures ∙ sym (seq-in-place (now (a .recs)) (a .q)) in
+    let site = c .before .before .one-at .ensures ∙ sym (site-in-place (now (a .recs)) (a .q)) in
     rw (c .entry-at .ensures, seq, site)
 
 pub has-seen-at-spec : {M : Type 1} → statement M
 has-seen-at-spec =
     tie.close
     (tie.spec
-    mul-byte-at
-    add-byte-at
-    byte-at-requires
-    mul-two-at
-    add-two-at
-    two-at-requires
+    mul-one-at
+    add-one-at
+    one-at-requires
+    mul-pair-at
+    add-pair-at
+    pair-at-requires
     entry-at-requires
     returns)

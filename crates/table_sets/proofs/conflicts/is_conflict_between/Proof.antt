@@ -1,104 +1,54 @@
--- `table_sets::conflicts::is_conflict_between` meets its contract: edits with different keys do not conflict, nor do
--- edits that show the same value. Assumes nothing.
-use mathlib.Core.Path.{_≡_, sym, ap, _∙_}
-use Prim.Native.Nat.{ℕ}
+-- `table_sets::conflicts::is_conflict_between` meets its contract, whether the records are there or not. Assumes
+-- nothing.
+use mathlib.Core.Path.{ap, _∙_}
 use denote.Ref.{now}
-use Rattle.edit_causal.specs.ShownValue.{shownValue}
+use Rattle.edit_record.specs.declared.Edit.{Edit}
+use Rattle.edit_causal.specs.Conflict.{doConflict}
 use Rattle.edit_history.specs.EditsHeld.{recordAt}
-use Rattle.edit_history.proofs.FieldsInPlace.{key-in-place}
-use Rattle.table_index.proofs.MarksInPlaces.{keys-differ}
-use Rattle.table_sets.proofs.ConflictsInPlace.{same-value, conflict-by}
 use borrow.Author.Needs.{needs}
 use Rattle.table_sets.proofs.conflicts.is_conflict_between.Statement.{statement}
 use Rattle.table_sets.proofs.conflicts.is_conflict_between.Tie as tie
 
-mul-byte-at : tie.Need-mul-byte-at
-mul-byte-at c = search needs
+larger-requires : tie.Need-larger-requires
+larger-requires c κs = search needs
 
-add-byte-at : tie.Need-add-byte-at
-add-byte-at c = search needs
+mul-if1 : tie.Need-mul-if1
+mul-if1 c = search needs
 
-byte-at-requires : tie.Need-byte-at-requires
-byte-at-requires c κs = search needs
+add-if1 : tie.Need-add-if1
+add-if1 c = search needs
 
-mul-byte-at-2 : tie.Need-mul-byte-at-2
-mul-byte-at-2 c = search needs
+decode-at-requires : tie.Need-decode-at-requires
+decode-at-requires c κs = search needs
 
-add-byte-at-2 : tie.Need-add-byte-at-2
-add-byte-at-2 c = search needs
+cast-is-conflict-at : tie.Need-cast-is-conflict-at
+cast-is-conflict-at c = search needs
 
-byte-at-requires-2 : tie.Need-byte-at-requires-2
-byte-at-requires-2 c κs = search needs
+is-conflict-at-requires : tie.Need-is-conflict-at-requires
+is-conflict-at-requires c κs = search needs
 
 returns : tie.Need-returns
 returns c =
-    let b = c .before in
-    let a = b .before .before .before .args in
-    let e = recordAt (now (a .recs)) (a .p) in
-    let f = recordAt (now (a .recs)) (a .q) in
-    let own = b .before .byte-at .ensures ∙ sym (key-in-place (now (a .recs)) (a .p)) in
-    let its = b .byte-at2 .ensures ∙ sym (key-in-place (now (a .recs)) (a .q)) in
-    keys-differ e f (λ y. c .if1 .taken (own ∙ y ∙ sym its))
+    let a = c .before .before .before .before .before .args in
+    c .is-conflict-at .ensures
+    ∙ ap (λ (e : Edit). doConflict (recordAt (now (a .recs)) (a .p)) e) (c .before .decode-at .ensures)
 
-shown-at-requires : tie.Need-shown-at-requires
-shown-at-requires c κs = search needs
-
-shown-at-requires-2 : tie.Need-shown-at-requires-2
-shown-at-requires-2 c κs = search needs
+is-conflict-there-requires : tie.Need-is-conflict-there-requires
+is-conflict-there-requires c κs = search needs
 
 returns-2 : tie.Need-returns-2
-returns-2 c =
-    let b = c .before .before .before .before in
-    let a = b .before .before .before .args in
-    let e = recordAt (now (a .recs)) (a .p) in
-    let f = recordAt (now (a .recs)) (a .q) in
-    let own = b .before .byte-at .ensures ∙ sym (key-in-place (now (a .recs)) (a .p)) in
-    let its = b .byte-at2 .ensures ∙ sym (key-in-place (now (a .recs)) (a .q)) in
-    let k : b .before .byte-at .result ≡ f .key = c .before .before .before .if1 .left ∙ its in
-    same-value e f
-    (ap (λ (x : ℕ). shownValue x (e .value)) (sym own) ∙ sym (c .before .before .shown-at .ensures) ∙ c .if2 .taken
-    ∙ c .before .shown-at2 .ensures ∙ ap (λ (x : ℕ). shownValue x (f .value)) k)
-
-are-sets-requires : tie.Need-are-sets-requires
-are-sets-requires c κs = search needs
-
-are-concurrent-at-requires : tie.Need-are-concurrent-at-requires
-are-concurrent-at-requires c κs = search needs
-
-is-target-same-requires : tie.Need-is-target-same-requires
-is-target-same-requires c κs = search needs
-
-returns-3 : tie.Need-returns-3
-returns-3 c =
-    let b = c .before .before .before .before .before .before .before in
-    let a = b .before .before .before .args in
-    let e = recordAt (now (a .recs)) (a .p) in
-    let f = recordAt (now (a .recs)) (a .q) in
-    let own = b .before .byte-at .ensures ∙ sym (key-in-place (now (a .recs)) (a .p)) in
-    let its = b .byte-at2 .ensures ∙ sym (key-in-place (now (a .recs)) (a .q)) in
-    let k : b .before .byte-at .result ≡ f .key = c .before .before .before .before .before .before .if1 .left ∙ its in
-    let differ : shownValue (e .key) (e .value) ≡ shownValue (f .key) (f .value) → ⊥
-    = λ y. c .before .before .before .if2 .left
-    (c .before .before .before .before .before .shown-at .ensures ∙ ap (λ (x : ℕ). shownValue x (e .value)) own ∙ y
-    ∙ ap (λ (x : ℕ). shownValue x (f .value)) (sym k) ∙ sym (c .before .before .before .before .shown-at2 .ensures)) in
-    rw (c .before .before .are-sets .ensures, c .before .are-concurrent-at .ensures, c .is-target-same .ensures)
-    (conflict-by e f (sym own ∙ k) differ)
+returns-2 c = search needs
 
 pub is-conflict-between-spec : {M : Type 1} → statement M
 is-conflict-between-spec =
     tie.close
     (tie.spec
-    mul-byte-at
-    add-byte-at
-    byte-at-requires
-    mul-byte-at-2
-    add-byte-at-2
-    byte-at-requires-2
+    larger-requires
+    mul-if1
+    add-if1
+    decode-at-requires
+    cast-is-conflict-at
+    is-conflict-at-requires
     returns
-    shown-at-requires
-    shown-at-requires-2
-    returns-2
-    are-sets-requires
-    are-concurrent-at-requires
-    is-target-same-requires
-    returns-3)
+    is-conflict-there-requires
+    returns-2)
