@@ -70,7 +70,7 @@ fn step_plainly(gs: &mut [u64], recs: &[u8], places: &[u16], k: usize) -> usize
     let mut n: usize = 1;
     let mut i: usize = 0;
     while i < k {
-        let m = table_sets::conflicts::marks_at(recs, places, i);
+        let m = table_index::marks_at(recs, places, i, places[i]);
         n = group_step::step_apart(gs, n, m, i);
         if GROUPS < n {
             return n;

@@ -4,9 +4,8 @@
 use mathlib.Core.Path.{_≡_}
 use mathlib.Core.Bool.{true}
 use mathlib.Core.List.{List, [], _∷_}
-use Prim.Native.Nat.{ℕ, _+_, _*_, _≤_, _<_}
+use Prim.Native.Nat.{ℕ, _<_}
 use lib.ListN.{getD, length, take}
-use Rattle.edit_record.specs.Layout.{placeLength, recordLength}
 use Rattle.edit_record.specs.Answer1.{isCreate}
 use Rattle.edit_history.specs.EditsHeld.{recordAt}
 use Rattle.table_index.specs.IndexForms.{placesOn}
@@ -23,10 +22,3 @@ Chained rs n ch = (p : ℕ) → p < n → isCreate (recordAt rs p) ≡ true → 
 -- the places that it goes through from p stand at the front of ms, where they are k
 abbrev pub Gathered : List ℕ → ℕ → ℕ → List ℕ → Type 0
 Gathered ch p k ms = (l : List ℕ) → Reaches ch p l → length l ≡ k → take k ms ≡ l
-
--- ---- two records
-
--- the bytes of the records in the places p and q are there, but for what a limited Set has behind them
-abbrev pub BothThere : List ℕ → ℕ → ℕ → Type 0
-BothThere rs p q =
-    (p * placeLength + recordLength ≤ length rs) × (q * placeLength + recordLength ≤ length rs)

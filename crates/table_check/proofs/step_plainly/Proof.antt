@@ -28,14 +28,20 @@ loop-holds c =
     let a = s .args in
     (omega arith, s .pre .0, omega arith, s .pre .1 ∙ sym (groups-none (now (a .recs)) (now (a .places))))
 
+mul-marks-at : tie.Need-mul-marks-at Inv-loop μ-loop
+mul-marks-at c = search needs
+
+shared-slice-read-marks-at : tie.Need-shared-slice-read-marks-at Inv-loop μ-loop
+shared-slice-read-marks-at c = search needs
+
 marks-at-requires : tie.Need-marks-at-requires Inv-loop μ-loop
 marks-at-requires c κs = search needs
 
 step-apart-requires : tie.Need-step-apart-requires Inv-loop μ-loop
 step-apart-requires c κs =
-    let s = c .before .before .before .before .before .before .before in
+    let s = c .before .before .before .before .before .before .before .before in
     let a = s .args in
-    let l = c .before .before .before .loop in (
+    let l = c .before .before .before .before .loop in (
       l .inv .1,
       l .inv .2,
       omega arith,
@@ -50,9 +56,9 @@ same-length c = search needs
 returns : tie.Need-returns Inv-loop μ-loop
 returns c =
     let b = c .before .before .before .before .before in
-    let s = b .before .before .before .before .before .before in
+    let s = b .before .before .before .before .before .before .before in
     let a = s .args in
-    let l = b .before .before .loop in
+    let l = b .before .before .before .loop in
     let r = c .before .before .before .step-apart in
     let m = b .marks-at in
     let rs = now (a .recs) in
@@ -81,9 +87,9 @@ loop-less c = search needs
 loop-again : tie.Need-loop-again Inv-loop μ-loop
 loop-again c =
     let b = c .before .before .before .before .before in
-    let s = b .before .before .before .before .before .before in
+    let s = b .before .before .before .before .before .before .before in
     let a = s .args in
-    let l = b .before .before .loop in
+    let l = b .before .before .before .loop in
     let r = c .before .before .before .step-apart in
     let m = b .marks-at in
     let rs = now (a .recs) in
@@ -114,6 +120,8 @@ step-plainly-spec =
     Inv-loop
     μ-loop
     loop-holds
+    mul-marks-at
+    shared-slice-read-marks-at
     marks-at-requires
     step-apart-requires
     same-length
