@@ -1,7 +1,7 @@
 -- What the code of an arrival at sound tables has in hand: the first of 1 to 3, the survey of the records, and the first
 -- of 1 to 6. Assumes nothing.
 use mathlib.Core.Path.{_≡_, _∙_}
-use mathlib.Core.Bool.{true, false}
+use mathlib.Core.Bool.{Bool, true, false}
 use mathlib.Core.List.{List}
 use Prim.Native.Nat.{ℕ, _≤_, _<_}
 use lib.ListN.{length, getD}
@@ -60,7 +60,13 @@ module _ (t : Tables) (h : sound t ≡ true) where
         few-sets = sets-few t s;
       }
 
-module _ (t : Tables) (b : List ℕ) (v : Surveyed) (j : Judged) (h : InHand t b v j) where
+module _
+    (t : Tables)
+    (b : List ℕ)
+    (v : Surveyed)
+    (j : Judged)
+    (apart : Bool)
+    (h : InHand t b v j apart) where
   abbrev sound-facts : Sound t
   sound-facts = sound-at t (h .isSound)
 

@@ -1,7 +1,7 @@
 -- What the code that takes a Set is given, and what it leaves: a Set that passes 1 to 6 at sound tables, with the
 -- survey of the records. Assumes nothing.
 use mathlib.Core.Path.{_≡_, sym, subst, _∙_}
-use mathlib.Core.Bool.{true}
+use mathlib.Core.Bool.{Bool, true}
 use mathlib.Core.List.{List}
 use Prim.Native.Nat.{ℕ, _+_, _^_, _≤_, _<_}
 use native.Mathlib.Omega.{arith}
@@ -18,6 +18,7 @@ use Rattle.edit_history.specs.EditsHeld.{mostRecords, isTarget}
 use Rattle.edit_causal.specs.Conflict.{conflictsWith}
 use Rattle.edit_history.specs.SurveyForms.{surveyOf}
 use Rattle.group_step.specs.GroupRows.{mostObjects, mostSets, mostGroups, row, putRow, settled}
+use Rattle.group_step.specs.StepForms.{Apart}
 use Rattle.group_limited.specs.declared.Judged.{Judged}
 use Rattle.table_drawing.specs.Tables.{Tables, tablesOf, heldBy, groupsAt, recordsLength, objectsLength, groupsLength}
 use Rattle.table_drawing.specs.AnswerNumbers.{outcomeOf}
@@ -123,7 +124,13 @@ module _ (t : Tables) (b : List ℕ) (isSound : Sound t) (z : firstToSix t b ≡
 
 -- ---- for what the code has in hand
 
-module _ (t : Tables) (b : List ℕ) (v : Surveyed) (j : Judged) (r : Ready t b v j) where
+module _
+    (t : Tables)
+    (b : List ℕ)
+    (v : Surveyed)
+    (j : Judged)
+    (apart : Bool)
+    (r : Ready t b v j apart) where
   abbrev edit : Edit
   edit = decodeOf b
 
@@ -157,6 +164,11 @@ module _ (t : Tables) (b : List ℕ) (v : Surveyed) (j : Judged) (r : Ready t b 
   pub set-given : Given t b v
   set-given =
       in-hand (λ y m. Given t b y) (given t b (sound-at t (r .inHand .isSound)) (r .passes) (r .set))
+
+  pub set-apart : apart ≡ true → Apart (rowBy t v)
+  set-apart h =
+      r .inHand .rows h (v .object)
+      (rw survey-is (unfold surveyOf in object-less t (sound-at t (r .inHand .isSound)) edit target))
 
   pub set-refused : Refused t b v (j .conflicts)
   set-refused = in-hand (Refused t b) (refused t b (sound-at t (r .inHand .isSound)) (r .passes) (r .set))

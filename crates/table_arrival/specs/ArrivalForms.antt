@@ -1,6 +1,6 @@
 -- Forms that the code uses: 1 to 6, with 16 after 5, from the counters, a survey of the records and what is judged of
 -- the edit. No one need believe them: laws in proofs/ tie them to `Arrival`. Assumes nothing.
-use Prim.Native.Nat.{ℕ}
+use Prim.Native.Nat.{ℕ, _<_}
 use mathlib.Core.List.{List, [], _∷_}
 use mathlib.Core.Path.{_≡_}
 use mathlib.Core.Bool.{Bool, true, false, not, _&&_, _||_}
@@ -17,12 +17,13 @@ use Rattle.edit_history.specs.Answers2to5.{isRepeated, isEarly, isTorn, isAstra
 use Rattle.edit_history.specs.Answer16.{isNameless}
 use Rattle.edit_history.specs.SurveyForms.{repeatedAgainst, earlyAgainst, SurveyedOf}
 use Rattle.group_step.specs.GroupRows.{mostObjects, mostSets}
+use Rattle.group_step.specs.StepForms.{Apart}
 use Rattle.group_limited.specs.declared.Judged.{Judged}
 use Rattle.group_limited.specs.LimitedForms.{JudgedWhere}
 use Rattle.table_drawing.specs.declared.Counters.{Counters}
 use Rattle.table_drawing.specs.Tables.{Tables, heldBy}
 use Rattle.table_soundness.specs.Sound.{sound}
-use Rattle.table_arrival.specs.Answers6and7.{isFull, firstOf, inTurn}
+use Rattle.table_arrival.specs.Answers6and7.{rowOf, isFull, firstOf, inTurn}
 
 -- 6 to an edit of this kind whose object has k Sets
 abbrev pub fullWith : Counters → ℕ → ℕ → Bool
@@ -76,16 +77,22 @@ toSix t b =
 unfoldable pub firstToSix : Tables → List ℕ → ℕ
 firstToSix t b = firstOf inTurn (toSix t b)
 
--- what is in hand of a record to which none of 1 to 3 is given, at sound tables: its survey and what is judged of it
-pub record InHand (t : Tables) (b : List ℕ) (v : Surveyed) (j : Judged) : Type 0 where
+-- in no row is a group part of a larger one
+abbrev pub RowsApart : Tables → Type 0
+RowsApart t = (o : ℕ) → o < t .counters .objects → Apart (rowOf t o)
+
+-- what is in hand of a record to which none of 1 to 3 is given, at sound tables: its survey, what is judged of it, and
+-- whether the rows are known to be apart
+pub record InHand (t : Tables) (b : List ℕ) (v : Surveyed) (j : Judged) (apart : Bool) : Type 0 where
   pub isSound : sound t ≡ true
   pub timely : firstOf inTurn (threeBy (t .counters) b) ≡ 0
   pub surveyed : SurveyedOf (heldBy t) (decodeOf b) v
   pub judged :
       JudgedWhere (v .found) (setsOn (decodeOf b .tsite) (decodeOf b .tseq) (heldBy t)) (decodeOf b) j
+  pub rows : apart ≡ true → RowsApart t
 
 -- the same of a Set that passes 1 to 6
-pub record Ready (t : Tables) (b : List ℕ) (v : Surveyed) (j : Judged) : Type 0 where
-  pub inHand : InHand t b v j
+pub record Ready (t : Tables) (b : List ℕ) (v : Surveyed) (j : Judged) (apart : Bool) : Type 0 where
+  pub inHand : InHand t b v j apart
   pub passes : firstToSix t b ≡ 0
   pub set : isSet (decodeOf b) ≡ true

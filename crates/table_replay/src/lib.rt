@@ -59,7 +59,7 @@ fn take_next(
     }
     let v = table_index::survey(c, records, places, numbers, counts, members, rec);
     let j = table_arrival::judge(records, c.records as usize, rec, v);
-    let a = table_arrival::accept(c, records, objects, groups, rec, v, j);
+    let a = table_arrival::accept(c, records, objects, groups, rec, v, j, true);
     let answer = a.answer;
     if table_drawing::number(answer) == 0 {
         table_index::add(

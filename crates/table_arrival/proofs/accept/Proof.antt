@@ -29,7 +29,7 @@ first-of c =
     let r = c .before .refusal in
     c .number .ensures ∙ r .ensures
     ∙ first-is (tablesOf (a .c) (now (a .records)) (now (a .objects)) (now (a .groups))) (now (a .rec)) (a .v) (a .j)
-    (s .pre)
+    (a .apart) (s .pre)
 
 refusal-requires : tie.Need-refusal-requires
 refusal-requires c κs = search needs
@@ -89,7 +89,7 @@ take-create-requires c κs =
     = eq-eqb (decodeOf b .kind) createKind (sym (c .before .before .before .before .before .before .byte-at .ensures)
     ∙ c .before .before .if3 .taken) in
     rw (c .before .before .before .byte-at2 .ensures)
-    (create-given t b (a .v) (a .j) (s .pre) (sym (first-of n) ∙ z .if1 .left) k)
+    (create-given t b (a .v) (a .j) (a .apart) (s .pre) (sym (first-of n) ∙ z .if1 .left) k)
 
 same-length-4 : tie.Need-same-length-4
 same-length-4 c = search needs
@@ -111,7 +111,7 @@ returns-3 c =
     ∙ y .if3 .taken) in
     let m = c .before .before .before .before .take-create in
     rw (m .ensures .0, m .ensures .1, m .ensures .2, y .before .byte-at2 .ensures)
-    (create-taken t b (a .v) (a .j) (s .pre) (sym (first-of n) ∙ z .if1 .left) k)
+    (create-taken t b (a .v) (a .j) (a .apart) (s .pre) (sym (first-of n) ∙ z .if1 .left) k)
 
 take-layer-requires : tie.Need-take-layer-requires
 take-layer-requires c κs =
@@ -121,7 +121,7 @@ take-layer-requires c κs =
     let a = s .args in
     let t = tablesOf (a .c) (now (a .records)) (now (a .objects)) (now (a .groups)) in
     rw (c .before .before .byte-at2 .ensures)
-    (layer-given t (now (a .rec)) (a .v) (a .j) (s .pre) (sym (first-of n) ∙ z .if1 .left))
+    (layer-given t (now (a .rec)) (a .v) (a .j) (a .apart) (s .pre) (sym (first-of n) ∙ z .if1 .left))
 
 same-length-6 : tie.Need-same-length-6
 same-length-6 c = search needs
@@ -142,7 +142,7 @@ returns-4 c =
     = rw kind at (sym (y .before .before .before .is-set-kind .ensures) ∙ y .before .before .if2 .left) in
     let m = c .before .before .take-layer in
     rw (m .ensures .0, m .ensures .1, y .before .byte-at2 .ensures)
-    (layer-taken t b (a .v) (a .j) (s .pre) (sym (first-of n) ∙ z .if1 .left) create set)
+    (layer-taken t b (a .v) (a .j) (a .apart) (s .pre) (sym (first-of n) ∙ z .if1 .left) create set)
 
 pub accept-spec : {M : Type 1} → statement M
 accept-spec =

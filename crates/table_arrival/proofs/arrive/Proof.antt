@@ -1,5 +1,5 @@
 -- `table_arrival::arrive` meets its contract. Assumes nothing.
-use mathlib.Core.Path.{_≡_, sym, _∙_}
+use mathlib.Core.Path.{_≡_, refl, sym, _∙_}
 use mathlib.Core.Bool.{true, false}
 use Prim.Native.Nat.{_≤_}
 use native.Mathlib.Omega.{arith}
@@ -7,6 +7,7 @@ use lib.ListN.{length}
 use denote.Ref.{now}
 use borrow.Author.Tests.{not-true, not-false}
 use borrow.Author.Needs.{needs}
+use Rattle.math_lists.proofs.Booleans.{clash}
 use Rattle.edit_record.specs.Layout.{recordLength}
 use Rattle.edit_record.specs.RecordBytes.{decodeOf}
 use Rattle.edit_record.proofs.RecordSpans.{span-least}
@@ -119,6 +120,7 @@ accept-requires c κs =
       timely = sym (three n) ∙ z .before .before .before .if2 .left;
       surveyed = z .survey .ensures;
       judged = c .before .before .before .judge .ensures;
+      rows = λ h. clash h refl;
     }
 
 same-length-7 : tie.Need-same-length-7

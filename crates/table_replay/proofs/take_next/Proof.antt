@@ -80,6 +80,7 @@ accept-requires c κs =
       timely = sym (three n) ∙ z .before .before .before .before .before .before .if1 .left;
       surveyed = z .survey .ensures;
       judged = c .before .before .before .judge .ensures;
+      rows = λ h. start-of n .pre .apart;
     }
 
 number-requires-2 : tie.Need-number-requires-2
