@@ -256,9 +256,9 @@ pub fn walk(sites: u8, recs: &[u8], n: usize, places: &mut [u16]) -> Walked
         }
         let at = spot(recs, places, i);
         places[at] = i as u16;
-        let site = edit_record::byte_at(recs, i * PLACE + AT_SITE) as usize;
-        if site < SITES {
-            held[site] = held[site] + 1;
+        let own = edit_record::byte_at(recs, i * PLACE + AT_SITE) as usize;
+        if own < SITES {
+            held[own] = held[own] + 1;
         }
         i += 1;
     }

@@ -91,8 +91,8 @@ add-byte-at c = search needs
 byte-at-requires : tie.Need-byte-at-requires Inv-loop μ-loop
 byte-at-requires c κs = search needs
 
-cast-site : tie.Need-cast-site Inv-loop μ-loop
-cast-site c = search needs
+cast-own : tie.Need-cast-own Inv-loop μ-loop
+cast-own c = search needs
 
 mul-held : tie.Need-mul-held Inv-loop μ-loop
 mul-held c = search needs
@@ -171,7 +171,7 @@ walk-spec =
     mul-byte-at
     add-byte-at
     byte-at-requires
-    cast-site
+    cast-own
     mul-held
     array-read-held
     add-held
