@@ -1,0 +1,4 @@
+pub mod NumbersFrom
+pub mod OneSetLinked
+pub mod Followed
+pub mod ConflictsInPlace
