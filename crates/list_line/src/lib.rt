@@ -84,7 +84,8 @@ fn put_identifier(out: &mut [u8], n: usize, disputes: &[u64], d: usize, g: u64) 
         ≡ take n (now (out .entry)) ++ (space ∷ identifierText (identifierBy (take d (now (disputes .entry))) g)))
         × (r ≤ n + identifierLength) ⌝ }
 {
-    let mut names = [0u64; SETS];
+    // what work space holds at first does not matter; zeros would be set by memset (docs/DECISIONS.md, 24)
+    let mut names = [1u64; SETS];
     let k = identifier(disputes, d, g, &mut names);
     let w = put_byte(out, n, SPACE);
     put_names(out, w, &names, k)

@@ -149,11 +149,12 @@ fn put_found(
         ≡ getD (linesFor (tablesOf c (now (records .entry)) (now (objects .entry)) (now (groups .entry))) o) v [])
         × (r ≤ lineLength) ⌝ }
 {
-    let mut places = [0u16; SETS];
+    // what work space holds at first does not matter; zeros would be set by memset (docs/DECISIONS.md, 24)
+    let mut places = [1u16; SETS];
     put_sets(&mut places, c, records, objects, groups, o);
-    let mut disputes = [0u64; SETS];
-    let mut stamps = [0u64; SETS];
-    let mut versions = [0u64; GROUPS];
+    let mut disputes = [1u64; SETS];
+    let mut stamps = [1u64; SETS];
+    let mut versions = [1u64; GROUPS];
     let g = gather(
         &mut disputes,
         &mut stamps,

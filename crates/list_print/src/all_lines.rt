@@ -69,7 +69,8 @@ fn put_object(
         (joined (linesFor (tablesOf c (now (records .entry)) (now (objects .entry)) (now (groups .entry))) o))
         (mostGroups * lineLength) (now (out .exit)) r ⌝ }
 {
-    let mut places = [0u16; SETS];
+    // what work space holds at first does not matter; zeros would be set by memset (docs/DECISIONS.md, 24)
+    let mut places = [1u16; SETS];
     put_chained(&mut places, c, records, objects, groups, chain, o);
     let g = gather(
         disputes,
@@ -105,11 +106,12 @@ fn put_objects(
         (mostObjects * (mostGroups * lineLength)) (now (out .exit)) r ⌝ }
 {
     let m = c.objects as usize;
-    let mut order = [0u16; OBJECTS];
+    // what work space holds at first does not matter; zeros would be set by memset (docs/DECISIONS.md, 24)
+    let mut order = [1u16; OBJECTS];
     sort_objects(&mut order, records, c.records as usize, objects, m);
-    let mut disputes = [0u64; SETS];
-    let mut stamps = [0u64; SETS];
-    let mut versions = [0u64; GROUPS];
+    let mut disputes = [1u64; SETS];
+    let mut stamps = [1u64; SETS];
+    let mut versions = [1u64; GROUPS];
     let mut w = n;
     let mut i: usize = 0;
     while i < m {
@@ -152,7 +154,8 @@ pub fn put_list_by(
 {
     let mut line = [0u8; LINE];
     let w = put_head(out, &mut line, n, c, objects);
-    let mut chain = [0u16; RECORDS];
+    // what work space holds at first does not matter; zeros would be set by memset (docs/DECISIONS.md, 24)
+    let mut chain = [1u16; RECORDS];
     table_sets::chain_sets(records, c.records as usize, places, &mut chain);
     put_objects(out, &mut line, w, c, records, objects, groups, &chain)
 }

@@ -26,6 +26,10 @@ setsAt rs places = map (recordAt rs) places
 
 -- ---- identifiers from the Sets in dispute
 
+-- the t first keys are those of the edits in the places ps
+abbrev pub KeysIn : List ℕ → List ℕ → List ℕ → ℕ → Type 0
+KeysIn rs ps ks t = (j : ℕ) → j < t → getD ks j 0 ≡ recordAt rs (getD ps j 0) .key
+
 -- the i-th Set by its name, and by its number behind it
 abbrev pub namedAt : List Edit → ℕ → ℕ
 namedAt ms i = nameOf (getD ms i noEdit) * mostSets + i
