@@ -1,15 +1,15 @@
 -- An edit by the bytes of its record, and its fields as the bytes where they stand in the table. Assumes nothing.
-use mathlib.Core.Path.{_≡_, refl, sym, ap, _∙_}
+use mathlib.Core.Path.{_≡_, sym, ap, _∙_}
 use mathlib.Core.List.{List}
-use Prim.Native.Nat.{ℕ, zero, suc, _+_, _-_, _*_, _≤_, _<_}
+use Prim.Native.Nat.{ℕ, _+_, _-_, _*_, _≤_, _<_}
 use native.Mathlib.Omega.{arith}
 use lib.ListN.{length, getD, drop, length-drop}
 use lib.Seq.{length-take-le, getD-drop, getD-take}
 use Rattle.edit_record.specs.Layout.{mostSites, kindAt, siteAt, seqAt, vectorAt, targetAt, keyAt, targetSeqAt}
 use Rattle.edit_record.specs.Layout.{placeLength, mostMembers}
-use Rattle.edit_record.specs.RecordBytes.{two, counts, decodeOf, spanOf}
+use Rattle.edit_record.specs.RecordBytes.{two, decodeOf, spanOf}
 use Rattle.edit_record.proofs.AgreeingBytes.{decode-agree}
-use Rattle.edit_record.proofs.NumbersInBytes.{two-drop}
+use Rattle.edit_record.proofs.NumbersInBytes.{two-drop, counts-at}
 use Rattle.edit_record.proofs.RecordSpans.{span-most, span-own}
 use Rattle.edit_history.specs.EditsHeld.{bytesAt, recordAt}
 
@@ -27,13 +27,6 @@ bytes-whole rs p there few =
     let d = drop (p * placeLength) rs in
     let long : length d ≡ length rs - p * placeLength = length-drop (p * placeLength) rs in
     length-take-le (spanOf d) d (omega (arith, span-most d few)) ∙ sym (span-own d)
-
-counts-at : (n : ℕ) (s : List ℕ) (i : ℕ) → i < n → getD (counts n s) i 0 ≡ two s (2 * i)
-unfolding counts
-counts-at zero s i l = absurd (omega arith)
-counts-at (suc n) s zero l = refl
-counts-at (suc n) s (suc i) l =
-    counts-at n (drop 2 s) i (omega arith) ∙ two-drop 2 s (2 * i) ∙ ap (two s) (omega arith)
 
 pub kind-in-place : (rs : List ℕ) (p : ℕ) → recordAt rs p .kind ≡ getD rs (p * placeLength + kindAt) 0
 kind-in-place rs p = getD-drop (p * placeLength) rs kindAt 0

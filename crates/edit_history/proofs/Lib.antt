@@ -1,6 +1,5 @@
 pub mod EditsHeld
 pub mod EditsByPlaces
-pub mod SurveyOneMore
 pub mod ByCounts
 pub mod RecordsPassed
 pub mod FieldsInPlace

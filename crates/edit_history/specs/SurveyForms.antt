@@ -1,9 +1,9 @@
 -- Forms that the code uses. No one need believe them: laws in proofs/ tie each one to the definitions of `EditsHeld`
 -- and `Answers2to5`. Assumes nothing.
-use Prim.Native.Nat.{ℕ, _+_, _^_, _≤_, _<_}
+use Prim.Native.Nat.{ℕ, _+_, _<_}
 use mathlib.Core.Path.{_≡_}
 use mathlib.Core.List.{List}
-use mathlib.Core.Bool.{Bool, not, _&&_, _||_, cond}
+use mathlib.Core.Bool.{Bool, true, not, _&&_, _||_}
 use lib.ListN.{getD, set, length}
 use lib.Dec.{eqb, leb, ltb}
 use Rattle.math_lists.specs.NumbersBelow.{some}
@@ -11,11 +11,10 @@ use Rattle.math_lists.specs.SortedLists.{any}
 use Rattle.edit_record.specs.declared.Site.{Site}
 use Rattle.edit_record.specs.declared.Edit.{Edit}
 use Rattle.edit_record.specs.Layout.{mostSites}
-use Rattle.edit_record.specs.Answer1.{isCreate, isLimited, entryOf}
-use Rattle.edit_causal.specs.Conflict.{doConflict}
+use Rattle.edit_record.specs.Answer1.{isLimited, entryOf}
 use Rattle.edit_causal.specs.ConflictForms.{plainMarks}
-use Rattle.edit_history.specs.EditsHeld.{mostRecords, countFrom, isSetOn, setsOn, isTarget, objectOf}
-use Rattle.edit_history.specs.Answers2to5.{tears, isTorn}
+use Rattle.edit_history.specs.EditsHeld.{countFrom, setsOn, isTarget, objectOf}
+use Rattle.edit_history.specs.Answers2to5.{isTorn}
 use Rattle.edit_history.specs.declared.Surveyed.{Surveyed}
 
 -- ---- counts held in a list
@@ -57,20 +56,8 @@ surveyOf es e =
       limited = any isLimited (setsOn (e .tsite) (e .tseq) es);
     }
 
--- the same with one edit more
-abbrev pub surveyWith : Surveyed → Edit → Edit → Surveyed
-surveyWith v a e =
-    record {
-      torn = v .torn || tears e a;
-      found = v .found || isTarget e a;
-      object = v .object + cond (isCreate a && not (v .found || isTarget e a)) 1 0;
-      sets = v .sets + cond (isSetOn (e .tsite) (e .tseq) a) 1 0;
-      plain = v .plain + cond (isSetOn (e .tsite) (e .tseq) a && doConflict a e) (2 ^ v .sets) 0;
-      limited = v .limited || isSetOn (e .tsite) (e .tseq) a && isLimited a;
-    }
-
--- the counts of a survey have room for one edit more
-pub record Room (v : Surveyed) (a e : Edit) : Type 0 where
-  pub object : v .object < mostRecords
-  pub sets : v .sets + cond (isSetOn (e .tsite) (e .tseq) a) 1 0 ≤ markBits
-  pub plain : v .plain < 2 ^ v .sets
+-- v is right for e as far as it is looked at: an edit whose target is not held asks no more
+pub record SurveyedOf (es : List Edit) (e : Edit) (v : Surveyed) : Type 0 where
+  pub torn : v .torn ≡ isTorn es e
+  pub found : v .found ≡ any (isTarget e) es
+  pub whole : v .found ≡ true → v ≡ surveyOf es e

@@ -1,25 +1,22 @@
 // The edits held, in the order of arrival: answers 2 to 5 of document 01 against them, and what an arriving edit asks
 // of them.
-use edit_causal::has_seen;
-use edit_causal::is_conflict;
-use edit_causal::is_same;
 use edit_record::AT_KIND;
-use edit_record::CREATE;
 use edit_record::Edit;
-use edit_record::LIMITED;
 use edit_record::PLACE;
+use edit_record::RECORD;
 use edit_record::SITES;
 use edit_record::Seq;
 use edit_record::Site;
 ghost use mathlib.Core.Path.{_≡_};
-ghost use mathlib.Core.Bool.{true, cond};
+ghost use mathlib.Core.Bool.{true, false, cond, _||_};
 ghost use Prim.Native.Nat.{_+_, _^_, _≤_, _<_};
 ghost use lib.ListN.{length, getD};
-ghost use Rattle.edit_record.specs.Layout.{twoBytes};
-ghost use Rattle.edit_history.specs.EditsHeld.{mostRecords, recordAt, editsOf, isSetOn, setsOn, isTarget};
-ghost use Rattle.edit_history.specs.Answers2to5.{largerSomewhere, tears};
-ghost use Rattle.edit_history.specs.SurveyForms.{bump, aheadElsewhere, repeatedAgainst, earlyAgainst};
-ghost use Rattle.edit_history.specs.SurveyForms.{markBits, surveyOf, surveyWith, Room};
+ghost use lib.Dec.{leb, ltb};
+ghost use Rattle.edit_record.specs.Layout.{mostSites, twoBytes};
+ghost use Rattle.edit_record.specs.Answer1.{entryOf};
+ghost use Rattle.edit_history.specs.EditsHeld.{mostRecords, recordAt};
+ghost use Rattle.edit_history.specs.Answers2to5.{largerSomewhere};
+ghost use Rattle.edit_history.specs.SurveyForms.{bump, aheadElsewhere, markBits};
 
 // The records held, Creates included, are at most so many.
 pub const RECORDS: usize = 256;
@@ -49,6 +46,19 @@ pub fn decode_at(recs: &[u8], p: usize) -> Edit
     }
 }
 
+// The vector of the edit in place p, read where it stands.
+pub fn vector_at(recs: &[u8], p: usize) -> [u16; SITES]
+    requires { ⌜ p < twoBytes ⌝ }
+    ensures { λ r. ⌜ r ≡ recordAt (now (recs .entry)) p .vector ⌝ }
+{
+    let at = p * PLACE;
+    if at + RECORD <= recs.len() {
+        return edit_record::vector_of(&recs[at..]);
+    }
+    let e = decode_at(recs, p);
+    e.vector
+}
+
 // The kind of the edit in place p, read where it stands.
 pub fn kind_at(recs: &[u8], p: usize) -> u8
     requires { ⌜ p < twoBytes ⌝ }
@@ -70,16 +80,24 @@ pub fn bumped(v: [u16; SITES], s: Site) -> [u16; SITES]
     w
 }
 
-// Whether answer 2 is given to the edit, where so many edits of each site are held.
-pub fn is_repeated(held: [u16; SITES], e: Edit) -> bool
-    ensures { λ r. ⌜ r ≡ repeatedAgainst held e ⌝ }
+// How many edits of site s are held, by the counts of all sites.
+pub fn held_from(held: &[u16], s: Site) -> u16
+    ensures { λ r. ⌜ r ≡ entryOf (now (held .entry)) s .0 ⌝ }
 {
-    e.seq.0 <= edit_record::entry(held, e.site).0
+    edit_record::entry_at(held, s.0 as usize)
+}
+
+// Whether answer 2 is given to the edit s.q, where so many edits of each site are held.
+pub fn is_repeated(held: &[u16], s: Site, q: Seq) -> bool
+    ensures { λ r. ⌜ r ≡ leb (q .0) (entryOf (now (held .entry)) s .0) ⌝ }
+{
+    q.0 <= held_from(held, s)
 }
 
 // Whether an entry of v other than the site's own is above that of held.
-fn is_ahead_elsewhere(held: [u16; SITES], v: [u16; SITES], s: Site) -> bool
-    ensures { λ r. ⌜ r ≡ aheadElsewhere held v s ⌝ }
+fn is_ahead_elsewhere(held: &[u16], v: [u16; SITES], s: Site) -> bool
+    requires { ⌜ mostSites ≤ length (now held) ⌝ }
+    ensures { λ r. ⌜ r ≡ aheadElsewhere (now (held .entry)) v s ⌝ }
 {
     let own = s.0 as usize;
     let mut found = false;
@@ -91,13 +109,14 @@ fn is_ahead_elsewhere(held: [u16; SITES], v: [u16; SITES], s: Site) -> bool
     found
 }
 
-// Whether answer 3 is given to the edit, where so many edits of each site are held.
-pub fn is_early(held: [u16; SITES], e: Edit) -> bool
-    ensures { λ r. ⌜ r ≡ earlyAgainst held e ⌝ }
+// Whether answer 3 is given to the edit s.q with the vector v, where so many edits of each site are held.
+pub fn is_early(held: &[u16], v: [u16; SITES], s: Site, q: Seq) -> bool
+    requires { ⌜ mostSites ≤ length (now held) ⌝ }
+    ensures { λ r. ⌜ r
+        ≡ (ltb (entryOf (now (held .entry)) s .0 + 1) (q .0) || aheadElsewhere (now (held .entry)) v s) ⌝ }
 {
-    let v = e.vector;
-    let own = edit_record::entry(held, e.site);
-    (own.0 as u32 + 1 < e.seq.0 as u32) | is_ahead_elsewhere(held, v, e.site)
+    let own = held_from(held, s);
+    (own as u32 + 1 < q.0 as u32) | is_ahead_elsewhere(held, v, s)
 }
 
 // Whether an entry of v is larger than w's.
@@ -113,37 +132,6 @@ pub fn is_larger_somewhere(v: [u16; SITES], w: [u16; SITES]) -> bool
     found
 }
 
-// Whether e has seen a, whose vector has a larger entry somewhere.
-fn is_torn_by(e: Edit, a: Edit) -> bool
-    ensures { λ r. ⌜ r ≡ tears e a ⌝ }
-{
-    let v = a.vector;
-    let w = e.vector;
-    has_seen(w, a.site, a.seq) & is_larger_somewhere(v, w)
-}
-
-// Whether a is the Create that e targets, and e has seen it.
-fn is_target(e: Edit, a: Edit) -> bool
-    ensures { λ r. ⌜ r ≡ isTarget e a ⌝ }
-{
-    let w = e.vector;
-    (a.kind == CREATE) & is_same(a.site, a.seq, e.tsite, e.tseq) & has_seen(w, a.site, a.seq)
-}
-
-// Whether e is a Set on the Create s.q.
-fn is_set_on(s: Site, q: Seq, e: Edit) -> bool
-    ensures { λ r. ⌜ r ≡ isSetOn s q e ⌝ }
-{
-    edit_record::is_set_kind(e.kind) & is_same(e.tsite, e.tseq, s, q)
-}
-
-// 1 where b holds, else 0.
-fn one_if(b: bool) -> usize
-    ensures { λ r. ⌜ (r ≡ cond b 1 0) × (r ≤ 1) ⌝ }
-{
-    if b { 1 } else { 0 }
-}
-
 // The marks m with bit k, if b holds.
 pub fn marked_if(b: bool, m: u64, k: usize) -> u64
     requires { ⌜ (m < 2 ^ k) × (b ≡ true → k < markBits) ⌝ }
@@ -152,47 +140,16 @@ pub fn marked_if(b: bool, m: u64, k: usize) -> u64
     if b { m + (1 << k) } else { m }
 }
 
-// The survey with one edit more, a, of those that e asks of.
-fn survey_with(v: Surveyed, a: Edit, e: Edit) -> Surveyed
-    requires { ⌜ Room v a e ⌝ }
-    ensures { λ r. ⌜ r ≡ surveyWith v a e ⌝ }
+// What is found of an edit whose target is not held.
+pub fn none_found(torn: bool) -> Surveyed
+    ensures { λ r. ⌜ (r .torn ≡ torn) × (r .found ≡ false) ⌝ }
 {
-    let torn = v.torn | is_torn_by(e, a);
-    let found = v.found | is_target(e, a);
-    let set = is_set_on(e.tsite, e.tseq, a);
-    let object = v.object + one_if((a.kind == CREATE) & !found);
-    let sets = v.sets + one_if(set);
-    let plain = marked_if(set & is_conflict(a, e), v.plain, v.sets);
-    let limited = v.limited | (set & (a.kind == LIMITED));
     Surveyed {
         torn,
-        found,
-        object,
-        sets,
-        plain,
-        limited,
-    }
-}
-
-// The survey of the first n records for the edit e, whose object has at most as many Sets as a number has bits.
-pub fn survey(recs: &[u8], n: usize, e: Edit) -> Surveyed
-    requires { ⌜ (n ≤ mostRecords) × (length (setsOn (e .tsite) (e .tseq) (editsOf (now recs) n)) ≤ markBits) ⌝ }
-    ensures { λ r. ⌜ r ≡ surveyOf (editsOf (now (recs .entry)) n) e ⌝ }
-{
-    let mut v = Surveyed {
-        torn: false,
         found: false,
         object: 0,
         sets: 0,
         plain: 0,
         limited: false,
-    };
-    let mut i: usize = 0;
-    while i < n {
-        let a = decode_at(recs, i);
-        let next = survey_with(v, a, e);
-        v = next;
-        i += 1;
     }
-    v
 }

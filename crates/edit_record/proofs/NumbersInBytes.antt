@@ -6,6 +6,7 @@ use Prim.Native.Nat.{ℕ, zero, suc, _+_, _*_, _/_, _%_, _≤_, _<_}
 use native.Mathlib.Omega.{arith}
 use lib.ListN.{length, getD, take, drop}
 use lib.Seq.{getD-drop}
+use Rattle.edit_record.specs.Layout.{mostSites, vectorAt}
 use Rattle.edit_record.specs.RecordBytes.{two, counts, countBytes}
 
 -- every element is a byte; every element is a count of two bytes
@@ -31,6 +32,20 @@ counts-more (suc n) s =
     ap (λ (l : List ℕ). two s 0 ∷ l)
     (counts-more n (drop 2 s)
     ∙ ap (λ (x : ℕ). counts n (drop 2 s) ++ (x ∷ [])) (two-drop 2 s (2 * n) ∙ ap (two s) e))
+
+-- the i-th count
+pub counts-at : (n : ℕ) (s : List ℕ) (i : ℕ) → i < n → getD (counts n s) i 0 ≡ two s (2 * i)
+unfolding counts
+counts-at zero s i l = absurd (omega arith)
+counts-at (suc n) s zero l = refl
+counts-at (suc n) s (suc i) l =
+    counts-at n (drop 2 s) i (omega arith) ∙ two-drop 2 s (2 * i) ∙ ap (two s) (omega arith)
+
+-- the entry i of the vector of a record
+pub entry-in-record :
+    (s : List ℕ) (i : ℕ) → i < mostSites →
+    getD (counts mostSites (drop vectorAt s)) i 0 ≡ two s (vectorAt + 2 * i)
+entry-in-record s i l = counts-at mostSites (drop vectorAt s) i l ∙ two-drop vectorAt s (2 * i)
 
 pub counts-length : (n : ℕ) (s : List ℕ) → length (counts n s) ≡ n
 unfolding counts

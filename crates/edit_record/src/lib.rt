@@ -3,7 +3,7 @@ mod lists;
 mod writing;
 
 use lists::count_of;
-use lists::is_list_unfit;
+use lists::is_list_unfit_in;
 use lists::members_of;
 use writing::encode_fields;
 use writing::with_list;
@@ -12,9 +12,10 @@ ghost use Prim.Native.Nat.{ℕ, _+_, _*_, _≤_, _<_, _^_};
 ghost use lib.ListN.{length, getD, drop};
 ghost use mathlib.Core.Bool.{_||_};
 ghost use lib.Dec.{eqb};
-ghost use Rattle.edit_record.specs.Layout.{mostSites, vectorAt, recordLength, setKind, limitedKind};
+ghost use Rattle.edit_record.specs.Layout.{mostSites, vectorAt, valueAt, recordLength};
+ghost use Rattle.edit_record.specs.Layout.{setKind, limitedKind, topKind, bottomKind};
 ghost use Rattle.edit_record.specs.RecordBytes.{two, four, counts, decodeOf, placed, spanOf};
-ghost use Rattle.edit_record.specs.Answer1.{isLayer, isAimed, entryOf, nonzeroPast, lastEightZero, nameIn};
+ghost use Rattle.edit_record.specs.Answer1.{entryOf, nonzeroPast, nameIn};
 ghost use Rattle.edit_record.specs.Answer1.{unfit, malformed};
 
 // The sites that a drawing has at most: the entries of a vector.
@@ -137,7 +138,7 @@ pub fn span_of(rec: &[u8]) -> usize
 }
 
 // The vector of a record that is there whole.
-fn vector_of(rec: &[u8]) -> [u16; SITES]
+pub fn vector_of(rec: &[u8]) -> [u16; SITES]
     requires { ⌜ recordLength ≤ length (now rec) ⌝ }
     ensures { λ r. ⌜ r ≡ counts mostSites (drop vectorAt (now (rec .entry))) ⌝ }
 {
@@ -155,8 +156,6 @@ fn decode_whole(rec: &[u8]) -> Edit
     requires { ⌜ recordLength ≤ length (now rec) ⌝ }
     ensures { λ r. ⌜ r ≡ decodeOf (now (rec .entry)) ⌝ }
 {
-    let low = pair_at(rec, AT_VALUE);
-    let high = pair_at(rec, AT_VALUE + 2);
     Edit {
         kind: rec[AT_KIND],
         site: Site(rec[AT_SITE]),
@@ -165,7 +164,7 @@ fn decode_whole(rec: &[u8]) -> Edit
         tsite: Site(rec[AT_TARGET]),
         key: rec[AT_KEY],
         tseq: Seq(pair_at(rec, AT_TARGET_SEQ)),
-        value: low as u32 + high as u32 * 65536,
+        value: value_of(rec),
         count: count_of(rec),
         members: members_of(rec),
     }
@@ -208,6 +207,13 @@ pub fn encode(e: Edit) -> [u8; PLACE]
     with_list(fields, 0, [0u32; MEMBERS])
 }
 
+// Entry i of some numbers, and 0 past their end.
+pub fn entry_at(s: &[u16], i: usize) -> u16
+    ensures { λ r. ⌜ r ≡ getD (now (s .entry)) i 0 ⌝ }
+{
+    if i < s.len() { s[i] } else { 0 }
+}
+
 // Whether an edit of this kind is a Set, be it limited or not.
 pub fn is_set_kind(kind: u8) -> bool
     ensures { λ r. ⌜ r ≡ (eqb kind setKind || eqb kind limitedKind) ⌝ }
@@ -215,18 +221,18 @@ pub fn is_set_kind(kind: u8) -> bool
     (kind == SET) | (kind == LIMITED)
 }
 
-// Whether the edit is to-top or to-bottom.
-pub fn is_layer(e: Edit) -> bool
-    ensures { λ r. ⌜ r ≡ isLayer e ⌝ }
+// Whether an edit of this kind is to-top or to-bottom.
+pub fn is_layer_kind(kind: u8) -> bool
+    ensures { λ r. ⌜ r ≡ (eqb kind topKind || eqb kind bottomKind) ⌝ }
 {
-    (e.kind == TOP) | (e.kind == BOTTOM)
+    (kind == TOP) | (kind == BOTTOM)
 }
 
-// Whether the edit names an object as its target.
-pub fn is_aimed(e: Edit) -> bool
-    ensures { λ r. ⌜ r ≡ isAimed e ⌝ }
+// Whether an edit of this kind names an object as its target.
+pub fn is_aimed_kind(kind: u8) -> bool
+    ensures { λ r. ⌜ r ≡ (eqb kind setKind || eqb kind limitedKind || (eqb kind topKind || eqb kind bottomKind)) ⌝ }
 {
-    is_set_kind(e.kind) | is_layer(e)
+    is_set_kind(kind) | is_layer_kind(kind)
 }
 
 // The count of a site in a vector, and 0 for a site that has no entry.
@@ -237,26 +243,6 @@ pub fn entry(v: [u16; SITES], s: Site) -> Seq
     if i < SITES { Seq(v[i]) } else { Seq(0) }
 }
 
-// Whether an entry is nonzero at or past n.
-fn is_nonzero_past(n: u8, v: [u16; SITES]) -> bool
-    ensures { λ r. ⌜ r ≡ nonzeroPast n v ⌝ }
-{
-    let mut found = false;
-    let mut i = n as usize;
-    while i < SITES {
-        found = found | (v[i] != 0);
-        i += 1;
-    }
-    found
-}
-
-// Whether the last eight bytes of the edit's record are zero.
-fn is_last_eight_zero(e: Edit) -> bool
-    ensures { λ r. ⌜ r ≡ lastEightZero e ⌝ }
-{
-    (e.tsite.0 == 0) & (e.key == 0) & (e.tseq.0 == 0) & (e.value == 0)
-}
-
 // The name of a member: its site and its sequence number as one number.
 pub fn name_in(m: u32) -> u32
     ensures { λ r. ⌜ r ≡ nameIn m ⌝ }
@@ -264,26 +250,68 @@ pub fn name_in(m: u32) -> u32
     m % 256 * 65536 + m / 65536
 }
 
-// Whether answer 1 is given to an edit of the right length, in a drawing of n sites.
-pub fn is_unfit(n: u8, e: Edit) -> bool
-    ensures { λ r. ⌜ r ≡ unfit n e ⌝ }
+// The entry of a site in the vector of a record that is there whole, and 0 for a site that has none.
+pub fn own_entry(rec: &[u8], site: u8) -> u16
+    requires { ⌜ recordLength ≤ length (now rec) ⌝ }
+    ensures { λ r. ⌜ r ≡ getD (counts mostSites (drop vectorAt (now (rec .entry)))) site 0 ⌝ }
 {
-    let v = e.vector;
-    let own = entry(v, e.site);
-    let past = is_nonzero_past(n, v);
-    let zero = is_last_eight_zero(e);
-    let layer = is_layer(e);
-    let aimed = is_aimed(e);
-    let list = is_list_unfit(e);
-    !((e.kind == CREATE) | aimed)
-        | (n <= e.site.0)
+    if (site as usize) < SITES {
+        return pair_at(rec, AT_VECTOR + 2 * site as usize);
+    }
+    0
+}
+
+// Whether an entry of that vector is nonzero at or past n.
+fn is_nonzero_past(n: u8, rec: &[u8]) -> bool
+    requires { ⌜ recordLength ≤ length (now rec) ⌝ }
+    ensures { λ r. ⌜ r ≡ nonzeroPast n (counts mostSites (drop vectorAt (now (rec .entry)))) ⌝ }
+{
+    let mut found = false;
+    let mut i = n as usize;
+    while i < SITES {
+        found = found | (pair_at(rec, AT_VECTOR + 2 * i) != 0);
+        i += 1;
+    }
+    found
+}
+
+// The value of a record that is there whole.
+pub fn value_of(rec: &[u8]) -> u32
+    requires { ⌜ recordLength ≤ length (now rec) ⌝ }
+    ensures { λ r. ⌜ r ≡ four (now (rec .entry)) valueAt ⌝ }
+{
+    let low = pair_at(rec, AT_VALUE);
+    let high = pair_at(rec, AT_VALUE + 2);
+    low as u32 + high as u32 * 65536
+}
+
+// Whether answer 1 is given, in a drawing of n sites, to the edit of a record that is there whole. The fields are read
+// where they stand: an edit is longer than all that is asked of most.
+pub fn is_unfit(n: u8, rec: &[u8]) -> bool
+    requires { ⌜ recordLength ≤ length (now rec) ⌝ }
+    ensures { λ r. ⌜ r ≡ unfit n (decodeOf (now (rec .entry))) ⌝ }
+{
+    let kind = rec[AT_KIND];
+    let site = rec[AT_SITE];
+    let tsite = rec[AT_TARGET];
+    let key = rec[AT_KEY];
+    let seq = pair_at(rec, AT_SEQ);
+    let tseq = pair_at(rec, AT_TARGET_SEQ);
+    let value = value_of(rec);
+    let own = own_entry(rec, site);
+    let past = is_nonzero_past(n, rec);
+    let layer = is_layer_kind(kind);
+    let aimed = is_aimed_kind(kind);
+    let list = is_list_unfit_in(rec);
+    !((kind == CREATE) | aimed)
+        | (n <= site)
         | past
-        | (e.seq.0 == 0)
-        | (e.seq.0 != own.0)
-        | (KEYS <= e.key)
-        | (aimed & (e.tseq.0 == 0))
-        | ((e.kind == CREATE) & !zero)
-        | (layer & !((e.key == 0) & (e.value == 0)))
+        | (seq == 0)
+        | (seq != own)
+        | (KEYS <= key)
+        | (aimed & (tseq == 0))
+        | ((kind == CREATE) & !((tsite == 0) & (key == 0) & (tseq == 0) & (value == 0)))
+        | (layer & !((key == 0) & (value == 0)))
         | list
 }
 
@@ -291,7 +319,8 @@ pub fn is_unfit(n: u8, e: Edit) -> bool
 pub fn is_malformed(n: u8, rec: &[u8]) -> bool
     ensures { λ r. ⌜ r ≡ malformed n (now (rec .entry)) ⌝ }
 {
-    let e = decode(rec);
-    let span = span_of(rec);
-    (rec.len() != span) | is_unfit(n, e)
+    if rec.len() != span_of(rec) {
+        return true;
+    }
+    is_unfit(n, rec)
 }

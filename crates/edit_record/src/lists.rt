@@ -7,6 +7,7 @@ use super::LIMITED;
 use super::MEMBER;
 use super::MEMBERS;
 use super::byte_at;
+use super::decode;
 use super::four_at;
 use super::name_in;
 use super::two_at;
@@ -17,7 +18,7 @@ ghost use mathlib.Core.Bool.{cond, not, _&&_};
 ghost use lib.Dec.{eqb, leb, ltb};
 ghost use Rattle.math_lists.specs.NumbersBelow.{some};
 ghost use Rattle.edit_record.specs.Layout.{countAt, membersAt, mostMembers};
-ghost use Rattle.edit_record.specs.RecordBytes.{two, four, firstFours, limits};
+ghost use Rattle.edit_record.specs.RecordBytes.{two, four, firstFours, limits, decodeOf};
 ghost use Rattle.edit_record.specs.Answer1.{isLimited, nameIn, listUnfit};
 
 // The count of a limited Set with its zero bytes, and 0 for every other kind.
@@ -89,7 +90,7 @@ fn is_order_wrong(count: usize, members: [u32; MEMBERS]) -> bool
 }
 
 // Whether the edit is a limited Set whose list is wrong: every other kind is done with at once.
-pub fn is_list_unfit(e: Edit) -> bool
+fn is_list_unfit(e: Edit) -> bool
     ensures { λ r. ⌜ r ≡ (isLimited e && listUnfit e) ⌝ }
 {
     if e.kind != LIMITED {
@@ -102,4 +103,15 @@ pub fn is_list_unfit(e: Edit) -> bool
     let zero = is_zero_byte_wrong(members);
     let order = is_order_wrong(e.count as usize, members);
     zero | order
+}
+
+// The same of the record at the front of rec, which is decoded only where it is a limited Set.
+pub fn is_list_unfit_in(rec: &[u8]) -> bool
+    ensures { λ r. ⌜ r ≡ (isLimited (decodeOf (now (rec .entry))) && listUnfit (decodeOf (now (rec .entry)))) ⌝ }
+{
+    if byte_at(rec, AT_KIND) != LIMITED {
+        return false;
+    }
+    let e = decode(rec);
+    is_list_unfit(e)
 }

@@ -1,7 +1,7 @@
 -- Where the records held pass 1 to 5 and e passes 1 to 3, the latest seen edit of each site decides 4, since the
 -- vectors of a site's edits grow, and the index of places decides 5. Assumes no more sites than entries.
-use mathlib.Core.Path.{_≡_, refl, ap, sym, _∙_}
-use mathlib.Core.Bool.{Bool, true, false, not, _&&_, _||_}
+use mathlib.Core.Path.{_≡_, sym, _∙_}
+use mathlib.Core.Bool.{Bool, true, false, not, _&&_}
 use mathlib.Core.List.{List}
 use Prim.Native.Nat.{ℕ, _+_, _-_, _≤_, _<_}
 use native.Mathlib.Omega.{arith}
@@ -10,33 +10,42 @@ use lib.Dec.{eqb, leb, ltb}
 use lib.ListN.{length, getD, set, List·getD-eq-default}
 use lib.Seq.{getD-set-same, getD-set-other}
 use borrow.Author.Tests.{eqb-false, eq-eqb, ne-eqb, leb-true, le-leb, ltb-true, ltb-false, lt-ltb, not-true}
+use Rattle.math_lists.specs.NumbersBelow.{some}
 use Rattle.math_lists.specs.SortedLists.{any}
 use Rattle.math_lists.proofs.Booleans.{clash, off, same-test, both, and-on}
 use Rattle.math_lists.proofs.NumbersBelow.{some-on, some-at, none-at}
 use Rattle.edit_record.specs.declared.Edit.{Edit}
 use Rattle.edit_record.specs.Layout.{mostSites}
-use Rattle.edit_record.specs.Answer1.{isCreate, isAimed, unfit}
-use Rattle.edit_record.proofs.WellFormed.{well-formed}
+use Rattle.edit_record.specs.Answer1.{isCreate}
 use Rattle.edit_causal.specs.Causal.{sameEdit, hasSeen}
 use Rattle.edit_causal.proofs.VectorSums.{NowhereAbove}
 use Rattle.edit_history.specs.EditsHeld.{recordAt, editsOf, countFrom, isTarget}
-use Rattle.edit_history.specs.Answers2to5.{isRepeated, isEarly, largerSomewhere, tears, isTorn, isAstray, passes}
-use Rattle.edit_history.specs.Answers2to5.{recordsPass}
-use Rattle.edit_history.specs.SurveyForms.{Counted, repeatedAgainst, earlyAgainst}
-use Rattle.edit_walk.specs.WalkForms.{placeOf, Indexed, latestSeen, tornBy, tornAt, tornByLatest, targetHeld}
-use Rattle.edit_walk.specs.WalkForms.{passesAgainst}
+use Rattle.edit_history.specs.Answers2to5.{largerSomewhere, tears, isTorn, recordsPass}
+use Rattle.edit_history.specs.SurveyForms.{Counted}
+use Rattle.edit_walk.specs.WalkForms.{placeOf, Indexed, seenBefore, tornBy, targetHeld}
 use Rattle.edit_history.proofs.EditsHeld.{target-parts, any-edit-on, any-edit-at}
-use Rattle.edit_history.proofs.ByCounts.{repeated-against, early-against}
-use Rattle.edit_history.proofs.RecordsPassed.{InTurn, in-turn, passed-at, formed-at, seq-held, seq-later, place-of}
+use Rattle.edit_history.proofs.RecordsPassed.{InTurn, passed-at, formed-at, seq-held, seq-later, place-of}
+
+-- ---- 4 by the latest seen edits
+
+-- the latest edit of site s that e has seen, itself left out; 0 is none
+unfoldable pub latestSeen : Edit → ℕ → ℕ
+latestSeen e s = getD (seenBefore (e .vector) (e .site)) s 0
+
+abbrev pub tornAt : List ℕ → List ℕ → Edit → ℕ → Bool
+tornAt rs ps e s = tornBy rs ps (e .vector) s (latestSeen e s)
+
+unfoldable pub tornByLatest : List ℕ → List ℕ → Edit → Bool
+tornByLatest rs ps e = some mostSites (tornAt rs ps e)
 
 -- ---- larger somewhere, or nowhere above
 
-nowhere-above : (v w : List ℕ) → largerSomewhere v w ≡ false → NowhereAbove mostSites v w
+pub nowhere-above : (v w : List ℕ) → largerSomewhere v w ≡ false → NowhereAbove mostSites v w
 unfolding largerSomewhere
 nowhere-above v w h i l =
     ltb-false (getD w i 0) (getD v i 0) (none-at mostSites (λ s. ltb (getD w s 0) (getD v s 0)) h i l)
 
-larger-through :
+pub larger-through :
     (u v w : List ℕ) → NowhereAbove mostSites u v → largerSomewhere u w ≡ true → largerSomewhere v w ≡ true
 unfolding largerSomewhere
 larger-through u v w h k =
@@ -46,10 +55,10 @@ larger-through u v w h k =
 
 -- ---- the latest seen edit of a site
 
-record Latest (es : List Edit) (e : Edit) (s : ℕ) : Type 0 where
-  held : latestSeen e s ≤ countFrom s es
-  seen : latestSeen e s ≤ getD (e .vector) s 0
-  most : (q : ℕ) → q ≤ getD (e .vector) s 0 → q ≤ countFrom s es → q ≤ latestSeen e s
+pub record Latest (es : List Edit) (e : Edit) (s : ℕ) : Type 0 where
+  pub held : latestSeen e s ≤ countFrom s es
+  pub seen : latestSeen e s ≤ getD (e .vector) s 0
+  pub most : (q : ℕ) → q ≤ getD (e .vector) s 0 → q ≤ countFrom s es → q ≤ latestSeen e s
 
 one-before :
     (v : List ℕ) (i s n : ℕ) → i ≡ s → getD v s 0 ≡ n + 1 → getD (set v i (getD v i 0 - 1)) s 0 ≡ n
@@ -58,7 +67,7 @@ one-before v i s n y h = elim (decLt s (length v)) [
   | no l ↦ absurd (omega (arith, List·getD-eq-default v 0 {n = s} (omega arith)))
 ]
 
-latest :
+pub latest :
     (sites : ℕ) (es : List Edit) (e : Edit) → InTurn sites es e → (s : ℕ) → s < mostSites → Latest es e s
 unfolding latestSeen
 latest sites es e turn s l = go (ℕ-discrete (e .site .0) s)
@@ -106,7 +115,7 @@ module _
 
   module _ (ps : List ℕ) (ix : Indexed rs n ps) where
     -- what the index says of an edit that is counted
-    found :
+    pub found :
         (s q : ℕ) → 0 < q → q ≤ countFrom s (editsOf rs n) →
         (p : ℕ) × (p < n) × (recordAt rs p .site .0 ≡ s) × (recordAt rs p .seq .0 ≡ q) × (placeOf ps s q ≡ p)
     found s q one l =
@@ -217,32 +226,3 @@ module _
 
       pub target-same : targetHeld counts rs ps e ≡ any (isTarget e) (editsOf rs n)
       target-same = same-test (targetHeld counts rs ps e) (any (isTarget e) (editsOf rs n)) held-target target-held
-
--- ---- 1 to 5
-
-first-three :
-    (u r x t a r′ x′ t′ a′ : Bool) → (u ≡ false → (r ≡ r′) × (x ≡ x′)) →
-    (u ≡ false → r′ ≡ false → x′ ≡ false → (t ≡ t′) × (a ≡ a′)) →
-    not (u || r || x || t || a) ≡ not (u || r′ || x′ || t′ || a′)
-first-three true r x t a r′ x′ t′ a′ f g = refl
-first-three false r x t a true x′ t′ a′ f g = rw (f refl .0)
-first-three false r x t a false true t′ a′ f g = rw (f refl .0, f refl .1)
-first-three false r x t a false false t′ a′ f g =
-    rw (f refl .0, f refl .1, g refl refl refl .0, g refl refl refl .1)
-
-pub latest-decides :
-    (sites : ℕ) → sites ≤ mostSites → (rs : List ℕ) (n : ℕ) → recordsPass sites rs n ≡ true →
-    (ps : List ℕ) → Indexed rs n ps → (counts : List ℕ) → length counts ≡ mostSites → Counted counts (editsOf rs n) →
-    (e : Edit) → passesAgainst sites counts rs ps e ≡ passes sites (editsOf rs n) e
-unfolding passesAgainst passes isAstray
-latest-decides sites few rs n pass ps ix counts long counted e =
-    first-three (unfit sites e) (repeatedAgainst counts e) (earlyAgainst counts e) (tornByLatest rs ps e)
-    (isAimed e && not (targetHeld counts rs ps e)) (isRepeated (editsOf rs n) e) (isEarly (editsOf rs n) e)
-    (isTorn (editsOf rs n) e) (isAimed e && not (any (isTarget e) (editsOf rs n)))
-    (λ fit.
-    let low : e .site .0 < mostSites = omega (arith, well-formed sites e fit .site) in
-    (repeated-against counts (editsOf rs n) counted e low, early-against counts (editsOf rs n) counted e low))
-    (λ fit r x. (
-      torn-same sites few rs n pass ps ix e (in-turn sites (editsOf rs n) e fit r x),
-      ap (λ (b : Bool). isAimed e && not b) (target-same sites few rs n pass ps ix counts long counted e),
-    ))

@@ -1,3 +1,4 @@
 pub mod LatestDecides
+pub mod NewsDecide
 pub mod RoomInIndex
 pub mod WalkKeeps

@@ -21,7 +21,7 @@ use Rattle.edit_walk.specs.WalkForms.{passesAgainst}
 use Rattle.edit_history.proofs.EditsHeld.{edits-length, count-grows}
 use Rattle.edit_history.proofs.ByCounts.{counted-none, counted-few, counted-more}
 use Rattle.edit_history.proofs.RecordsPassed.{formed-at, seq-held, seq-later}
-use Rattle.edit_walk.proofs.LatestDecides.{latest-decides}
+use Rattle.edit_walk.proofs.NewsDecide.{news-decide}
 use Rattle.edit_walk.proofs.RoomInIndex.{spaced-same, slot-within, starts-stay, put-here, put-elsewhere}
 
 pub record Walking (sites : ℕ) (rs : List ℕ) (m n : ℕ) (held ps : List ℕ) : Type 0 where
@@ -114,13 +114,7 @@ module _
   -- the counts and the index decide about the next record
   decided : passesAgainst sites held rs ps (recordAt rs n) ≡ passes sites (editsOf rs n) (recordAt rs n)
   decided =
-      latest-decides sites few rs n (w .pass) ps (w .indexed) held (w .wide) (w .counted) (recordAt rs n)
-
-  -- what is found of an edit e that was read there
-  pub told :
-      {e : Edit} {x : Bool} → e ≡ recordAt rs n → x ≡ passesAgainst sites held rs ps e →
-      passesAgainst sites held rs ps (recordAt rs n) ≡ x
-  told p q = ap (passesAgainst sites held rs ps) (sym p) ∙ sym q
+      news-decide sites few rs n (w .pass) ps (w .indexed) held (w .wide) (w .counted) (recordAt rs n)
 
   -- records of which this one does not pass do not pass
   pub refused :

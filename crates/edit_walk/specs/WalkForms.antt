@@ -1,10 +1,10 @@
 -- Forms that the code uses to test the records in one walk, by an index of the places of their edits. No one need
--- believe them: `latest-decides` of proofs/LatestDecides.antt ties them to `Answers2to5`. Assumes nothing.
+-- believe them: laws in proofs/ tie them to `Answers2to5`. Assumes nothing.
 use Prim.Native.Nat.{ℕ, _+_, _-_, _≤_, _<_}
 use mathlib.Core.Path.{_≡_}
 use mathlib.Core.List.{List}
-use mathlib.Core.Bool.{Bool, true, not, _&&_, _||_}
-use lib.ListN.{getD, set, length}
+use mathlib.Core.Bool.{Bool, true, not, _&&_, _||_, cond}
+use lib.ListN.{getD, set, length, replicate}
 use lib.Dec.{eqb, leb, ltb}
 use Rattle.math_lists.specs.NumbersBelow.{some}
 use Rattle.edit_record.specs.declared.Site.{Site}
@@ -55,19 +55,24 @@ Indexed rs n ps = (p : ℕ) → p < n → placeOf ps (recordAt rs p .site .0) (r
 abbrev pub seenBefore : List ℕ → Site → List ℕ
 seenBefore v s = set v (s .0) (getD v (s .0) 0 - 1)
 
-unfoldable pub latestSeen : Edit → ℕ → ℕ
-latestSeen e s = getD (seenBefore (e .vector) (e .site)) s 0
-
 -- there is an edit s.q, and its vector has an entry larger than w's
 unfoldable pub tornBy : List ℕ → List ℕ → List ℕ → ℕ → ℕ → Bool
 tornBy rs ps w s q = not (eqb q 0) && largerSomewhere (recordAt rs (placeOf ps s q) .vector) w
 
--- the latest edit of site s that e has seen is such
-abbrev pub tornAt : List ℕ → List ℕ → Edit → ℕ → Bool
-tornAt rs ps e s = tornBy rs ps (e .vector) s (latestSeen e s)
+-- the vector of the edit s.q; zeros where q is 0
+unfoldable pub vectorBy : List ℕ → List ℕ → ℕ → ℕ → List ℕ
+vectorBy rs ps s q = cond (eqb q 0) (replicate mostSites 0) (recordAt rs (placeOf ps s q) .vector)
 
-unfoldable pub tornByLatest : List ℕ → List ℕ → Edit → Bool
-tornByLatest rs ps e = some mostSites (tornAt rs ps e)
+-- what the author of an edit of site s with the vector w had seen with his edit before it
+abbrev pub seenByLast : List ℕ → List ℕ → List ℕ → Site → List ℕ
+seenByLast rs ps w s = vectorBy rs ps (s .0) (getD (seenBefore w s) (s .0) 0)
+
+-- that edit has an entry larger than w's, or the latest edit of a site has that this one has seen and that one had not
+unfoldable pub tornByNews : List ℕ → List ℕ → List ℕ → Site → Bool
+tornByNews rs ps w s =
+    largerSomewhere (seenByLast rs ps w s) w
+    || some mostSites (λ t. not (eqb (getD (seenBefore w s) t 0) (getD (seenByLast rs ps w s) t 0))
+    && tornBy rs ps w t (getD (seenBefore w s) t 0))
 
 -- the target was seen, is held, and is a Create
 unfoldable pub targetHeld : List ℕ → List ℕ → List ℕ → Edit → Bool
@@ -77,6 +82,10 @@ targetHeld counts rs ps e =
     && leb (e .tseq .0) (entryOf counts (e .tsite) .0)
     && isCreate (recordAt rs (placeOf ps (e .tsite .0) (e .tseq .0)))
 
+-- none of 1 to 3 applies
+unfoldable pub inTurnAgainst : ℕ → List ℕ → Edit → Bool
+inTurnAgainst sites counts e = not (unfit sites e || repeatedAgainst counts e || earlyAgainst counts e)
+
 -- none of 1 to 5 applies
 unfoldable pub passesAgainst : ℕ → List ℕ → List ℕ → List ℕ → Edit → Bool
 passesAgainst sites counts rs ps e =
@@ -84,7 +93,7 @@ passesAgainst sites counts rs ps e =
     (unfit sites e
     || repeatedAgainst counts e
     || earlyAgainst counts e
-    || tornByLatest rs ps e
+    || tornByNews rs ps (e .vector) (e .site)
     || isAimed e && not (targetHeld counts rs ps e))
 
 -- ---- the walk over the first n records: whether they pass, and then the counts and the index that they give

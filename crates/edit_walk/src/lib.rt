@@ -1,27 +1,27 @@
 // One walk that tests the records of a table: whether each passes answers 1 to 5 of document 01 after those before it,
 // with the counts of the edits and the index of their places that it keeps.
 use edit_history::RECORDS;
+use edit_record::AT_KIND;
+use edit_record::AT_SEQ;
 use edit_record::AT_SITE;
 use edit_record::AT_TARGET;
 use edit_record::AT_TARGET_SEQ;
-use edit_record::AT_VECTOR;
 use edit_record::CREATE;
-use edit_record::Edit;
 use edit_record::PLACE;
 use edit_record::SITES;
 use edit_record::Seq;
 use edit_record::Site;
 ghost use mathlib.Core.Path.{_≡_};
-ghost use Prim.Native.Nat.{_-_, _≤_, _<_};
+ghost use Prim.Native.Nat.{_+_, _-_, _*_, _≤_, _<_};
 ghost use lib.ListN.{length, getD};
 ghost use Rattle.math_lists.specs.NumbersBelow.{sum};
-ghost use Rattle.edit_record.specs.Layout.{mostSites, twoBytes};
+ghost use Rattle.edit_record.specs.Layout.{mostSites, twoBytes, recordLength, placeLength};
+ghost use Rattle.edit_record.specs.RecordBytes.{decodeOf};
 ghost use Rattle.edit_history.specs.EditsHeld.{mostRecords, recordAt, editsOf};
-ghost use Rattle.edit_history.specs.Answers2to5.{largerSomewhere};
 ghost use Rattle.edit_history.specs.SurveyForms.{Counted};
 ghost use Rattle.edit_walk.specs.WalkForms.{placesLength, slotOf, placeOf, countIn, Spaced};
-ghost use Rattle.edit_walk.specs.WalkForms.{seenBefore, tornBy, tornByLatest};
-ghost use Rattle.edit_walk.specs.WalkForms.{targetHeld, passesAgainst, WalkedOver};
+ghost use Rattle.edit_walk.specs.WalkForms.{seenBefore, vectorBy, tornBy, tornByNews};
+ghost use Rattle.edit_walk.specs.WalkForms.{targetHeld, inTurnAgainst, passesAgainst, WalkedOver};
 
 // The entries of an index of places: a start for each site, then the places of the edits, site after site. The edit s.q
 // has its place q entries past the start of s.
@@ -73,19 +73,24 @@ pub fn start_places(recs: &[u8], n: usize, places: &mut [u16])
     space_places(counts, places);
 }
 
-// The entry i of the index, and 0 past its end.
-fn entry_at(places: &[u16], i: usize) -> u16
-    ensures { λ r. ⌜ r ≡ getD (now (places .entry)) i 0 ⌝ }
-{
-    if i < places.len() { places[i] } else { 0 }
-}
-
 // Where the index has the place of the edit s.q.
 pub fn slot_of(places: &[u16], s: Site, q: Seq) -> usize
     ensures { λ r. ⌜ r ≡ slotOf (now (places .entry)) (s .0) (q .0) ⌝ }
 {
-    let start = entry_at(places, s.0 as usize);
+    let start = edit_record::entry_at(places, s.0 as usize);
     start as usize + q.0 as usize
+}
+
+// Where the index has the edit in place p of the records; that edit's bytes are read where they stand.
+pub fn spot(recs: &[u8], places: &[u16], p: usize) -> usize
+    requires { ⌜ p < mostRecords ⌝ }
+    ensures { λ r. ⌜ r ≡ slotOf (now (places .entry)) (recordAt (now (recs .entry)) p .site .0)
+        (recordAt (now (recs .entry)) p .seq .0) ⌝ }
+{
+    let at = p * PLACE;
+    let site = edit_record::byte_at(recs, at + AT_SITE);
+    let seq = edit_record::two_at(recs, at + AT_SEQ);
+    slot_of(places, Site(site), Seq(seq))
 }
 
 // The place of the edit s.q by the index.
@@ -93,10 +98,10 @@ pub fn place_at(places: &[u16], s: Site, q: Seq) -> u16
     ensures { λ r. ⌜ r ≡ placeOf (now (places .entry)) (s .0) (q .0) ⌝ }
 {
     let at = slot_of(places, s, q);
-    entry_at(places, at)
+    edit_record::entry_at(places, at)
 }
 
-// The place, by the index, of the target of the edit in place p; that edit's bytes are read where they stand.
+// The place, by the index, of the target of the edit in place p.
 pub fn target_place(recs: &[u8], places: &[u16], p: usize) -> u16
     requires { ⌜ p < twoBytes ⌝ }
     ensures { λ r. ⌜ r ≡ placeOf (now (places .entry)) (recordAt (now (recs .entry)) p .tsite .0)
@@ -127,24 +132,15 @@ fn seen_before(v: [u16; SITES], s: Site) -> [u16; SITES]
     w
 }
 
-// Whether the vector of the record in place p has an entry larger than w's. Where all of it is there, the entries are
-// read where they stand, with one test of the bound.
-fn is_larger_at(recs: &[u8], p: u16, w: [u16; SITES]) -> bool
-    ensures { λ r. ⌜ r ≡ largerSomewhere (recordAt (now (recs .entry)) p .vector) w ⌝ }
+// The vector of the edit s.q by the index; zeros where q is 0.
+fn vector_by(recs: &[u8], places: &[u16], s: Site, q: Seq) -> [u16; SITES]
+    ensures { λ r. ⌜ r ≡ vectorBy (now (recs .entry)) (now (places .entry)) (s .0) (q .0) ⌝ }
 {
-    let at = p as usize * PLACE + AT_VECTOR;
-    if recs.len() < at + 2 * SITES {
-        let a = edit_history::decode_at(recs, p as usize);
-        let v = a.vector;
-        return edit_history::is_larger_somewhere(v, w);
+    if q.0 == 0 {
+        return [0u16; SITES];
     }
-    let mut found = false;
-    let mut s: usize = 0;
-    while s < SITES {
-        found = found | (w[s] < edit_record::pair_at(recs, at + 2 * s));
-        s += 1;
-    }
-    found
+    let p = place_at(places, s, q);
+    edit_history::vector_at(recs, p as usize)
 }
 
 // Whether there is an edit s.q, and its vector has an entry larger than w's.
@@ -155,74 +151,115 @@ fn is_torn_at(recs: &[u8], places: &[u16], w: [u16; SITES], s: Site, q: Seq) -> 
         return false;
     }
     let p = place_at(places, s, q);
-    is_larger_at(recs, p, w)
+    let v = edit_history::vector_at(recs, p as usize);
+    edit_history::is_larger_somewhere(v, w)
 }
 
-// Whether answer 4 is given to the edit, by the latest edit of each site that it has seen.
-pub fn is_torn_by_latest(recs: &[u8], places: &[u16], e: Edit) -> bool
-    ensures { λ r. ⌜ r ≡ tornByLatest (now (recs .entry)) (now (places .entry)) e ⌝ }
+// Whether answer 4 is given to an edit of site s with the vector w: by its author's edit before it, and by the latest
+// edits of the other sites that it has seen and that one had not.
+pub fn is_torn_by_news(recs: &[u8], places: &[u16], w: [u16; SITES], s: Site) -> bool
+    ensures { λ r. ⌜ r ≡ tornByNews (now (recs .entry)) (now (places .entry)) w s ⌝ }
 {
-    let w = e.vector;
-    let seen = seen_before(w, e.site);
-    let mut found = false;
-    let mut s: u8 = 0;
-    while (s as usize) < SITES {
-        let q = seen[s as usize];
-        found = found | is_torn_at(recs, places, w, Site(s), Seq(q));
-        s += 1;
+    let seen = seen_before(w, s);
+    let last = edit_record::entry(seen, s);
+    let was = vector_by(recs, places, s, last);
+    let mut found = edit_history::is_larger_somewhere(was, w);
+    let mut t: u8 = 0;
+    while (t as usize) < SITES {
+        let q = seen[t as usize];
+        if q != was[t as usize] {
+            found = found | is_torn_at(recs, places, w, Site(t), Seq(q));
+        }
+        t += 1;
     }
     found
 }
 
-// Whether the edit's target was seen, is held, and is a Create.
-pub fn is_target_held(held: [u16; SITES], recs: &[u8], places: &[u16], e: Edit) -> bool
-    ensures { λ r. ⌜ r ≡ targetHeld held (now (recs .entry)) (now (places .entry)) e ⌝ }
+// Whether the target of the record at the front of rec, which is there whole, was seen, is held, and is a Create.
+pub fn is_target_held(held: &[u16], recs: &[u8], places: &[u16], rec: &[u8]) -> bool
+    requires { ⌜ recordLength ≤ length (now rec) ⌝ }
+    ensures { λ r. ⌜ r
+        ≡ targetHeld (now (held .entry)) (now (recs .entry)) (now (places .entry)) (decodeOf (now (rec .entry))) ⌝ }
 {
-    let w = e.vector;
-    let seen = edit_record::entry(w, e.tsite);
-    let have = edit_record::entry(held, e.tsite);
-    let p = place_at(places, e.tsite, e.tseq);
+    let site = rec[AT_TARGET];
+    let seq = edit_record::pair_at(rec, AT_TARGET_SEQ);
+    let seen = edit_record::own_entry(rec, site);
+    let have = edit_history::held_from(held, Site(site));
+    let p = place_at(places, Site(site), Seq(seq));
     let kind = edit_history::kind_at(recs, p as usize);
-    (0 < e.tseq.0) & (e.tseq.0 <= seen.0) & (e.tseq.0 <= have.0) & (kind == CREATE)
+    (0 < seq) & (seq <= seen) & (seq <= have) & (kind == CREATE)
 }
 
-// Whether none of answers 1 to 5 is given to the edit, by the counts and the index of the records before it. What costs
-// more is tested where the rest has passed.
-fn is_passing(sites: u8, held: [u16; SITES], recs: &[u8], places: &[u16], e: Edit) -> bool
-    ensures { λ r. ⌜ r ≡ passesAgainst sites held (now (recs .entry)) (now (places .entry)) e ⌝ }
+// Whether none of 1 to 3 is given to the record at the front of rec, which is there whole, by the counts of the records
+// before it.
+pub fn is_in_turn(sites: u8, held: &[u16], rec: &[u8]) -> bool
+    requires { ⌜ (recordLength ≤ length (now rec)) × (mostSites ≤ length (now held)) ⌝ }
+    ensures { λ r. ⌜ r ≡ inTurnAgainst sites (now (held .entry)) (decodeOf (now (rec .entry))) ⌝ }
 {
-    if edit_record::is_unfit(sites, e)
-        | edit_history::is_repeated(held, e)
-        | edit_history::is_early(held, e)
-    {
+    if edit_record::is_unfit(sites, rec) {
         return false;
     }
-    if is_torn_by_latest(recs, places, e) {
+    let v = edit_record::vector_of(rec);
+    let s = Site(rec[AT_SITE]);
+    let q = Seq(edit_record::pair_at(rec, AT_SEQ));
+    !(edit_history::is_repeated(held, s, q) | edit_history::is_early(held, v, s, q))
+}
+
+// Whether none of 1 to 5 is given to it, by the counts and the index of the records before it. What costs more is tested
+// where the rest has passed.
+fn is_passing(sites: u8, held: &[u16], recs: &[u8], places: &[u16], rec: &[u8]) -> bool
+    requires { ⌜ (recordLength ≤ length (now rec)) × (mostSites ≤ length (now held)) ⌝ }
+    ensures { λ r. ⌜ r
+        ≡ passesAgainst sites (now (held .entry)) (now (recs .entry)) (now (places .entry))
+        (decodeOf (now (rec .entry))) ⌝ }
+{
+    if !is_in_turn(sites, held, rec) {
         return false;
     }
-    if edit_record::is_aimed(e) {
-        return is_target_held(held, recs, places, e);
+    let v = edit_record::vector_of(rec);
+    if is_torn_by_news(recs, places, v, Site(rec[AT_SITE])) {
+        return false;
+    }
+    if edit_record::is_aimed_kind(rec[AT_KIND]) {
+        return is_target_held(held, recs, places, rec);
     }
     true
 }
 
+// The same of the record in place p.
+fn is_passing_at(sites: u8, held: &[u16], recs: &[u8], places: &[u16], p: usize) -> bool
+    requires { ⌜ (p < mostRecords)
+        × (p * placeLength + placeLength ≤ length (now recs))
+        × (mostSites ≤ length (now held)) ⌝ }
+    ensures { λ r. ⌜ r
+        ≡ passesAgainst sites (now (held .entry)) (now (recs .entry)) (now (places .entry))
+        (recordAt (now (recs .entry)) p) ⌝ }
+{
+    let at = p * PLACE;
+    is_passing(sites, held, recs, places, &recs[at..])
+}
+
 // The first n records in turn: whether each passes 1 to 5 after those before it, and then their counts and index.
 pub fn walk(sites: u8, recs: &[u8], n: usize, places: &mut [u16]) -> Walked
-    requires { ⌜ (sites ≤ mostSites) × (n ≤ mostRecords) × (length (now places) ≡ placesLength) ⌝ }
+    requires { ⌜ (sites ≤ mostSites)
+        × (n ≤ mostRecords)
+        × (n * placeLength ≤ length (now recs))
+        × (length (now places) ≡ placesLength) ⌝ }
     ensures { λ r. ⌜ WalkedOver sites (now (recs .entry)) n r (now (places .exit)) ⌝ }
 {
     start_places(recs, n, places);
     let mut held = [0u16; SITES];
     let mut i: usize = 0;
     while i < n {
-        let e = edit_history::decode_at(recs, i);
-        if !is_passing(sites, held, recs, places, e) {
+        if !is_passing_at(sites, &held, recs, places, i) {
             return Walked { ok: false, held };
         }
-        let at = slot_of(places, e.site, e.seq);
+        let at = spot(recs, places, i);
         places[at] = i as u16;
-        let next = edit_history::bumped(held, e.site);
-        held = next;
+        let own = edit_record::byte_at(recs, i * PLACE + AT_SITE) as usize;
+        if own < SITES {
+            held[own] = held[own] + 1;
+        }
         i += 1;
     }
     Walked { ok: true, held }

@@ -2,7 +2,7 @@
 -- told of a Set by those before it. No one need believe them: laws in proofs/ tie them to `Conflict` of `edit_causal`
 -- and to `Answer16` of `edit_history`. Assumes nothing.
 use mathlib.Core.Path.{_≡_}
-use mathlib.Core.Bool.{Bool, false, not, _&&_, cond}
+use mathlib.Core.Bool.{Bool, true, false, not, _&&_, cond}
 use mathlib.Core.List.{List, [], _∷_, _++_, map}
 use Prim.Native.Nat.{ℕ, suc, _+_, _-_, _^_, _<_}
 use lib.Bits.{bitAnd, bitOr}
@@ -91,6 +91,14 @@ pub record JudgedOf (ms : List Edit) (e : Edit) (j : Judged) : Type 0 where
       Proper ms → Lawful (boxOn (ms ++ (e ∷ []))) (suc (length ms)) → j .nameless ≡ namelessAmong ms e
   pub conflicts :
       Proper ms → Lawful (boxOn (ms ++ (e ∷ []))) (suc (length ms)) → j .nameless ≡ false →
+      j .conflicts ≡ conflictsWith e ms
+
+-- the same, but that the conflicts are asked for only where `found` holds
+pub record JudgedWhere (found : Bool) (ms : List Edit) (e : Edit) (j : Judged) : Type 0 where
+  pub nameless :
+      Proper ms → Lawful (boxOn (ms ++ (e ∷ []))) (suc (length ms)) → j .nameless ≡ namelessAmong ms e
+  pub conflicts :
+      found ≡ true → Proper ms → Lawful (boxOn (ms ++ (e ∷ []))) (suc (length ms)) → j .nameless ≡ false →
       j .conflicts ≡ conflictsWith e ms
 
 -- 16 is given to none of the Sets ms, each after those before it

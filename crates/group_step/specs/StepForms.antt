@@ -1,9 +1,12 @@
--- The step in the order in which the code makes it. It is `step` of the crate `math_maximal` on a row of groups; the
--- law `code-step` shows that, so nothing here has to be believed. Assumes nothing.
-use mathlib.Core.Bool.{Bool, not}
+-- The step in the order in which the code makes it, and what it is on a row where no group conflicts with the new Set.
+-- Both are `step` of the crate `math_maximal` on a row of groups; the laws `code-step` and `apart-step` show that, so
+-- nothing here has to be believed. Assumes nothing.
+use mathlib.Core.Path.{_≡_}
+use mathlib.Core.Bool.{Bool, true, false, not}
 use mathlib.Core.List.{List, _++_, map}
-use Prim.Native.Nat.{ℕ}
-use Rattle.math_lists.specs.SortedLists.{any, filter, ascending}
+use Prim.Native.Nat.{ℕ, _^_}
+use lib.Bits.{bitOr}
+use Rattle.math_lists.specs.SortedLists.{any, elem, filter, ascending}
 use Rattle.math_maximal.specs.Step.{compatible, candidate, partOfLarger}
 
 -- the groups that conflict with the new Set stay
@@ -26,3 +29,20 @@ largest xs = filter (undominated xs) xs
 
 unfoldable pub codeStep : ℕ → ℕ → List ℕ → List ℕ
 codeStep m k gs = staying m gs ++ largest (candidates m k gs)
+
+-- ---- a row where no group conflicts with the new Set
+
+-- no number of the row is part of a larger one of the row
+abbrev pub Apart : List ℕ → Type 0
+Apart gs = (x y : ℕ) → elem x gs ≡ true → elem y gs ≡ true → partOfLarger x y ≡ false
+
+-- none of them conflicts with the new Set
+abbrev pub allCompatible : ℕ → List ℕ → Bool
+allCompatible m gs = not (any (conflicting m) gs)
+
+-- each gains the new Set
+abbrev pub gaining : ℕ → ℕ → ℕ
+gaining k g = bitOr g (2 ^ k)
+
+unfoldable pub gained : ℕ → List ℕ → List ℕ
+gained k gs = map (gaining k) gs

@@ -1,6 +1,6 @@
--- The groups of an object's Sets, ms, and of more that arrive after them: the Sets keep their numbers, each group lies
--- in a later one, two groups never lie in one later group, the groups never become fewer, and the step gives those of
--- one Set more. Assumes, where it is said, that no Set conflicts with itself.
+-- The groups of an object's Sets, ms, and of more that arrive after them: no group is part of another, the Sets keep
+-- their numbers, each group lies in a later one, two groups never lie in one later group, the groups never become
+-- fewer, and the step gives those of one Set more. Assumes, where it is said, that no Set conflicts with itself.
 use mathlib.Core.Path.{_≡_, sym}
 use mathlib.Core.Bool.{true, false}
 use mathlib.Core.List.{List, [], _∷_, _++_}
@@ -15,10 +15,10 @@ use Rattle.edit_causal.specs.ConflictForms.{NoneItself}
 use Rattle.edit_causal.proofs.ConflictsAmongSets.{conflicts-turned, conflicts-kept, free-plainly}
 use Rattle.math_maximal.specs.MaximalSets.{_∈_, _⊆_, Maximal}
 use Rattle.math_maximal.specs.Groups.{bit, below, every, groups}
-use Rattle.math_maximal.specs.Step.{step}
+use Rattle.math_maximal.specs.Step.{partOfLarger, step}
 use Rattle.math_maximal.proofs.Masks.{mask-bit}
 use Rattle.math_maximal.proofs.Groups.{below-at, below-on, groups-at, groups-agree}
-use Rattle.math_maximal.proofs.MoreElements.{kept, no-more-groups, never-in-one}
+use Rattle.math_maximal.proofs.MoreElements.{kept, no-more-groups, never-in-one, never-part}
 use Rattle.math_maximal.proofs.StepKeepsMaximal.{step-keeps-maximal}
 use Rattle.group_true.specs.TrueGroups.{groupsOf}
 
@@ -37,6 +37,14 @@ module _ (ms : List Edit) (g : ℕ) (e : elem g (groupsOf ms) ≡ true) where
   pub members-free :
       (i j : ℕ) → i ∈ bit g → j ∈ bit g → doConflict (getD ms i noEdit) (getD ms j noEdit) ≡ false
   members-free i j b x = free-plainly ms i j (is-maximal .1 .isFree .free i b j x)
+
+-- ---- two groups
+
+-- none is part of a larger one
+pub none-part :
+    (ms : List Edit) (g h : ℕ) → elem g (groupsOf ms) ≡ true → elem h (groupsOf ms) ≡ true → partOfLarger g h ≡ false
+unfolding groupsOf
+none-part ms = never-part (conflictsIn ms) (length ms) every
 
 -- ---- more arrive
 

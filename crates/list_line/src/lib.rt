@@ -1,7 +1,6 @@
-// The line of a version. The Sets of the object are given by their tags and their stamps, in the order of arrival: bit
-// i of a group stands for the i-th Set.
+// The line of a version. The Sets of the object are given twice: those in dispute by their names, and the stamps of all
+// in the order of arrival, where bit i of a group stands for the i-th Set.
 use edit_causal::shown;
-use edit_record::Edit;
 use edit_record::KEYS;
 use group_step::SETS;
 use list_text::DOTTED;
@@ -77,16 +76,17 @@ fn put_names(out: &mut [u8], n: usize, names: &[u64], k: usize) -> usize
     w
 }
 
-// Puts a space and the identifier of the group g, by the t tags of the object's Sets.
-fn put_identifier(out: &mut [u8], n: usize, tags: &[u64], t: usize, g: u64) -> usize
-    requires { ⌜ (t ≤ length (now tags)) × (t ≤ mostSets) × (n + identifierLength ≤ length (now out)) ⌝ }
+// Puts a space and the identifier of the group g, by the d Sets in dispute.
+fn put_identifier(out: &mut [u8], n: usize, disputes: &[u64], d: usize, g: u64) -> usize
+    requires { ⌜ (d ≤ length (now disputes)) × (d ≤ mostSets) × (n + identifierLength ≤ length (now out)) ⌝ }
     ensures { λ r.
         ⌜ (take r (now (out .exit))
-        ≡ take n (now (out .entry)) ++ (space ∷ identifierText (identifierBy (take t (now (tags .entry))) g)))
+        ≡ take n (now (out .entry)) ++ (space ∷ identifierText (identifierBy (take d (now (disputes .entry))) g)))
         × (r ≤ n + identifierLength) ⌝ }
 {
-    let mut names = [0u64; SETS];
-    let k = identifier(tags, t, g, &mut names);
+    // what work space holds at first does not matter; zeros would be set by memset (docs/DECISIONS.md, 24)
+    let mut names = [1u64; SETS];
+    let k = identifier(disputes, d, g, &mut names);
     let w = put_byte(out, n, SPACE);
     put_names(out, w, &names, k)
 }
@@ -121,19 +121,30 @@ fn put_settings(out: &mut [u8], n: usize, stamps: &[u64], t: usize, g: u64) -> u
     w
 }
 
-// Puts at the front the line of the version g of the object that c created, by the t tags and stamps of the object's
-// Sets; says how many bytes it has.
-pub fn put_line(out: &mut [u8], c: Edit, tags: &[u64], stamps: &[u64], t: usize, g: u64) -> usize
-    requires { ⌜ (t ≤ length (now tags))
+// Puts at the front the line of the version g of the object whose Create is site.seq, by the d Sets in dispute and the t
+// stamps of the object's Sets; says how many bytes it has.
+pub fn put_line(
+    out: &mut [u8],
+    site: u8,
+    seq: u16,
+    disputes: &[u64],
+    d: usize,
+    stamps: &[u64],
+    t: usize,
+    g: u64,
+) -> usize
+    requires { ⌜ (d ≤ length (now disputes))
+        × (d ≤ mostSets)
         × (t ≤ length (now stamps))
         × (t ≤ mostSets)
         × (lineLength ≤ length (now out)) ⌝ }
     ensures { λ r.
-        ⌜ (take r (now (out .exit)) ≡ lineBy c (take t (now (tags .entry))) (take t (now (stamps .entry))) g)
+        ⌜ (take r (now (out .exit))
+        ≡ lineBy site seq (take d (now (disputes .entry))) (take t (now (stamps .entry))) g)
         × (r ≤ lineLength) ⌝ }
 {
-    let a = put_dotted(out, 0, c.site.0, c.seq.0);
-    let b = put_identifier(out, a, tags, t, g);
-    let d = put_settings(out, b, stamps, t, g);
-    put_byte(out, d, NEWLINE)
+    let a = put_dotted(out, 0, site, seq);
+    let b = put_identifier(out, a, disputes, d, g);
+    let w = put_settings(out, b, stamps, t, g);
+    put_byte(out, w, NEWLINE)
 }

@@ -2,7 +2,7 @@
 use mathlib.Core.Path.{_≡_, refl, sym, ap, _∙_, fun-ext}
 use mathlib.Core.Bool.{Bool, true, false}
 use mathlib.Core.List.{List, [], _∷_, map}
-use Prim.Native.Nat.{ℕ, zero, suc, _-_, _<_}
+use Prim.Native.Nat.{ℕ, zero, suc, _-_, _≤_, _<_}
 use native.Mathlib.Numerals.{add-one}
 use native.Mathlib.Omega.{arith}
 use native.Mathlib.Decide.{decLt}
@@ -17,6 +17,7 @@ use Rattle.math_lists.proofs.NumbersBelow.{keep-at}
 use Rattle.math_lists.proofs.Elements.{any-off}
 use Rattle.math_lists.proofs.ByPlaces.{any-place-on}
 use Rattle.math_lists.proofs.PutInOrder.{any-gathered, gathered-length}
+use Rattle.group_step.specs.GroupRows.{mostSets, mostGroups}
 use Rattle.table_drawing.specs.Tables.{Tables}
 use Rattle.table_soundness.proofs.SoundFacts.{Sound}
 use Rattle.table_arrival.specs.Answers6and7.{rowOf}
@@ -27,51 +28,56 @@ use Rattle.list_line.proofs.LineByStamps.{line-by}
 use Rattle.list_objects.specs.declared.Gathered.{Gathered}
 use Rattle.list_objects.specs.Objects.{createOf, setsFor, objectsOf}
 use Rattle.list_objects.specs.ObjectForms.{goesFirst, GatheredOf}
+use Rattle.list_objects.proofs.GatheredIs.{names-differ}
 use Rattle.list_objects.proofs.KeysByTops.{in-order}
 use Rattle.list_lines.specs.List.{linesFor}
 use Rattle.list_lines.specs.LinesForms.{Ready, lineIn}
 
 -- ---- what is gathered of an object
 
-module _ (t : Tables) (o : ℕ) (g : Gathered) (f : GatheredOf t o g) where
-  pub gathered-ready : Ready g
+module _ (t : Tables) (s : Sound t) (o : ℕ) (low : o < t .counters .objects) (g : Gathered) (ds ss vs : List ℕ)
+    (f : GatheredOf t o g ds ss vs) (disputes-long : mostSets ≤ length ds) (stamps-long : mostSets ≤ length ss)
+    (versions-long : mostGroups ≤ length vs) where
+  pub gathered-ready : Ready g ds ss vs
   gathered-ready =
       record {
         few = f .few-sets;
-        tags-long = f .tags-long;
-        stamps-long = f .stamps-long;
-        versions-long = f .versions-long;
+        disputed = f .few-disputes;
+        disputes-long = disputes-long;
+        stamps-long = stamps-long;
+        versions-long = versions-long;
       }
 
-  line-is : (v : ℕ) → lineIn g v ≡ versionLine (createOf t o) (setsFor t o) v
+  line-is : (v : ℕ) → lineIn g ds ss v ≡ versionLine (createOf t o) (setsFor t o) v
   line-is v =
-      let stamps = take (g .sets) (g .stamps) in
+      let stamps = take (g .sets) ss in
       let long : length stamps ≡ length (setsFor t o)
-      = length-take-le (g .sets) (g .stamps) (omega (arith, f .few-sets, f .stamps-long)) ∙ f .sets in
-      rw (f .create, f .tags) (line-by (setsFor t o) stamps (f .stamps) v (createOf t o) long)
+      = length-take-le (g .sets) ss (omega (arith, f .few-sets)) ∙ f .sets in
+      rw (f .site, f .seq, f .disputes)
+      (line-by (setsFor t o) stamps (f .stamps) v (createOf t o) (names-differ t s o low)
+      (omega (arith, f .sets, f .few-sets)) long)
 
-  pub gathered-lines : map (lineIn g) (take (g .count) (g .versions)) ≡ linesFor t o
+  pub gathered-lines : map (lineIn g ds ss) (take (g .count) vs) ≡ linesFor t o
   unfolding linesFor objectLines
   gathered-lines =
-      ap (map (lineIn g)) (f .versions)
+      ap (map (lineIn g ds ss)) (f .versions)
       ∙ ap (λ (h : ℕ → List ℕ). map h (versionsOf (setsFor t o) (rowOf t o))) (fun-ext line-is)
 
   pub gathered-count : length (linesFor t o) ≡ g .count
   gathered-count =
       ap length (sym gathered-lines)
-      ∙ length-map (take (g .count) (g .versions)) (lineIn g)
-      ∙ length-take-le (g .count) (g .versions) (omega (arith, f .versions-long, f .few-groups))
+      ∙ length-map (take (g .count) vs) (lineIn g ds ss)
+      ∙ length-take-le (g .count) vs (omega (arith, f .few-groups))
 
   pub gathered-line :
-      (v : ℕ) → v < length (linesFor t o) →
-      lineIn g (getD (g .versions) v 0) ≡ getD (linesFor t o) v []
+      (v : ℕ) → v < length (linesFor t o) → lineIn g ds ss (getD vs v 0) ≡ getD (linesFor t o) v []
   gathered-line v l =
       let low : v < g .count = omega (arith, gathered-count) in
-      let front = take (g .count) (g .versions) in
-      let long = length-take-le (g .count) (g .versions) (omega (arith, f .versions-long, f .few-groups)) in
+      let front = take (g .count) vs in
+      let long = length-take-le (g .count) vs (omega (arith, f .few-groups)) in
       sym (ap (λ (ls : List (List ℕ)). getD ls v []) (sym gathered-lines)
-      ∙ map-place (lineIn g) front v 0 [] (omega (arith, long))
-      ∙ ap (lineIn g) (getD-take (g .count) (g .versions) v 0 low))
+      ∙ map-place (lineIn g ds ss) front v 0 [] (omega (arith, long))
+      ∙ ap (lineIn g ds ss) (getD-take (g .count) vs v 0 low))
 
 -- ---- the objects in their order are the numbers below their count, each once
 

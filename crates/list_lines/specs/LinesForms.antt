@@ -21,15 +21,16 @@ use Rattle.list_lines.specs.List.{linesFor}
 
 -- ---- the lines of what is gathered
 
--- the arrays are as long as they must be
-pub record Ready (g : Gathered) : Type 0 where
+-- the arrays are as long as they must be: the Sets in dispute, the stamps and the versions
+pub record Ready (g : Gathered) (ds ss vs : List ℕ) : Type 0 where
   pub few : g .sets ≤ mostSets
-  pub tags-long : length (g .tags) ≡ mostSets
-  pub stamps-long : length (g .stamps) ≡ mostSets
-  pub versions-long : length (g .versions) ≡ mostGroups
+  pub disputed : g .disputes ≤ mostSets
+  pub disputes-long : mostSets ≤ length ds
+  pub stamps-long : mostSets ≤ length ss
+  pub versions-long : mostGroups ≤ length vs
 
-abbrev pub lineIn : Gathered → ℕ → List ℕ
-lineIn g v = lineBy (g .create) (take (g .sets) (g .tags)) (take (g .sets) (g .stamps)) v
+abbrev pub lineIn : Gathered → List ℕ → List ℕ → ℕ → List ℕ
+lineIn g ds ss v = lineBy (g .site) (g .seq) (take (g .disputes) ds) (take (g .sets) ss) v
 
 -- line 0, from the counters and the objects as they are lent
 abbrev pub headOf : Counters → List ℕ → List ℕ

@@ -1,4 +1,5 @@
 // The lines of the printed list by their numbers: line 0, and the line of each version.
+use group_step::GROUPS;
 use group_step::OBJECTS;
 use group_step::SETS;
 use list_line::LINE;
@@ -7,7 +8,6 @@ use list_objects::Gathered;
 use list_objects::gather;
 use list_objects::order::sort_objects;
 use list_objects::put_sets;
-use list_sort::ROWS;
 use table_drawing::Answer;
 use table_drawing::Counters;
 use table_drawing::ENTRY;
@@ -103,15 +103,32 @@ fn find(c: Counters, records: &[u8], objects: &[u16], groups: &[u64], k: usize) 
 }
 
 // Puts the line of the v-th version at the front of out.
-fn put_version(out: &mut [u8], g: Gathered, v: usize) -> usize
-    requires { ⌜ Ready g × (v < mostGroups) × (lineLength ≤ length (now out)) ⌝ }
-    ensures { λ r. ⌜ (take r (now (out .exit)) ≡ lineIn g (getD (g .versions) v 0)) × (r ≤ lineLength) ⌝ }
+fn put_version(
+    out: &mut [u8],
+    g: Gathered,
+    disputes: &[u64],
+    stamps: &[u64],
+    versions: &[u64],
+    v: usize,
+) -> usize
+    requires { ⌜ Ready g (now disputes) (now stamps) (now versions)
+        × (v < mostGroups)
+        × (lineLength ≤ length (now out)) ⌝ }
+    ensures { λ r.
+        ⌜ (take r (now (out .exit))
+        ≡ lineIn g (now (disputes .entry)) (now (stamps .entry)) (getD (now (versions .entry)) v 0))
+        × (r ≤ lineLength) ⌝ }
 {
-    let tags = g.tags;
-    let stamps = g.stamps;
-    let versions = g.versions;
-    let create = g.create;
-    put_line(out, create, &tags, &stamps, g.sets, versions[v])
+    put_line(
+        out,
+        g.site,
+        g.seq,
+        disputes,
+        g.disputes,
+        stamps,
+        g.sets,
+        versions[v],
+    )
 }
 
 // Puts the line of a version of object o at the front of out.
@@ -132,12 +149,24 @@ fn put_found(
         ≡ getD (linesFor (tablesOf c (now (records .entry)) (now (objects .entry)) (now (groups .entry))) o) v [])
         × (r ≤ lineLength) ⌝ }
 {
-    let mut places = [0u16; SETS];
-    put_sets(&mut places, c, records, objects, groups, o);
     // what work space holds at first does not matter; zeros would be set by memset (docs/DECISIONS.md, 24)
-    let mut rows = [1u64; ROWS];
-    let g = gather(&mut rows, c, records, objects, groups, &places, o);
-    put_version(out, g, v)
+    let mut places = [1u16; SETS];
+    put_sets(&mut places, c, records, objects, groups, o);
+    let mut disputes = [1u64; SETS];
+    let mut stamps = [1u64; SETS];
+    let mut versions = [1u64; GROUPS];
+    let g = gather(
+        &mut disputes,
+        &mut stamps,
+        &mut versions,
+        c,
+        records,
+        objects,
+        groups,
+        &places,
+        o,
+    );
+    put_version(out, g, &disputes, &stamps, &versions, v)
 }
 
 // Puts line k at the front of out, if there is one.

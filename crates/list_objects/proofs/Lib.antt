@@ -2,4 +2,4 @@ pub mod LargestKey
 pub mod KeysPut
 pub mod KeysByTops
 pub mod GatheredIs
-pub mod SetsByIndex
+pub mod SetsByChain

@@ -2,13 +2,14 @@
 use super::object_lines::put_versions;
 use edit_history::RECORDS;
 use edit_walk::PLACES;
+use group_step::GROUPS;
 use group_step::OBJECTS;
 use group_step::SETS;
 use list_line::LINE;
 use list_lines::head;
 use list_objects::gather;
 use list_objects::order::sort_objects;
-use list_sort::ROWS;
+use list_objects::put_chained;
 use table_drawing::Counters;
 use table_index::MEMBERS;
 use table_output::copy_in;
@@ -18,9 +19,10 @@ ghost use Prim.Native.Nat.{_+_, _*_, _≤_, _<_};
 ghost use lib.ListN.{length};
 ghost use Rattle.group_step.specs.GroupRows.{mostObjects, mostSets, mostGroups};
 ghost use Rattle.table_drawing.specs.Tables.{tablesOf};
+ghost use Rattle.edit_walk.specs.WalkForms.{Indexed};
 ghost use Rattle.table_soundness.specs.Sound.{sound};
+ghost use Rattle.table_sets.specs.ChainForms.{Chained};
 ghost use Rattle.list_line.specs.Line.{lineLength};
-ghost use Rattle.list_objects.specs.ObjectForms.{MembersOf};
 ghost use Rattle.list_lines.specs.List.{linesFor};
 ghost use Rattle.list_print.specs.Printing.{joined, listOf, listLength};
 ghost use Rattle.list_lines.specs.LinesForms.{headOf};
@@ -39,69 +41,126 @@ fn put_head(out: &mut [u8], line: &mut [u8], n: usize, c: Counters, objects: &[u
     n + k
 }
 
-// Puts the lines of object o behind the first n bytes; line and rows are work space, and members has the places of the
-// Sets of each object: all are made once.
+// Puts the lines of object o behind the first n bytes; what is lent besides is work space, which is made once, and the
+// chain of the Sets of each object.
 fn put_object(
     out: &mut [u8],
     line: &mut [u8],
-    rows: &mut [u64],
+    disputes: &mut [u64],
+    stamps: &mut [u64],
+    versions: &mut [u64],
     n: usize,
     c: Counters,
     records: &[u8],
     objects: &[u16],
     groups: &[u64],
-    members: &[u16],
+    chain: &[u16],
     o: usize,
 ) -> usize
     requires { ⌜ (sound (tablesOf c (now records) (now objects) (now groups)) ≡ true)
-        × MembersOf (tablesOf c (now records) (now objects) (now groups)) (now members)
+        × Chained (now records) (c .records) (now chain)
         × (o < c .objects)
         × (n + mostGroups * lineLength ≤ length (now out))
-        × (length (now rows) ≡ mostGroups * mostSets)
-        × (lineLength ≤ length (now line)) ⌝ }
+        × (lineLength ≤ length (now line))
+        × (mostSets ≤ length (now disputes))
+        × (mostSets ≤ length (now stamps))
+        × (mostGroups ≤ length (now versions)) ⌝ }
     ensures { λ r. ⌜ Behind (now (out .entry)) n
         (joined (linesFor (tablesOf c (now (records .entry)) (now (objects .entry)) (now (groups .entry))) o))
         (mostGroups * lineLength) (now (out .exit)) r ⌝ }
 {
-    let g = gather(rows, c, records, objects, groups, &members[o * SETS..], o);
-    put_versions(out, line, n, g)
+    // what work space holds at first does not matter; zeros would be set by memset (docs/DECISIONS.md, 24)
+    let mut places = [1u16; SETS];
+    put_chained(&mut places, c, records, objects, groups, chain, o);
+    let g = gather(
+        disputes,
+        stamps,
+        versions,
+        c,
+        records,
+        objects,
+        groups,
+        &places,
+        o,
+    );
+    put_versions(out, line, n, g, disputes, stamps, versions)
 }
 
 // Puts the lines of all objects behind the first n bytes, in their order.
 fn put_objects(
     out: &mut [u8],
     line: &mut [u8],
-    rows: &mut [u64],
     n: usize,
     c: Counters,
     records: &[u8],
     objects: &[u16],
     groups: &[u64],
-    members: &[u16],
+    chain: &[u16],
 ) -> usize
     requires { ⌜ (sound (tablesOf c (now records) (now objects) (now groups)) ≡ true)
-        × MembersOf (tablesOf c (now records) (now objects) (now groups)) (now members)
+        × Chained (now records) (c .records) (now chain)
         × (n + mostObjects * (mostGroups * lineLength) ≤ length (now out))
-        × (length (now rows) ≡ mostGroups * mostSets)
         × (lineLength ≤ length (now line)) ⌝ }
     ensures { λ r. ⌜ Behind (now (out .entry)) n
         (allLines (tablesOf c (now (records .entry)) (now (objects .entry)) (now (groups .entry))))
         (mostObjects * (mostGroups * lineLength)) (now (out .exit)) r ⌝ }
 {
     let m = c.objects as usize;
-    let mut order = [0u16; OBJECTS];
+    // what work space holds at first does not matter; zeros would be set by memset (docs/DECISIONS.md, 24)
+    let mut order = [1u16; OBJECTS];
     sort_objects(&mut order, records, c.records as usize, objects, m);
+    let mut disputes = [1u64; SETS];
+    let mut stamps = [1u64; SETS];
+    let mut versions = [1u64; GROUPS];
     let mut w = n;
     let mut i: usize = 0;
     while i < m {
         let o = order[i] as usize;
-        w = put_object(out, line, rows, w, c, records, objects, groups, members, o);
+        w = put_object(
+            out,
+            line,
+            &mut disputes,
+            &mut stamps,
+            &mut versions,
+            w,
+            c,
+            records,
+            objects,
+            groups,
+            chain,
+            o,
+        );
         i += 1;
     }
     w
 }
 
-// Puts all lines behind the first n bytes.
+// Puts all lines behind the first n bytes, by the index of the records' places.
+pub fn put_list_by(
+    out: &mut [u8],
+    n: usize,
+    c: Counters,
+    records: &[u8],
+    objects: &[u16],
+    groups: &[u64],
+    places: &[u16],
+) -> usize
+    requires { ⌜ (sound (tablesOf c (now records) (now objects) (now groups)) ≡ true)
+        × Indexed (now records) (c .records) (now places)
+        × (n + listLength ≤ length (now out)) ⌝ }
+    ensures { λ r. ⌜ Behind (now (out .entry)) n
+        (listOf (tablesOf c (now (records .entry)) (now (objects .entry)) (now (groups .entry))))
+        listLength (now (out .exit)) r ⌝ }
+{
+    let mut line = [0u8; LINE];
+    let w = put_head(out, &mut line, n, c, objects);
+    // what work space holds at first does not matter; zeros would be set by memset (docs/DECISIONS.md, 24)
+    let mut chain = [1u16; RECORDS];
+    table_sets::chain_sets(records, c.records as usize, places, &mut chain);
+    put_objects(out, &mut line, w, c, records, objects, groups, &chain)
+}
+
+// The same, and the index is made first.
 pub fn put_list(
     out: &mut [u8],
     n: usize,
@@ -116,10 +175,7 @@ pub fn put_list(
         (listOf (tablesOf c (now (records .entry)) (now (objects .entry)) (now (groups .entry))))
         listLength (now (out .exit)) r ⌝ }
 {
-    let mut line = [0u8; LINE];
-    let w = put_head(out, &mut line, n, c, objects);
     // what work space holds at first does not matter; zeros would be set by memset (docs/DECISIONS.md, 24)
-    let mut rows = [1u64; ROWS];
     let mut places = [1u16; PLACES];
     let mut numbers = [1u16; RECORDS];
     let mut members = [1u16; MEMBERS];
@@ -133,15 +189,5 @@ pub fn put_list(
         &mut counts,
         &mut members,
     );
-    put_objects(
-        out,
-        &mut line,
-        &mut rows,
-        w,
-        c,
-        records,
-        objects,
-        groups,
-        &members,
-    )
+    put_list_by(out, n, c, records, objects, groups, &places)
 }

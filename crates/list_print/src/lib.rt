@@ -2,7 +2,8 @@
 pub mod all_lines;
 mod object_lines;
 
-use all_lines::put_list;
+use all_lines::put_list_by;
+use edit_walk::PLACES;
 use group_step::GROUPS;
 use group_step::OBJECTS;
 use list_line::LINE;
@@ -33,7 +34,9 @@ pub fn print_list(
         ≡ listingOf (tablesOf c (now (records .entry)) (now (objects .entry)) (now (groups .entry)))
         (now (out .entry)) start ⌝ }
 {
-    if !table_soundness::is_sound(c, records, objects, groups) {
+    // what work space holds at first does not matter; zeros would be set by memset (docs/DECISIONS.md, 24)
+    let mut places = [1u16; PLACES];
+    if !table_soundness::is_sound_with(c, records, objects, groups, &mut places) {
         return Written {
             answer: Answer::Unsound,
             bytes: 0,
@@ -45,7 +48,7 @@ pub fn print_list(
             bytes: 0,
         };
     }
-    let end = put_list(out, start, c, records, objects, groups);
+    let end = put_list_by(out, start, c, records, objects, groups, &places);
     Written {
         answer: Answer::Done,
         bytes: end - start,

@@ -30,7 +30,7 @@ use Rattle.list_version.specs.Identifier.{identifierOf}
 use Rattle.list_version.specs.Members.{membersOf}
 use Rattle.list_version.proofs.MembersByTest.{filter-keep}
 
-abbrev nameAt : List Edit → ℕ → ℕ
+abbrev pub nameAt : List Edit → ℕ → ℕ
 nameAt ms i = nameOf (getD ms i noEdit)
 
 -- different Sets have different names
@@ -68,12 +68,12 @@ module _ (ms : List Edit) (g : ℕ) where
       ap (elem x) identifier-places ∙ any-ascending (eqb x) (map (nameAt ms) (disputedOf ms g))
       ∙ any-map (eqb x) (nameAt ms) (disputedOf ms g)
 
-  name-on : (i : ℕ) → elem i (disputedOf ms g) ≡ true → elem (nameAt ms i) (identifierOf ms g) ≡ true
+  pub name-on : (i : ℕ) → elem i (disputedOf ms g) ≡ true → elem (nameAt ms i) (identifierOf ms g) ≡ true
   name-on i e =
       named (nameAt ms i)
       ∙ any-on (λ j. eqb (nameAt ms i) (nameAt ms j)) (disputedOf ms g) i e (eqb-self (nameAt ms i))
 
-  name-at :
+  pub name-at :
       (x : ℕ) → elem x (identifierOf ms g) ≡ true →
       (i : ℕ) × (elem i (disputedOf ms g) ≡ true) × (x ≡ nameAt ms i)
   name-at x h =

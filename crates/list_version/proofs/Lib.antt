@@ -1,11 +1,11 @@
+pub mod ValueInPlace
 pub mod LoopTurns
 pub mod MembersByTest
 pub mod LastMember
 pub mod ValuesByStamps
-pub mod IdentifiersByTags
-pub mod IdentifierRows
 pub mod Names
 pub mod IdentifiersGrow
+pub mod IdentifiersByDisputes
 pub mod NeverShared
 pub mod ListsCompared
 pub mod VersionsSorted

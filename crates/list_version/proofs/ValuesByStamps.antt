@@ -206,3 +206,11 @@ module _
 pub none-largest : (stamps : List ℕ) (g k : ℕ) → 0 ≡ largestBelow stamps g k 0
 unfolding largestBelow
 none-largest stamps g k = refl
+
+-- ---- the stamp of an edit whose fields are known
+
+pub stamp-is :
+    (e : Edit) (key sum site value : ℕ) → key ≡ e .key → sum ≡ vectorSum (e .vector) → site ≡ e .site .0 →
+    value ≡ e .value →
+    key * placings + ((sum * siteNumbers + site) * values + value + 1) ≡ e .key * placings + placedOf e
+stamp-is e key sum site value hk hs hi hv = rw (hk, hs, hi, hv)

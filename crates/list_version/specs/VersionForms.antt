@@ -1,13 +1,13 @@
--- Forms that the code uses: identifiers from tags, their order in rows, values from stamps. No one need believe them:
--- laws in proofs/ tie each one to the definitions of `Identifier`, `Values` and `VersionOrder`. Assumes nothing.
+-- Forms that the code uses: identifiers from the Sets in dispute, values from stamps. No one need believe them: laws in
+-- proofs/ tie each one to the definitions of `Identifier`, `Values` and `VersionOrder`. Assumes nothing.
 use mathlib.Core.Path.{_≡_}
-use mathlib.Core.Bool.{Bool, true, not, _&&_, cond}
+use mathlib.Core.Bool.{Bool, _&&_, cond}
 use mathlib.Core.List.{List, [], map}
-use Prim.Native.Nat.{ℕ, zero, suc, _+_, _-_, _*_, _/_, _≤_, _<_, max}
+use Prim.Native.Nat.{ℕ, zero, suc, _+_, _-_, _*_, _/_, _%_, _≤_, _<_, max}
 use lib.Dec.{eqb, ltb}
-use lib.ListN.{length, getD, take, drop}
+use lib.ListN.{length, getD}
 use Rattle.math_lists.specs.NumbersBelow.{keep}
-use Rattle.math_lists.specs.SortedLists.{gatherBy, ascending}
+use Rattle.math_lists.specs.SortedLists.{filter, Asc, gatherBy, ascending}
 use Rattle.edit_record.specs.declared.Edit.{Edit}
 use Rattle.edit_record.specs.Layout.{mostSites, keys, twoBytes}
 use Rattle.edit_history.specs.EditsHeld.{recordAt}
@@ -24,48 +24,43 @@ use Rattle.list_version.specs.VersionOrder.{lex}
 abbrev pub setsAt : List ℕ → List ℕ → List Edit
 setsAt rs places = map (recordAt rs) places
 
--- ---- identifiers from tags
+-- ---- identifiers from the Sets in dispute
 
--- the tag of a Set is its name if it is disputed, else 0, which is no disputed Set's name
-unfoldable pub tagOf : List Edit → Edit → ℕ
-tagOf ms e = cond (isDisputed ms e) (nameOf e) 0
+-- the t first keys are those of the edits in the places ps
+abbrev pub KeysIn : List ℕ → List ℕ → List ℕ → ℕ → Type 0
+KeysIn rs ps ks t = (j : ℕ) → j < t → getD ks j 0 ≡ recordAt rs (getD ps j 0) .key
 
-unfoldable pub tagsOf : List Edit → List ℕ
-tagsOf ms = map (tagOf ms) ms
+-- the i-th Set by its name, and by its number behind it
+abbrev pub namedAt : List Edit → ℕ → ℕ
+namedAt ms i = nameOf (getD ms i noEdit) * mostSets + i
 
-abbrev pub isTagged : List ℕ → ℕ → ℕ → Bool
-isTagged tags g i = bit g i && not (eqb (getD tags i 0) 0)
+-- of the first n Sets those in dispute, by their names
+unfoldable pub disputesBelow : List Edit → ℕ → List ℕ
+disputesBelow ms n = ascending (map (namedAt ms) (keep n (λ i. isDisputed ms (getD ms i noEdit))))
 
--- of the first n tags those of members that are not 0, ascending
-unfoldable pub taggedBelow : List ℕ → ℕ → ℕ → List ℕ
-taggedBelow tags g n = ascending (map (λ i. getD tags i 0) (keep n (isTagged tags g)))
+abbrev pub disputesIn : List Edit → List ℕ
+disputesIn ms = disputesBelow ms (length ms)
 
-abbrev pub identifierBy : List ℕ → ℕ → List ℕ
-identifierBy tags g = taggedBelow tags g (length tags)
+-- the two numbers in such a number: the name, and whether the Set is a member of g
+abbrev pub nameBy : ℕ → ℕ
+nameBy x = x / mostSets
+
+abbrev pub isIn : ℕ → ℕ → Bool
+isIn g x = bit g (x % mostSets)
+
+-- the names ascend
+abbrev pub Named : List ℕ → Type 0
+Named xs = Asc (λ x y. nameBy x < nameBy y) xs
+
+-- of the Sets in dispute, xs, the names of the members of g
+unfoldable pub identifierBy : List ℕ → ℕ → List ℕ
+identifierBy xs g = map nameBy (filter (isIn g) xs)
 
 unfoldable pub isAheadBy : List ℕ → ℕ → ℕ → Bool
-isAheadBy tags g h = lex (ltb g h) (identifierBy tags g) (identifierBy tags h)
+isAheadBy xs g h = lex (ltb g h) (identifierBy xs g) (identifierBy xs h)
 
 unfoldable pub versionsBy : List ℕ → List ℕ → List ℕ
-versionsBy tags gs = gatherBy (isAheadBy tags) [] gs
-
--- ---- identifiers in rows: `mostSets` places of one list for each version, and a list of their lengths
-
--- the identifier in row x
-abbrev pub rowAt : List ℕ → List ℕ → ℕ → List ℕ
-rowAt rows lens x = take (getD lens x 0) (drop (x * mostSets) rows)
-
--- the n first rows have the identifiers of the groups gs
-abbrev pub HasRows : List ℕ → List ℕ → List ℕ → List ℕ → ℕ → Type 0
-HasRows rows lens tags gs n =
-    (x : ℕ) → x < n → (getD lens x 0 ≤ mostSets) × (rowAt rows lens x ≡ identifierBy tags (getD gs x 0))
-
-unfoldable pub isAheadAt : List ℕ → List ℕ → List ℕ → ℕ → ℕ → Bool
-isAheadAt rows lens gs x y = lex (ltb (getD gs x 0) (getD gs y 0)) (rowAt rows lens x) (rowAt rows lens y)
-
--- the numbers of the n first rows, in the order of their versions
-unfoldable pub orderOf : List ℕ → List ℕ → List ℕ → ℕ → List ℕ
-orderOf rows lens gs n = gatherBy (isAheadAt rows lens gs) [] (keep n (λ x. true))
+versionsBy xs gs = gatherBy (isAheadBy xs) [] gs
 
 -- ---- values from stamps
 

@@ -2,16 +2,19 @@
 // that is never 0 for a key: the largest stamp of the members with a key is that of the last one. The stamps of an
 // object's Sets are made once; one pass over the members of a version finds the largest of each key.
 use super::ALL_KEYS;
+use super::AT_VALUE;
 use super::SITE_NUMBERS;
-use super::sets::edit_in;
 use super::sets::is_member;
 use edit_causal::vector_sum;
-use edit_record::Edit;
+use edit_record::AT_KEY;
+use edit_record::AT_SITE;
 use edit_record::KEYS;
+use edit_record::PLACE;
 ghost use mathlib.Core.Path.{_≡_};
 ghost use Prim.Native.Nat.{_+_, _*_, _-_, _≤_, _<_};
 ghost use lib.ListN.{length, take};
 ghost use Rattle.edit_record.specs.Layout.{mostSites, keys, twoBytes};
+ghost use Rattle.edit_history.specs.EditsHeld.{recordAt};
 ghost use Rattle.group_step.specs.GroupRows.{mostSets};
 ghost use Rattle.list_version.specs.Identifier.{siteNumbers};
 ghost use Rattle.list_version.specs.VersionForms.{setsAt, stampOf, values, placings, Small, Stamped, LargestOf};
@@ -30,16 +33,20 @@ fn stamped(key: u8, sum: u32, site: u8, value: u32) -> u64
     key as u64 * PLACINGS + ((sum as u64 * SITE_NUMBERS + site as u64) * VALUES + value as u64 + 1)
 }
 
-// The stamp of e; 0 for a key that is none.
-fn stamp(e: Edit) -> u64
-    ensures { λ r. ⌜ (r ≡ stampOf e) × Small e ⌝ }
+// The stamp of the record in place p, whose fields are read where they stand; 0 for a key that is none.
+fn stamp_at(recs: &[u8], p: u16) -> u64
+    ensures { λ r. ⌜ (r ≡ stampOf (recordAt (now (recs .entry)) p)) × Small (recordAt (now (recs .entry)) p) ⌝ }
 {
-    let v = e.vector;
+    let at = p as usize * PLACE;
+    let v = edit_history::vector_at(recs, p as usize);
     let sum = vector_sum(v);
-    if KEYS <= e.key {
+    let site = edit_record::byte_at(recs, at + AT_SITE);
+    let key = edit_record::byte_at(recs, at + AT_KEY);
+    let value = edit_record::four_at(recs, at + AT_VALUE);
+    if KEYS <= key {
         return 0;
     }
-    stamped(e.key, sum, e.site.0, e.value)
+    stamped(key, sum, site, value)
 }
 
 // Puts the stamps of the t Sets at the front of out.
@@ -49,8 +56,7 @@ pub fn put_stamps(out: &mut [u64], recs: &[u8], places: &[u16], t: usize)
 {
     let mut i: usize = 0;
     while i < t {
-        let e = edit_in(recs, places, i);
-        out[i] = stamp(e);
+        out[i] = stamp_at(recs, places[i]);
         i += 1;
     }
 }

@@ -1,21 +1,23 @@
 -- More elements never lose a group: each group lies in a group of the larger set, which gives it back, and so the
--- groups never become fewer; and two groups never lie in one. Assumes that the relation is symmetric and irreflexive,
--- which the last law does not need.
+-- groups never become fewer; and two groups never lie in one, so that none is part of another. Assumes that the
+-- relation is symmetric and irreflexive, which the last laws do not need.
 use mathlib.Core.Path.{_≡_, _∙_}
 use mathlib.Core.Bool.{Bool, true, false, _&&_}
 use Prim.Native.Nat.{ℕ, _≤_}
 use lib.ListN.{length}
 use Rattle.math_lists.specs.SortedLists.{elem}
 use Rattle.math_lists.specs.NumbersBelow.{mask}
-use Rattle.math_lists.proofs.Booleans.{both, and-on}
+use Rattle.math_lists.proofs.Booleans.{off, both, and-on}
 use Rattle.math_lists.proofs.NumbersBelow.{mask-below}
 use Rattle.math_lists.proofs.SortedLists.{not-longer}
 use Rattle.math_maximal.specs.MaximalSets.{_∈_, _⊆_, Free}
 use Rattle.math_maximal.specs.Groups.{bit, below, groups}
+use Rattle.math_maximal.specs.Step.{partOfLarger}
 use Rattle.math_maximal.proofs.MaximalSets.{same-set, top, within-maximal}
 use Rattle.math_maximal.proofs.Bits.{same-bits}
 use Rattle.math_maximal.proofs.Masks.{masked}
 use Rattle.math_maximal.proofs.Groups.{below-at, groups-at, has-number, groups-ascending}
+use Rattle.math_maximal.proofs.StepOnAnyRow.{larger-at}
 
 -- ---- S below n is part of U below m
 
@@ -75,3 +77,13 @@ module _ (c : ℕ → ℕ → Bool) (n : ℕ) (S : ℕ → Bool) where
   never-in-one g h e f free into into′ =
       one-group g h e f
       (λ i j b x. (free .free i (into i b) j (into′ j x), free .free j (into′ j x) i (into i b)))
+
+  -- so no group is part of a larger one
+  pub never-part :
+      (g h : ℕ) → elem g (groups c n S) ≡ true → elem h (groups c n S) ≡ true → partOfLarger g h ≡ false
+  never-part g h e f =
+      off (partOfLarger g h) (λ t.
+      let (small, _) = groups-at c n S g e in
+      let (small′, m) = groups-at c n S h f in
+      let (into, differ) = larger-at n g h small small′ t in
+      differ (never-in-one g h e f (m .isFree) into (λ i b. b)))

@@ -1,7 +1,7 @@
--- What the code of an arrival at sound tables has in hand: the edit decoded, the survey of the records, and the first
+-- What the code of an arrival at sound tables has in hand: the first of 1 to 3, the survey of the records, and the first
 -- of 1 to 6. Assumes nothing.
-use mathlib.Core.Path.{_≡_, sym, ap, subst, _∙_}
-use mathlib.Core.Bool.{true, false}
+use mathlib.Core.Path.{_≡_, _∙_}
+use mathlib.Core.Bool.{Bool, true, false}
 use mathlib.Core.List.{List}
 use Prim.Native.Nat.{ℕ, _≤_, _<_}
 use lib.ListN.{length, getD}
@@ -12,24 +12,23 @@ use Rattle.edit_record.specs.Answer1.{isCreate, isSet}
 use Rattle.edit_record.proofs.WellFormed.{otherwise-layer}
 use Rattle.edit_history.specs.declared.Surveyed.{Surveyed}
 use Rattle.edit_history.specs.EditsHeld.{mostRecords, editsOf, setsOn}
-use Rattle.edit_history.specs.SurveyForms.{markBits, surveyOf}
+use Rattle.edit_history.specs.SurveyForms.{markBits}
 use Rattle.group_step.specs.GroupRows.{mostObjects}
 use Rattle.group_limited.specs.declared.Judged.{Judged}
-use Rattle.group_limited.specs.LimitedForms.{JudgedOf}
 use Rattle.table_drawing.specs.Tables.{Tables, tablesOf, heldBy, recordsLength, objectsLength}
 use Rattle.table_drawing.specs.AnswerNumbers.{outcomeOf}
 use Rattle.table_soundness.specs.Sound.{sound}
-use Rattle.table_soundness.proofs.SoundFacts.{sound-at}
+use Rattle.table_soundness.proofs.SoundFacts.{Sound, sound-at}
 use Rattle.table_index.specs.IndexForms.{Holds}
-use Rattle.table_arrival.specs.Answers6and7.{matesOf, firstOf, inTurn}
+use Rattle.table_arrival.specs.Answers6and7.{firstOf, inTurn}
 use Rattle.table_arrival.specs.Arrival.{counted, putRecord, putEntry, withCreate, withLayer}
 use Rattle.table_arrival.specs.Arrival.{acceptanceOf}
-use Rattle.table_arrival.specs.ArrivalForms.{Judges, toSixBy, firstToSix, Ready}
-use Rattle.table_arrival.proofs.SixByCounters.{to-six-are}
+use Rattle.table_arrival.specs.ArrivalForms.{threeBy, toSixBy, firstToSix, InHand}
+use Rattle.table_arrival.proofs.SixByCounters.{three-are, to-six-are}
 use Rattle.table_arrival.proofs.ProperWith.{judges}
 use Rattle.table_arrival.proofs.Admitted.{admitted, admitted-span}
 use Rattle.table_soundness.proofs.ObjectsByNumber.{sets-few}
-use Rattle.table_arrival.proofs.CodeOutcomes.{create-is, layer-is, count-room}
+use Rattle.table_arrival.proofs.CodeOutcomes.{refused-is, create-is, layer-is, count-room}
 
 module _ (t : Tables) (h : sound t ≡ true) where
   -- the records may be surveyed for any edit
@@ -38,6 +37,14 @@ module _ (t : Tables) (h : sound t ≡ true) where
       (t .counters .records ≤ mostRecords)
       × (length (setsOn (e .tsite) (e .tseq) (editsOf (t .records) (t .counters .records))) ≤ markBits)
   surveyable e = (sound-at t h .few-records, sets-few t (sound-at t h) (e .tsite) (e .tseq))
+
+  -- bytes to which one of 1 to 3 is given by the counters are refused with it
+  pub early-refused :
+      (b : List ℕ) → (firstOf inTurn (threeBy (t .counters) b) ≡ 0 → ⊥) →
+      outcomeOf (firstOf inTurn (threeBy (t .counters) b)) t ≡ acceptanceOf t b
+  early-refused b d =
+      let is = three-are t (sound-at t h) b d in
+      rw is (refused-is t b (λ z. d (is ∙ z)))
 
   -- the counters are those of the records
   pub holds : Holds (t .counters) (t .records)
@@ -53,87 +60,76 @@ module _ (t : Tables) (h : sound t ≡ true) where
         few-sets = sets-few t s;
       }
 
-  module _ (b : List ℕ) (e : Edit) (de : e ≡ decodeOf b) where
-    -- the code's 1 to 6 are the definition's
-    pub first-is :
-        (v : Surveyed) → v ≡ surveyOf (heldBy t) e → (j : Judged) → JudgedOf (matesOf t e) e j →
-        firstOf inTurn (toSixBy (t .counters) b e v j) ≡ firstToSix t b
-    first-is v dv j dj =
-        rw (dv, de)
-        (to-six-are t (sound-at t h) b j
-        (subst (λ (x : Edit). Judges (t .counters .sites) (heldBy t) x j) de (judges t (sound-at t h) e j dj)))
+module _
+    (t : Tables)
+    (b : List ℕ)
+    (v : Surveyed)
+    (j : Judged)
+    (apart : Bool)
+    (h : InHand t b v j apart) where
+  abbrev sound-facts : Sound t
+  sound-facts = sound-at t (h .isSound)
 
-    module _ (z : firstToSix t b ≡ 0) where
-      -- ---- a Create
+  -- the code's 1 to 6 are the definition's
+  pub first-is : firstOf inTurn (toSixBy (t .counters) b v j) ≡ firstToSix t b
+  first-is =
+      to-six-are t sound-facts b (h .timely) v (h .surveyed) j
+      (judges t sound-facts (decodeOf b) j (v .found) (h .surveyed .found) (h .judged))
 
-      pub create-given :
-          isCreate e ≡ true →
-          (t .counters .records < mostRecords)
-          × (t .counters .objects < mostObjects)
-          × (length (t .records) ≡ recordsLength)
-          × (length (t .objects) ≡ objectsLength)
-          × (length b ≡ spanOf b)
-          × (spanOf b ≤ placeLength)
-          × (getD (t .counters .held) (e .site .0) 0 < mostRecords)
-      create-given k =
-          let s = sound-at t h in
-          let a = admitted t b z in (
-            a .room,
-            a .create-room (sym (ap isCreate de) ∙ k),
-            s .records-long,
-            s .objects-long,
-            a .whole,
-            admitted-span t b a,
-            rw de (count-room t b s a),
-          )
+  module _ (z : firstToSix t b ≡ 0) where
+    -- ---- a Create
 
-      pub create-taken :
-          isCreate e ≡ true →
-          outcomeOf 0
-          (tablesOf (counted (t .counters) (e .site) b 1) (putRecord (t .records) (t .counters .records) b)
-          (putEntry (t .objects) (t .counters .objects) (t .counters .records) 0 1)
-          (t .groups))
-          ≡ acceptanceOf t b
-      unfolding withCreate
-      create-taken k = rw de (create-is t b z (sym (ap isCreate de) ∙ k))
+    pub create-given :
+        isCreate (decodeOf b) ≡ true →
+        (t .counters .records < mostRecords)
+        × (t .counters .objects < mostObjects)
+        × (length (t .records) ≡ recordsLength)
+        × (length (t .objects) ≡ objectsLength)
+        × (length b ≡ spanOf b)
+        × (spanOf b ≤ placeLength)
+        × (getD (t .counters .held) (decodeOf b .site .0) 0 < mostRecords)
+    create-given k =
+        let s = sound-facts in
+        let a = admitted t b z in (
+          a .room,
+          a .create-room k,
+          s .records-long,
+          s .objects-long,
+          a .whole,
+          admitted-span t b a,
+          count-room t b s a,
+        )
 
-      -- ---- a Set
+    pub create-taken :
+        isCreate (decodeOf b) ≡ true →
+        outcomeOf 0
+        (tablesOf (counted (t .counters) (decodeOf b .site) b 1) (putRecord (t .records) (t .counters .records) b)
+        (putEntry (t .objects) (t .counters .objects) (t .counters .records) 0 1)
+        (t .groups))
+        ≡ acceptanceOf t b
+    unfolding withCreate
+    create-taken k = create-is t b z k
 
-      pub set-ready :
-          (v : Surveyed) → v ≡ surveyOf (heldBy t) e → (j : Judged) → JudgedOf (matesOf t e) e j → isSet e ≡ true →
-          Ready t b e v j
-      set-ready v dv j dj k =
-          record {
-            isSound = h;
-            edit = de;
-            surveyed = dv;
-            judged = judges t (sound-at t h) e j dj;
-            passes = z;
-            set = k;
-          }
+    -- ---- a layer edit
 
-      -- ---- a layer edit
+    pub layer-given :
+        (t .counters .records < mostRecords)
+        × (t .counters .objects ≤ mostObjects)
+        × (length (t .records) ≡ recordsLength)
+        × (length b ≡ spanOf b)
+        × (spanOf b ≤ placeLength)
+        × (getD (t .counters .held) (decodeOf b .site .0) 0 < mostRecords)
+    layer-given =
+        let s = sound-facts in
+        let a = admitted t b z in
+        (a .room, s .few-objects, s .records-long, a .whole, admitted-span t b a, count-room t b s a)
 
-      pub layer-given :
-          (t .counters .records < mostRecords)
-          × (t .counters .objects ≤ mostObjects)
-          × (length (t .records) ≡ recordsLength)
-          × (length b ≡ spanOf b)
-          × (spanOf b ≤ placeLength)
-          × (getD (t .counters .held) (e .site .0) 0 < mostRecords)
-      layer-given =
-          let s = sound-at t h in
-          let a = admitted t b z in
-          (a .room, s .few-objects, s .records-long, a .whole, admitted-span t b a, rw de (count-room t b s a))
-
-      pub layer-taken :
-          isCreate e ≡ false → isSet e ≡ false →
-          outcomeOf 0
-          (tablesOf (counted (t .counters) (e .site) b 0) (putRecord (t .records) (t .counters .records) b)
-          (t .objects) (t .groups))
-          ≡ acceptanceOf t b
-      unfolding withLayer
-      layer-taken c s =
-          let layer = otherwise-layer (t .counters .sites) (decodeOf b) (admitted t b z .formed)
-          (sym (ap isCreate de) ∙ c) (sym (ap isSet de) ∙ s) in
-          rw de (layer-is t b z layer)
+    pub layer-taken :
+        isCreate (decodeOf b) ≡ false → isSet (decodeOf b) ≡ false →
+        outcomeOf 0
+        (tablesOf (counted (t .counters) (decodeOf b .site) b 0) (putRecord (t .records) (t .counters .records) b)
+        (t .objects) (t .groups))
+        ≡ acceptanceOf t b
+    unfolding withLayer
+    layer-taken c s =
+        layer-is t b z (otherwise-layer (t .counters .sites) (decodeOf b) (admitted t b z .formed) c s)

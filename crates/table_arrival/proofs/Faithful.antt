@@ -21,7 +21,7 @@ use Rattle.math_maximal.specs.Groups.{groups}
 use Rattle.math_maximal.specs.Step.{step}
 use Rattle.edit_causal.specs.Conflict.{conflictsWith}
 use Rattle.edit_causal.specs.ConflictForms.{NoneItself}
-use Rattle.edit_history.specs.EditsHeld.{recordAt, editsOf, isSetOn, isTarget, objectOf}
+use Rattle.edit_history.specs.EditsHeld.{recordAt, editsOf, isSetOn, setsOn, isTarget, objectOf}
 use Rattle.group_step.specs.GroupRows.{mostGroups, row, putRow}
 use Rattle.table_drawing.specs.Tables.{Tables, heldBy, placeAt, groupsAt, emptyDrawing, entryLength}
 use Rattle.table_drawing.specs.AnswerNumbers.{outcomeOf}
@@ -29,7 +29,9 @@ use Rattle.table_soundness.proofs.SoundFacts.{Sound}
 use Rattle.table_arrival.specs.Answers6and7.{matesOf, rowOf, groupsAfter, answerTo}
 use Rattle.table_arrival.specs.Arrival.{putRecord, putEntry, putCounts, withCreate, withSet, withLayer}
 use Rattle.table_arrival.specs.Arrival.{taken, acceptanceOf}
+use Rattle.table_arrival.specs.ArrivalForms.{RowsApart}
 use Rattle.group_true.specs.TrueGroups.{trueGroups}
+use Rattle.group_true.proofs.GroupsGrow.{none-part}
 use Rattle.table_arrival.proofs.Admitted.{Accepted, accepted, admitted-target, admitted-passes, taken-by-kind}
 use Rattle.table_arrival.proofs.RecordsOneMore.{put-before, put-here}
 use Rattle.table_arrival.proofs.EntriesAfterStore.{counts-place, counts-groups, other-place, other-groups}
@@ -53,6 +55,13 @@ RowsTrue t =
 pub record Faithful (t : Tables) : Type 0 where
   pub kept : Kept t
   pub rows : RowsTrue t
+
+-- in true rows no group is part of a larger one
+pub faithful-apart : (t : Tables) → Faithful t → RowsApart t
+unfolding trueGroups
+faithful-apart t f o l =
+    let c = recordAt (t .records) (placeAt (t .objects) o) in
+    rw (f .rows o l) (none-part (setsOn (c .site) (c .seq) (heldBy t)))
 
 -- ---- a Set whose target is held: the step gives all maximal sets of the object's Sets with the new one
 

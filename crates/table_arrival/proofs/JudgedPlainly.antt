@@ -15,21 +15,26 @@ use Rattle.edit_record.specs.Answer1.{isLimited}
 use Rattle.edit_causal.proofs.PlainMarks.{marks-are-all}
 use Rattle.edit_history.specs.declared.Surveyed.{Surveyed}
 use Rattle.edit_history.specs.EditsHeld.{setsOn}
-use Rattle.edit_history.specs.SurveyForms.{surveyOf}
+use Rattle.edit_history.specs.SurveyForms.{surveyOf, SurveyedOf}
 use Rattle.group_true.proofs.ProperSets.{plain-named}
-use Rattle.group_limited.specs.LimitedForms.{JudgedOf}
+use Rattle.group_limited.specs.LimitedForms.{JudgedWhere}
 
-pub judged-plainly :
-    (es : List Edit) (e : Edit) (v : Surveyed) → v ≡ surveyOf es e → not (isLimited e || v .limited) ≡ true →
-    JudgedOf (setsOn (e .tsite) (e .tseq) es) e (record { nameless = false; conflicts = v .plain })
-unfolding surveyOf
-judged-plainly es e v dv h =
-    let ms = setsOn (e .tsite) (e .tseq) es in
-    let (own, others) = neither (isLimited e) (v .limited) (not-true (isLimited e || v .limited) h) in
-    let none : any isLimited ms ≡ false = rw dv at others in
-    let each : (i : ℕ) → i < length ms → isLimited (getD ms i noEdit) ≡ false
-    = λ i l. off (isLimited (getD ms i noEdit)) (λ y. clash (any-place-on isLimited noEdit ms i l y) none) in
-    record {
-      nameless = λ proper lawful. sym (plain-named ms e own);
-      conflicts = λ proper lawful named. rw dv (sym (marks-are-all e ms each own));
-    }
+module _ (es : List Edit) (e : Edit) (v : Surveyed) (sv : SurveyedOf es e v) where
+  abbrev ms : List Edit
+  ms = setsOn (e .tsite) (e .tseq) es
+
+  pub judged-plainly :
+      not (isLimited e || v .limited) ≡ true →
+      JudgedWhere (v .found) ms e (record { nameless = false; conflicts = v .plain })
+  unfolding surveyOf
+  judged-plainly h =
+      let (own, others) = neither (isLimited e) (v .limited) (not-true (isLimited e || v .limited) h) in
+      record {
+        nameless = λ proper lawful. sym (plain-named ms e own);
+        conflicts = λ found proper lawful named.
+            let is = sv .whole found in
+            let none : any isLimited ms ≡ false = rw is at others in
+            let each : (i : ℕ) → i < length ms → isLimited (getD ms i noEdit) ≡ false
+            = λ i l. off (isLimited (getD ms i noEdit)) (λ y. clash (any-place-on isLimited noEdit ms i l y) none) in
+            rw is (sym (marks-are-all e ms each own));
+      }

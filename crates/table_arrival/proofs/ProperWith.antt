@@ -1,11 +1,12 @@
 -- The Sets of an object at sound tables are proper, and with an arriving edit too, if none of 1 to 5 and 16 is given to
 -- it; so what the code judges of an edit is what the definitions say of it. Assumes nothing.
-use mathlib.Core.Path.{_≡_, subst}
-use mathlib.Core.Bool.{true, false}
+use mathlib.Core.Path.{_≡_, subst, _∙_}
+use mathlib.Core.Bool.{Bool, true, false}
 use mathlib.Core.List.{[], _∷_, _++_}
 use Prim.Native.Nat.{suc}
 use native.Mathlib.Omega.{arith}
 use lib.ListN.{length, length-append}
+use Rattle.math_lists.specs.SortedLists.{any}
 use Rattle.math_contexts.specs.Box.{Lawful}
 use Rattle.edit_record.specs.declared.Site.{Site}
 use Rattle.edit_record.specs.declared.Seq.{Seq}
@@ -14,11 +15,11 @@ use Rattle.edit_record.specs.Answer1.{isSet}
 use Rattle.edit_causal.specs.Conflict.{boxOn}
 use Rattle.edit_causal.specs.ConflictForms.{NoneItself, Proper}
 use Rattle.edit_causal.proofs.ConflictsAmongSets.{none-itself}
-use Rattle.edit_history.specs.EditsHeld.{setsOn}
+use Rattle.edit_history.specs.EditsHeld.{setsOn, isTarget}
 use Rattle.edit_history.specs.Answers2to5.{passes}
 use Rattle.edit_history.specs.Answer16.{isNameless}
 use Rattle.group_limited.specs.declared.Judged.{Judged}
-use Rattle.group_limited.specs.LimitedForms.{JudgedOf}
+use Rattle.group_limited.specs.LimitedForms.{JudgedWhere}
 use Rattle.group_true.proofs.ProperSets.{Orderly, orderly-table, lawful-after, orderly-more}
 use Rattle.group_true.proofs.TrueGroups.{sets-more}
 use Rattle.table_drawing.specs.Tables.{Tables, heldBy}
@@ -51,9 +52,11 @@ module _ (t : Tables) (s : Sound t) where
     none-itself-with named k = none-itself (matesOf t e ++ (e ∷ [])) (proper-with named k)
 
   -- what is judged by the Sets of the edit's object is judged of the edit
-  pub judges : (e : Edit) (j : Judged) → JudgedOf (matesOf t e) e j → Judges (t .counters .sites) (heldBy t) e j
-  judges e j of =
+  pub judges :
+      (e : Edit) (j : Judged) (found : Bool) → found ≡ any (isTarget e) (heldBy t) →
+      JudgedWhere found (matesOf t e) e j → Judges (t .counters .sites) (heldBy t) e j
+  judges e j found is of =
       record {
         nameless = λ pass. of .nameless (proper-held (e .tsite) (e .tseq)) (lawful-with e pass);
-        conflicts = λ pass. of .conflicts (proper-held (e .tsite) (e .tseq)) (lawful-with e pass);
+        conflicts = λ held pass. of .conflicts (is ∙ held) (proper-held (e .tsite) (e .tseq)) (lawful-with e pass);
       }

@@ -1,7 +1,7 @@
 -- What the code that takes a Set is given, and what it leaves: a Set that passes 1 to 6 at sound tables, with the
 -- survey of the records. Assumes nothing.
-use mathlib.Core.Path.{_≡_, sym, ap, subst, _∙_}
-use mathlib.Core.Bool.{true, false}
+use mathlib.Core.Path.{_≡_, sym, subst, _∙_}
+use mathlib.Core.Bool.{Bool, true}
 use mathlib.Core.List.{List}
 use Prim.Native.Nat.{ℕ, _+_, _^_, _≤_, _<_}
 use native.Mathlib.Omega.{arith}
@@ -16,10 +16,9 @@ use Rattle.math_maximal.specs.Step.{step}
 use Rattle.edit_history.specs.declared.Surveyed.{Surveyed}
 use Rattle.edit_history.specs.EditsHeld.{mostRecords, isTarget}
 use Rattle.edit_causal.specs.Conflict.{conflictsWith}
-use Rattle.edit_history.specs.Answers2to5.{passes}
-use Rattle.edit_history.specs.Answer16.{isNameless}
 use Rattle.edit_history.specs.SurveyForms.{surveyOf}
 use Rattle.group_step.specs.GroupRows.{mostObjects, mostSets, mostGroups, row, putRow, settled}
+use Rattle.group_step.specs.StepForms.{Apart}
 use Rattle.group_limited.specs.declared.Judged.{Judged}
 use Rattle.table_drawing.specs.Tables.{Tables, tablesOf, heldBy, groupsAt, recordsLength, objectsLength, groupsLength}
 use Rattle.table_drawing.specs.AnswerNumbers.{outcomeOf}
@@ -28,6 +27,7 @@ use Rattle.table_arrival.specs.Answers6and7.{matesOf, groupsAfter}
 use Rattle.table_arrival.specs.Arrival.{counted, putRecord, putCounts, acceptanceOf}
 use Rattle.table_arrival.specs.ArrivalForms.{firstToSix, Ready}
 use Rattle.table_arrival.proofs.Admitted.{Admitted, admitted, admitted-passes, admitted-span, admitted-target}
+use Rattle.table_arrival.proofs.ProperWith.{judges}
 use Rattle.table_arrival.proofs.ObjectOfSet.{object-less, row-few, row-ascending, row-below}
 use Rattle.table_arrival.proofs.CodeOutcomes.{set-is, crowded-is, count-room}
 
@@ -40,7 +40,7 @@ stepBy t v m = step m (v .sets) (rowBy t v)
 
 -- ---- what is given
 
-pub record Given (t : Tables) (b : List ℕ) (e : Edit) (v : Surveyed) : Type 0 where
+pub record Given (t : Tables) (b : List ℕ) (v : Surveyed) : Type 0 where
   pub object : v .object < mostObjects
   pub sets : v .sets < mostSets
   pub groups : groupsAt (t .objects) (v .object) ≤ mostGroups
@@ -53,7 +53,7 @@ pub record Given (t : Tables) (b : List ℕ) (e : Edit) (v : Surveyed) : Type 0 
   pub short : spanOf b ≤ placeLength
   pub room : t .counters .records < mostRecords
   pub few-objects : t .counters .objects ≤ mostObjects
-  pub count : getD (t .counters .held) (e .site .0) 0 < mostRecords
+  pub count : getD (t .counters .held) (decodeOf b .site .0) 0 < mostRecords
 
 -- ---- what is left
 
@@ -67,11 +67,11 @@ Refused t b v m =
     ≡ acceptanceOf t b
 
 -- the step gave few enough, and the record, the entry and the counters are stored
-abbrev pub Stored : Tables → List ℕ → Edit → Surveyed → ℕ → Type 0
-Stored t b e v m =
+abbrev pub Stored : Tables → List ℕ → Surveyed → ℕ → Type 0
+Stored t b v m =
     length (stepBy t v m) ≤ mostGroups →
     outcomeOf 0
-    (tablesOf (counted (t .counters) (e .site) b 0) (putRecord (t .records) (t .counters .records) b)
+    (tablesOf (counted (t .counters) (decodeOf b .site) b 0) (putRecord (t .records) (t .counters .records) b)
     (putCounts (t .objects) (v .object) (v .sets + 1) (length (stepBy t v m)))
     (putRow (v .object) (t .groups) (settled (stepBy t v m) (row (v .object) (t .groups)))))
     ≡ acceptanceOf t b
@@ -91,7 +91,7 @@ module _ (t : Tables) (b : List ℕ) (isSound : Sound t) (z : firstToSix t b ≡
   abbrev aim : any (isTarget e) (heldBy t) ≡ true
   aim = admitted-target t b a (set-aimed e k)
 
-  given : Given t b e v
+  given : Given t b v
   unfolding surveyOf
   given =
       record {
@@ -118,39 +118,60 @@ module _ (t : Tables) (b : List ℕ) (isSound : Sound t) (z : firstToSix t b ≡
   unfolding surveyOf groupsAfter
   refused many = crowded-is t b z k many
 
-  stored : Stored t b e v marks
+  stored : Stored t b v marks
   unfolding surveyOf groupsAfter
   stored few = set-is t b z k few
 
 -- ---- for what the code has in hand
 
-module _ (t : Tables) (b : List ℕ) (e : Edit) (v : Surveyed) (j : Judged) (r : Ready t b e v j) where
+module _
+    (t : Tables)
+    (b : List ℕ)
+    (v : Surveyed)
+    (j : Judged)
+    (apart : Bool)
+    (r : Ready t b v j apart) where
+  abbrev edit : Edit
+  edit = decodeOf b
+
+  passed : Admitted t b
+  passed = admitted t b (r .passes)
+
+  target : any (isTarget edit) (heldBy t) ≡ true
+  target = admitted-target t b passed (set-aimed edit (r .set))
+
+  -- the survey is whole
+  survey-is : v ≡ surveyOf (heldBy t) edit
+  survey-is = r .inHand .surveyed .whole (r .inHand .surveyed .found ∙ target)
+
   -- the Sets that are judged to conflict do
-  marks-are : j .conflicts ≡ conflictsWith e (matesOf t e)
+  marks-are : j .conflicts ≡ conflictsWith edit (matesOf t edit)
   marks-are =
-      let a = admitted t b (r .passes) in
-      let pass : passes (t .counters .sites) (heldBy t) e ≡ true = rw (r .edit) (admitted-passes t b a) in
-      let named : isNameless (heldBy t) e ≡ false = rw (r .edit) (a .named) in
-      r .judged .conflicts pass (r .judged .nameless pass ∙ named)
+      let pass = admitted-passes t b passed in
+      let s = r .inHand .surveyed in
+      let of = judges t (sound-at t (r .inHand .isSound)) edit j (v .found) (s .found) (r .inHand .judged) in
+      of .conflicts target pass (of .nameless pass ∙ passed .named)
 
-  -- what holds of the edit in the record, of the survey of the records and of the Sets that conflict
+  -- what holds of the survey of the records and of the Sets that conflict
   in-hand :
-      (P : Edit → Surveyed → ℕ → Type 0) →
-      P (decodeOf b) (surveyOf (heldBy t) (decodeOf b)) (conflictsWith (decodeOf b) (matesOf t (decodeOf b))) →
-      P e v (j .conflicts)
+      (P : Surveyed → ℕ → Type 0) →
+      P (surveyOf (heldBy t) edit) (conflictsWith edit (matesOf t edit)) →
+      P v (j .conflicts)
   in-hand P h =
-      subst (λ (m : ℕ). P e v m) (sym marks-are)
-      (subst (λ (y : Surveyed). P e y (conflictsWith e (matesOf t e))) (sym (r .surveyed))
-      (subst (λ (x : Edit). P x (surveyOf (heldBy t) x) (conflictsWith x (matesOf t x))) (sym (r .edit)) h))
+      subst (λ (m : ℕ). P v m) (sym marks-are)
+      (subst (λ (y : Surveyed). P y (conflictsWith edit (matesOf t edit))) (sym survey-is) h)
 
-  is-set : isSet (decodeOf b) ≡ true
-  is-set = sym (ap isSet (r .edit)) ∙ r .set
+  pub set-given : Given t b v
+  set-given =
+      in-hand (λ y m. Given t b y) (given t b (sound-at t (r .inHand .isSound)) (r .passes) (r .set))
 
-  pub set-given : Given t b e v
-  set-given = in-hand (λ x y m. Given t b x y) (given t b (sound-at t (r .isSound)) (r .passes) is-set)
+  pub set-apart : apart ≡ true → Apart (rowBy t v)
+  set-apart h =
+      r .inHand .rows h (v .object)
+      (rw survey-is (unfold surveyOf in object-less t (sound-at t (r .inHand .isSound)) edit target))
 
   pub set-refused : Refused t b v (j .conflicts)
-  set-refused = in-hand (λ x y m. Refused t b y m) (refused t b (sound-at t (r .isSound)) (r .passes) is-set)
+  set-refused = in-hand (Refused t b) (refused t b (sound-at t (r .inHand .isSound)) (r .passes) (r .set))
 
-  pub set-stored : Stored t b e v (j .conflicts)
-  set-stored = in-hand (Stored t b) (stored t b (sound-at t (r .isSound)) (r .passes) is-set)
+  pub set-stored : Stored t b v (j .conflicts)
+  set-stored = in-hand (Stored t b) (stored t b (sound-at t (r .inHand .isSound)) (r .passes) (r .set))

@@ -1,11 +1,15 @@
 // What an arriving edit does to the tables: document 01, 'Numbers given back' and 'Conflict, groups, identifiers'.
+pub mod asked;
+
 use edit_history::RECORDS;
 use edit_history::Surveyed;
+use edit_record::AT_KIND;
+use edit_record::AT_SITE;
 use edit_record::CREATE;
-use edit_record::Edit;
 use edit_record::LIMITED;
 use edit_record::PLACE;
 use edit_record::Site;
+use edit_walk::PLACES;
 use group_limited::Judged;
 use group_step::OBJECTS;
 use group_step::SETS;
@@ -13,22 +17,20 @@ use table_drawing::Answer;
 use table_drawing::Counters;
 use table_drawing::ENTRY;
 ghost use mathlib.Core.Path.{_≡_};
-ghost use mathlib.Core.Bool.{true};
 ghost use mathlib.Core.List.{[], _∷_};
 ghost use Prim.Native.Nat.{_+_, _≤_, _<_};
 ghost use lib.ListN.{length, getD};
 ghost use Rattle.edit_record.specs.Layout.{twoBytes, placeLength};
 ghost use Rattle.edit_record.specs.RecordBytes.{decodeOf, spanOf};
 ghost use Rattle.edit_history.specs.EditsHeld.{mostRecords, editsOf, setsOn};
-ghost use Rattle.edit_history.specs.SurveyForms.{surveyOf};
+ghost use Rattle.edit_history.specs.SurveyForms.{SurveyedOf};
 ghost use Rattle.group_step.specs.GroupRows.{mostObjects, mostSets};
-ghost use Rattle.group_limited.specs.LimitedForms.{JudgedOf};
+ghost use Rattle.group_limited.specs.LimitedForms.{JudgedWhere};
 ghost use Rattle.table_drawing.specs.Tables.{tablesOf, recordsLength, objectsLength};
 ghost use Rattle.table_drawing.specs.AnswerNumbers.{outcomeOf, numberOf};
-ghost use Rattle.table_soundness.specs.Sound.{sound};
 ghost use Rattle.table_arrival.specs.Answers6and7.{firstOf, inTurn};
 ghost use Rattle.table_arrival.specs.Arrival.{counted, putRecord, putCounts, putEntry, acceptanceOf, arrivalOf};
-ghost use Rattle.table_arrival.specs.ArrivalForms.{fullWith, toSixBy, Ready};
+ghost use Rattle.table_arrival.specs.ArrivalForms.{fullWith, toSixBy, InHand, Ready};
 
 // An answer to an arriving edit, and the counters after it.
 #[repr(C)]
@@ -103,13 +105,13 @@ fn counted_with(c: Counters, s: Site, rec: &[u8], d: u16) -> Counters
     }
 }
 
-// Whether 6 applies to an edit whose object has k Sets.
-fn is_full(c: Counters, e: Edit, k: usize) -> bool
-    ensures { λ r. ⌜ r ≡ fullWith c e k ⌝ }
+// Whether 6 applies to an edit of this kind whose object has k Sets.
+fn is_full(c: Counters, kind: u8, k: usize) -> bool
+    ensures { λ r. ⌜ r ≡ fullWith c kind k ⌝ }
 {
     (RECORDS <= c.records as usize)
-        | ((e.kind == CREATE) & (OBJECTS <= c.objects as usize))
-        | (edit_record::is_set_kind(e.kind) & (SETS <= k))
+        | ((kind == CREATE) & (OBJECTS <= c.objects as usize))
+        | (edit_record::is_set_kind(kind) & (SETS <= k))
 }
 
 // The first of 1 to 6, with 16 after 5, whose reason is present.
@@ -148,19 +150,15 @@ fn first_reason(
     Answer::Done
 }
 
-// 1 to 6, the first that applies to a record with its edit e, from the counters, the survey of the records and what is
-// judged of the edit.
-fn refusal(c: Counters, rec: &[u8], e: Edit, v: Surveyed, j: Judged) -> Answer
-    ensures { λ r. ⌜ numberOf r ≡ firstOf inTurn (toSixBy c (now (rec .entry)) e v j) ⌝ }
+// 4 to 6, the first that applies to a record to which none of 1 to 3 is given, from the counters, the survey of the
+// records and what is judged of the edit.
+fn refusal(c: Counters, rec: &[u8], v: Surveyed, j: Judged) -> Answer
+    ensures { λ r. ⌜ numberOf r ≡ firstOf inTurn (toSixBy c (now (rec .entry)) v j) ⌝ }
 {
-    let held = c.held;
-    let span = edit_record::span_of(rec);
-    let one = (rec.len() != span) | edit_record::is_unfit(c.sites, e);
-    let two = edit_history::is_repeated(held, e);
-    let three = edit_history::is_early(held, e);
-    let five = edit_record::is_aimed(e) & !v.found;
-    let six = is_full(c, e, v.sets);
-    first_reason(one, two, three, v.torn, five, j.nameless, six)
+    let kind = edit_record::byte_at(rec, AT_KIND);
+    let five = edit_record::is_aimed_kind(kind) & !v.found;
+    let six = is_full(c, kind, v.sets);
+    first_reason(false, false, false, v.torn, five, j.nameless, six)
 }
 
 // Takes a Create that passes 1 to 6: its record, its object's entry and the counters after it.
@@ -223,11 +221,11 @@ fn take_set(
     objects: &mut [u16],
     groups: &mut [u64],
     rec: &[u8],
-    e: Edit,
     v: Surveyed,
     j: Judged,
+    apart: bool,
 ) -> Arrived
-    requires { ⌜ Ready (tablesOf c (now records) (now objects) (now groups)) (now rec) e v j ⌝ }
+    requires { ⌜ Ready (tablesOf c (now records) (now objects) (now groups)) (now rec) v j apart ⌝ }
     ensures { λ r. ⌜ outcomeOf (numberOf (r .answer))
         (tablesOf (r .counters) (now (records .exit)) (now (objects .exit)) (now (groups .exit)))
         ≡ acceptanceOf (tablesOf c (now (records .entry)) (now (objects .entry)) (now (groups .entry)))
@@ -236,14 +234,15 @@ fn take_set(
     let o = v.object;
     let k = v.sets;
     let g = objects[o * ENTRY + 2];
-    let m = group_step::step_at(groups, o, g as usize, j.conflicts, k);
+    let m = group_step::step_known(groups, o, g as usize, j.conflicts, k, apart);
     if group_step::GROUPS < m {
         return Arrived {
             answer: Answer::Crowded,
             counters: c,
         };
     }
-    let d = store_set(c, records, objects, rec, e.site, o, k as u16 + 1, m as u16);
+    let s = Site(edit_record::byte_at(rec, AT_SITE));
+    let d = store_set(c, records, objects, rec, s, o, k as u16 + 1, m as u16);
     Arrived {
         answer: Answer::Done,
         counters: d,
@@ -265,66 +264,70 @@ fn take_layer(c: Counters, records: &mut [u8], rec: &[u8], s: Site) -> Counters
     counted_with(c, s, rec, 0)
 }
 
-// What is judged of an arriving edit e, with its survey v, where the first n records are held. Where no Set of its
-// object is limited, and it is not, document 01's conflicts are all that there are; else the places of those Sets are
-// looked for.
-pub fn judge(recs: &[u8], n: usize, e: Edit, v: Surveyed) -> Judged
+// What is judged of an arriving record with its survey v, where the first n records are held. Where no Set of its object
+// is limited, and it is not, document 01's conflicts are all that there are; else the places of those Sets are looked
+// for.
+pub fn judge(recs: &[u8], n: usize, rec: &[u8], v: Surveyed) -> Judged
     requires { ⌜ (n ≤ mostRecords)
-        × (length (setsOn (e .tsite) (e .tseq) (editsOf (now recs) n)) ≤ mostSets)
-        × (v ≡ surveyOf (editsOf (now recs) n) e) ⌝ }
-    ensures { λ r. ⌜ JudgedOf (setsOn (e .tsite) (e .tseq) (editsOf (now (recs .entry)) n)) e r ⌝ }
+        × (length (setsOn (decodeOf (now rec) .tsite) (decodeOf (now rec) .tseq) (editsOf (now recs) n)) ≤ mostSets)
+        × SurveyedOf (editsOf (now recs) n) (decodeOf (now rec)) v ⌝ }
+    ensures { λ r. ⌜ JudgedWhere (v .found)
+        (setsOn (decodeOf (now (rec .entry)) .tsite) (decodeOf (now (rec .entry)) .tseq)
+        (editsOf (now (recs .entry)) n))
+        (decodeOf (now (rec .entry))) r ⌝ }
 {
-    if !((e.kind == LIMITED) | v.limited) {
+    if !((edit_record::byte_at(rec, AT_KIND) == LIMITED) | v.limited) {
         return Judged {
             nameless: false,
             conflicts: v.plain,
         };
     }
+    let e = edit_record::decode(rec);
     // what work space holds at first does not matter; zeros would be set by memset (docs/DECISIONS.md, 24)
     let mut places = [1u16; SETS];
     let k = edit_object::put_places(&mut places, recs, n, e.tsite, e.tseq);
     group_limited::judge(recs, &places, k, e)
 }
 
-// An arrival at tables that are known to be sound, as those that an arrival left are, of the record's edit e with its
-// survey v and what is judged of it, j.
+// An arrival, at tables that are known to be sound, as those that an arrival left are, of a record to which none of 1 to
+// 3 is given, with its survey v and what is judged of it, j. Where the rows are known to be apart, as those of true
+// tables are, a Set without conflict is taken faster.
 pub fn accept(
     c: Counters,
     records: &mut [u8],
     objects: &mut [u16],
     groups: &mut [u64],
     rec: &[u8],
-    e: Edit,
     v: Surveyed,
     j: Judged,
+    apart: bool,
 ) -> Arrived
-    requires { ⌜ (sound (tablesOf c (now records) (now objects) (now groups)) ≡ true)
-        × (e ≡ decodeOf (now rec))
-        × (v ≡ surveyOf (editsOf (now records) (c .records)) e)
-        × JudgedOf (setsOn (e .tsite) (e .tseq) (editsOf (now records) (c .records))) e j ⌝ }
+    requires { ⌜ InHand (tablesOf c (now records) (now objects) (now groups)) (now rec) v j apart ⌝ }
     ensures { λ r. ⌜ outcomeOf (numberOf (r .answer))
         (tablesOf (r .counters) (now (records .exit)) (now (objects .exit)) (now (groups .exit)))
         ≡ acceptanceOf (tablesOf c (now (records .entry)) (now (objects .entry)) (now (groups .entry)))
         (now (rec .entry)) ⌝ }
 {
-    let answer = refusal(c, rec, e, v, j);
+    let answer = refusal(c, rec, v, j);
     if table_drawing::number(answer) != 0 {
         return Arrived {
             answer,
             counters: c,
         };
     }
-    if e.kind == CREATE {
-        let d = take_create(c, records, objects, rec, e.site);
+    let kind = edit_record::byte_at(rec, AT_KIND);
+    if edit_record::is_set_kind(kind) {
+        return take_set(c, records, objects, groups, rec, v, j, apart);
+    }
+    let s = Site(edit_record::byte_at(rec, AT_SITE));
+    if kind == CREATE {
+        let d = take_create(c, records, objects, rec, s);
         return Arrived {
             answer: Answer::Done,
             counters: d,
         };
     }
-    if edit_record::is_set_kind(e.kind) {
-        return take_set(c, records, objects, groups, rec, e, v, j);
-    }
-    let d = take_layer(c, records, rec, e.site);
+    let d = take_layer(c, records, rec, s);
     Arrived {
         answer: Answer::Done,
         counters: d,
@@ -345,14 +348,22 @@ pub fn arrive(
         ≡ arrivalOf (tablesOf c (now (records .entry)) (now (objects .entry)) (now (groups .entry)))
         (now (rec .entry)) ⌝ }
 {
-    if !table_soundness::is_sound(c, records, objects, groups) {
+    // what work space holds at first does not matter; zeros would be set by memset (docs/DECISIONS.md, 24)
+    let mut places = [1u16; PLACES];
+    if !table_soundness::is_sound_with(c, records, objects, groups, &mut places) {
         return Arrived {
             answer: Answer::Unsound,
             counters: c,
         };
     }
-    let e = edit_record::decode(rec);
-    let v = edit_history::survey(records, c.records as usize, e);
-    let j = judge(records, c.records as usize, e, v);
-    accept(c, records, objects, groups, rec, e, v, j)
+    let answer = asked::one_to_three(c, rec);
+    if table_drawing::number(answer) != 0 {
+        return Arrived {
+            answer,
+            counters: c,
+        };
+    }
+    let v = asked::survey(c, records, &places, rec);
+    let j = judge(records, c.records as usize, rec, v);
+    accept(c, records, objects, groups, rec, v, j, false)
 }

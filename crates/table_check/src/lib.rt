@@ -16,18 +16,16 @@ ghost use Prim.Native.Nat.{_+_, _*_, _≤_, _<_};
 ghost use lib.ListN.{length, take};
 ghost use Rattle.math_lists.specs.NumbersBelow.{sameList};
 ghost use Rattle.math_lists.specs.SortedLists.{any};
-ghost use Rattle.edit_record.specs.Layout.{twoBytes};
 ghost use Rattle.edit_record.specs.Answer1.{isLimited};
-ghost use Rattle.edit_history.specs.EditsHeld.{recordAt, mostRecords};
 ghost use Rattle.edit_walk.specs.WalkForms.{Indexed};
 ghost use Rattle.group_step.specs.GroupRows.{mostGroups, mostSets, row};
 ghost use Rattle.group_limited.specs.LimitedForms.{setsIn};
 ghost use Rattle.table_drawing.specs.Tables.{tablesOf};
 ghost use Rattle.table_drawing.specs.AnswerNumbers.{numberOf};
 ghost use Rattle.table_soundness.specs.Sound.{sound};
+ghost use Rattle.table_sets.specs.ChainForms.{Chained};
 ghost use Rattle.table_check.specs.Check.{checkOf};
-ghost use Rattle.table_check.specs.CheckForms.{rowTrue, rowsTrue, aimOf, Aims, TellsSets, placesAimed};
-ghost use Rattle.table_check.specs.CheckForms.{groupsIn, ProperInTurn, WorkedOut};
+ghost use Rattle.table_check.specs.CheckForms.{rowTrue, rowsTrue, groupsIn, ProperInTurn, WorkedOut};
 
 // Whether two rows of groups are the same.
 fn is_same(a: &[u64], b: &[u64]) -> bool
@@ -57,52 +55,6 @@ fn is_row(groups: &[u64], o: usize, g: usize, gs: &[u64], r: usize) -> bool
     is_same(&groups[at..end], &gs[..r])
 }
 
-// Where the Create of the Set in place q stands, by the index of places; RECORDS if no Set stands there.
-fn aim_at(recs: &[u8], places: &[u16], q: usize) -> u16
-    requires { ⌜ q < twoBytes ⌝ }
-    ensures { λ r. ⌜ r ≡ aimOf (now (places .entry)) (recordAt (now (recs .entry)) q) ⌝ }
-{
-    let kind = edit_history::kind_at(recs, q);
-    if edit_record::is_set_kind(kind) {
-        edit_walk::target_place(recs, places, q)
-    } else {
-        RECORDS as u16
-    }
-}
-
-// Puts down the same for each of the first n records.
-fn note_aims(recs: &[u8], n: usize, places: &[u16], aims: &mut [u16])
-    requires { ⌜ (n ≤ mostRecords) × (length (now aims) ≡ mostRecords) ⌝ }
-    ensures { λ r. ⌜ Aims (now (recs .entry)) n (now (places .entry)) (now (aims .exit)) ⌝ }
-{
-    let mut i: usize = 0;
-    while i < n {
-        aims[i] = aim_at(recs, places, i);
-        i += 1;
-    }
-}
-
-// Puts the places, among the first n, of the Sets on the Create in place p at the front of members; says how many they
-// are.
-fn gather(aims: &[u16], n: usize, p: u16, members: &mut [u16]) -> usize
-    requires { ⌜ (n ≤ length (now aims))
-        × (n ≤ mostRecords)
-        × (length (placesAimed (now aims) n p) ≤ length (now members)) ⌝ }
-    ensures { λ r. ⌜ (take r (now (members .exit)) ≡ placesAimed (now (aims .entry)) n p)
-        × (r ≤ length (now (members .entry))) ⌝ }
-{
-    let mut k: usize = 0;
-    let mut i: usize = 0;
-    while i < n {
-        if aims[i] == p {
-            members[k] = i as u16;
-            k += 1;
-        }
-        i += 1;
-    }
-    k
-}
-
 // Makes the step for one after another of the Sets in the first k places, none of which is limited, on a row that has
 // the empty group alone; says how many groups there are. Once they are more than a row holds, they stay so, and the
 // rest is left.
@@ -118,9 +70,8 @@ fn step_plainly(gs: &mut [u64], recs: &[u8], places: &[u16], k: usize) -> usize
     let mut n: usize = 1;
     let mut i: usize = 0;
     while i < k {
-        let e = edit_history::decode_at(recs, places[i] as usize);
-        let m = table_index::plain_marks(recs, places, i, e);
-        n = group_step::step_row(gs, n, m, i);
+        let m = table_index::marks_at(recs, places, i, places[i]);
+        n = group_step::step_apart(gs, n, m, i);
         if GROUPS < n {
             return n;
         }
@@ -153,7 +104,7 @@ fn step_limited(
     while i < k {
         let e = edit_history::decode_at(recs, places[i] as usize);
         let t = group_limited::told_of(recs, places, i, plain, ctx, e);
-        n = group_step::step_row(gs, n, t.conflicts, i);
+        n = group_step::step_apart(gs, n, t.conflicts, i);
         if GROUPS < n {
             return n;
         }
@@ -182,29 +133,29 @@ fn work_out(recs: &[u8], places: &[u16], k: usize, gs: &mut [u64]) -> usize
     step_limited(gs, &mut plain, &mut ctx, recs, places, k)
 }
 
-// Whether the row of object o has the groups of the object's Sets.
+// Whether the row of object o has the groups of the object's Sets, which are found by the chain.
 fn is_row_true(
     c: Counters,
     records: &[u8],
     objects: &[u16],
     groups: &[u64],
-    aims: &[u16],
+    chain: &[u16],
     o: usize,
 ) -> bool
     requires { ⌜ (sound (tablesOf c (now records) (now objects) (now groups)) ≡ true)
         × (o < c .objects)
-        × (length (now aims) ≡ mostRecords)
-        × TellsSets (now records) (c .records) (now aims) ⌝ }
+        × Chained (now records) (c .records) (now chain) ⌝ }
     ensures { λ r. ⌜ r ≡ rowTrue (tablesOf c (now (records .entry)) (now (objects .entry)) (now (groups .entry))) o ⌝ }
 {
     let at = o * ENTRY;
     let p = at16(objects, at);
+    let k = at16(objects, at + 1);
     let g = at16(objects, at + 2);
     // what work space holds at first does not matter; zeros would be set by memset (docs/DECISIONS.md, 24)
     let mut members = [1u16; SETS];
     let mut gs = [1u64; GROUPS];
-    let k = gather(aims, c.records as usize, p, &mut members);
-    let r = work_out(records, &members, k, &mut gs);
+    table_sets::gather_sets(chain, p as usize, k as usize, &mut members);
+    let r = work_out(records, &members, k as usize, &mut gs);
     if GROUPS < r {
         return false;
     }
@@ -225,12 +176,12 @@ fn are_rows_true(
 {
     let n = c.records as usize;
     let m = c.objects as usize;
-    let mut aims = [1u16; RECORDS];
-    note_aims(records, n, places, &mut aims);
+    let mut chain = [1u16; RECORDS];
+    table_sets::chain_sets(records, n, places, &mut chain);
     let mut right = true;
     let mut o: usize = 0;
     while o < m {
-        right = right & is_row_true(c, records, objects, groups, &aims, o);
+        right = right & is_row_true(c, records, objects, groups, &chain, o);
         o += 1;
     }
     right

@@ -7,8 +7,11 @@ use group_step::SETS;
 use table_drawing::Answer;
 use table_drawing::Counters;
 ghost use mathlib.Core.Path.{_≡_};
+ghost use mathlib.Core.Bool.{false};
 ghost use Prim.Native.Nat.{_≤_};
 ghost use lib.ListN.{length};
+ghost use Rattle.math_lists.specs.SortedLists.{any};
+ghost use Rattle.edit_record.specs.Answer1.{isLimited};
 ghost use Rattle.edit_causal.specs.ConflictForms.{Proper};
 ghost use Rattle.edit_history.specs.EditsHeld.{mostRecords, editsOf, setsOn};
 ghost use Rattle.group_step.specs.GroupRows.{mostGroups, mostSets, settled};
@@ -28,8 +31,24 @@ pub struct Enumerated {
     pub count: usize,
 }
 
-// Puts down for each of the Sets in the k first places which of them conflict with it.
-fn put_masks(recs: &[u8], places: &[u16], k: usize, masks: &mut [u64])
+// Puts down for each of the Sets in the k first places which of them conflict with it, where none is limited: document
+// 01's conflicts are all that there are.
+fn put_plainly(recs: &[u8], places: &[u16], k: usize, masks: &mut [u64])
+    requires { ⌜ (k ≤ length (now places))
+        × (k ≤ mostDecided)
+        × (k ≤ length (now masks))
+        × (any isLimited (setsIn (now recs) (now places) k) ≡ false) ⌝ }
+    ensures { λ r. ⌜ MaskedTo k (setsIn (now (recs .entry)) (now (places .entry)) k) (now (masks .exit)) ⌝ }
+{
+    let mut i: usize = 0;
+    while i < k {
+        masks[i] = table_index::marks_at(recs, places, k, places[i]);
+        i += 1;
+    }
+}
+
+// The same where some may be limited: the conflicts are told by the rows of the Sets.
+fn put_by_rows(recs: &[u8], places: &[u16], k: usize, masks: &mut [u64])
     requires { ⌜ (k ≤ length (now places))
         × (k ≤ mostDecided)
         × (k ≤ length (now masks))
@@ -41,6 +60,21 @@ fn put_masks(recs: &[u8], places: &[u16], k: usize, masks: &mut [u64])
     let mut ctx = [1u64; DECIDED];
     group_limited::put_rows(&mut plain, &mut ctx, recs, places, k);
     group_context::put_conflicts(masks, &plain, &ctx, k);
+}
+
+// The same, by whichever of the two does.
+fn put_masks(recs: &[u8], places: &[u16], k: usize, masks: &mut [u64])
+    requires { ⌜ (k ≤ length (now places))
+        × (k ≤ mostDecided)
+        × (k ≤ length (now masks))
+        × Proper (setsIn (now recs) (now places) k) ⌝ }
+    ensures { λ r. ⌜ MaskedTo k (setsIn (now (recs .entry)) (now (places .entry)) k) (now (masks .exit)) ⌝ }
+{
+    if group_limited::is_any_limited(recs, places, k) {
+        put_by_rows(recs, places, k, masks);
+        return;
+    }
+    put_plainly(recs, places, k, masks);
 }
 
 // Puts the groups of the Sets in the k first places into out, ascending, and 0 behind them; says how many they are.

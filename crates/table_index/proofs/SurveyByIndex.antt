@@ -1,6 +1,5 @@
--- The survey by the index is the survey of the edits held, for an edit to which none of 1 to 3 applies: a Create has no
--- target, and any other edit whose target is held has it where the index says. Assumes that the records pass and are
--- within the limits.
+-- The survey by the index is the survey of the edits held, for an edit to which none of 1 to 3 applies: one whose target
+-- is held has it where the index says. Assumes that the records pass and are within the limits.
 use mathlib.Core.Path.{_≡_, refl, sym, ap, ap₂, _∙_}
 use mathlib.Core.Logic.{_⊎_, inl, inr}
 use mathlib.Core.Bool.{Bool, true, false, not, _&&_, _||_, cond}
@@ -25,23 +24,19 @@ use Rattle.edit_causal.proofs.PlainMarks.{none-marked}
 use Rattle.edit_history.specs.EditsHeld.{recordAt, editsOf, creates, isSetOn, setsOn, isTarget, indexOf, objectOf}
 use Rattle.edit_history.specs.Answers2to5.{isTorn}
 use Rattle.edit_history.specs.SurveyForms.{repeatedAgainst, earlyAgainst, surveyOf}
-use Rattle.edit_walk.specs.WalkForms.{placeOf, tornByLatest, targetHeld}
+use Rattle.edit_walk.specs.WalkForms.{placeOf, Indexed, tornByNews, targetHeld, inTurnAgainst}
 use Rattle.edit_history.proofs.EditsHeld.{target-parts, any-edit-on, any-edit-at, chosen-more, create-less, object-snoc}
 use Rattle.edit_history.proofs.ByCounts.{repeated-against, early-against}
 use Rattle.edit_history.proofs.RecordsPassed.{InTurn, in-turn, formed-at, one-place, target-before}
-use Rattle.edit_walk.proofs.LatestDecides.{torn-same, target-same}
+use Rattle.edit_walk.proofs.LatestDecides.{target-same}
+use Rattle.edit_walk.proofs.NewsDecide.{news-same}
 use Rattle.group_step.specs.GroupRows.{mostObjects, mostSets}
 use Rattle.table_drawing.specs.declared.Counters.{Counters}
 use Rattle.table_index.specs.IndexForms.{numberAt, placesOn, IndexOf, Holds, matesOf}
 use Rattle.table_index.specs.declared.Mates.{Mates}
 use Rattle.table_index.proofs.PlacesOfSets.{places-sets, places-length, row-places}
 
-module _
-    (c : Counters)
-    (rs : List ℕ)
-    (h : Holds c rs)
-    (ps ns cs ms : List ℕ)
-    (x : IndexOf rs (c .records) ps ns cs ms) where
+module _ (c : Counters) (rs : List ℕ) (h : Holds c rs) where
   abbrev n : ℕ
   n = c .records
 
@@ -120,138 +115,103 @@ module _
             ∙ object-none e m (λ p k. not-before p (omega arith))
             ∙ ap (numberAt rs) (sym z)
 
-    object-is : objectOf e es ≡ numberAt rs q
+    pub object-is : objectOf e es ≡ numberAt rs q
     object-is = object-after n l (omega arith)
 
   -- ---- an edit to which none of 1 to 3 applies
 
-  pub turn :
-      (e : Edit) → not (unfit (c .sites) e || repeatedAgainst (c .held) e || earlyAgainst (c .held) e) ≡ true →
-      InTurn (c .sites) es e × (unfit (c .sites) e ≡ false)
+  pub turn : (e : Edit) → inTurnAgainst (c .sites) (c .held) e ≡ true → InTurn (c .sites) es e
+  unfolding inTurnAgainst
   turn e y =
       let u = unfit (c .sites) e in
       let r = repeatedAgainst (c .held) e in
       let a = earlyAgainst (c .held) e in
       let (ur, early) = neither (u || r) a (not-true (u || r || a) y) in
       let (fit, repeated) = neither u r ur in
-      let low : e .site .0 < mostSites = omega (arith, well-formed (c .sites) e fit .site, h .few-sites) in (
-        in-turn (c .sites) es e fit (sym (repeated-against (c .held) es (h .held) e low) ∙ repeated)
-            (sym (early-against (c .held) es (h .held) e low) ∙ early),
-        fit,
-      )
+      let low : e .site .0 < mostSites = omega (arith, well-formed (c .sites) e fit .site, h .few-sites) in
+      in-turn (c .sites) es e fit (sym (repeated-against (c .held) es (h .held) e low) ∙ repeated)
+      (sym (early-against (c .held) es (h .held) e low) ∙ early)
 
-  pub torn-is : (e : Edit) → InTurn (c .sites) es e → tornByLatest rs ps e ≡ isTorn es e
-  torn-is e t = torn-same (c .sites) (h .few-sites) rs n (h .pass) ps (x .indexed) e t
+  module _ (ps : List ℕ) (ix : Indexed rs n ps) where
+    pub torn-is : (e : Edit) → InTurn (c .sites) es e → tornByNews rs ps (e .vector) (e .site) ≡ isTorn es e
+    torn-is e t = news-same (c .sites) (h .few-sites) rs n (h .pass) ps ix e t
 
-  -- ---- a Create
+    pub held-is :
+        (e : Edit) → length (c .held) ≡ mostSites → targetHeld (c .held) rs ps e ≡ any (isTarget e) es
+    held-is e long = target-same (c .sites) (h .few-sites) rs n (h .pass) ps ix (c .held) long (h .held) e
 
-  no-sets : (f : Edit → Bool) (xs : List Edit) → any f xs ≡ false → filter f xs ≡ []
-  unfolding any filter
-  no-sets f [] y = refl
-  no-sets f (a ∷ xs) y = let (p, q) = neither (f a) (any f xs) y in rw p (no-sets f xs q)
+    -- where the target stands, by the index of places
+    pub target-placed :
+        (e : Edit) → any (isTarget e) es ≡ true →
+        let q = placeOf ps (e .tsite .0) (e .tseq .0) in
+        (q < n) × (isTarget e (recordAt rs q) ≡ true)
+    target-placed e held =
+        let (q, l, t) = any-edit-at (isTarget e) rs n held in
+        let parts = target-parts e (recordAt rs q) t in
+        let at : placeOf ps (e .tsite .0) (e .tseq .0) ≡ q = rw (parts .site, parts .seq) at (ix q l) in
+        rw at (l, t)
 
-  module _ (e : Edit) (fit : unfit (c .sites) e ≡ false) (create : isCreate e ≡ true) where
-    no-target : e .tseq .0 ≡ 0
-    no-target = create-aims-nowhere (c .sites) e fit create
-
-    not-target : (p : ℕ) → p < n → isTarget e (recordAt rs p) ≡ false
-    not-target p l =
-        off (isTarget e (recordAt rs p))
-        (λ t. omega (
-          arith,
-          target-parts e (recordAt rs p) t .seq,
-          formed-at (c .sites) rs n (h .pass) p l .seq,
-          no-target,
-        ))
-
-    none-on : setsOn (e .tsite) (e .tseq) es ≡ []
-    unfolding setsOn
-    none-on =
-        no-sets (isSetOn (e .tsite) (e .tseq)) es
-        (off (any (isSetOn (e .tsite) (e .tseq)) es) (λ y.
-        let (p, l, on) = any-edit-at (isSetOn (e .tsite) (e .tseq)) rs n y in
-        let a = recordAt rs p in
-        let (set, same) = both (isSet a) (sameEdit (a .tsite) (a .tseq) (e .tsite) (e .tseq)) on in
-        let (_, seq) = both (eqb (a .tsite .0) (e .tsite .0)) (eqb (a .tseq .0) (e .tseq .0)) same in
-        let (u, k, t) = target-before (c .sites) rs n (h .pass) p l (set-aimed a set) in
-        omega (
-          arith,
-          target-parts a (recordAt rs u) t .seq,
-          formed-at (c .sites) rs n (h .pass) u (omega arith) .seq,
-          eqb-true (a .tseq .0) (e .tseq .0) seq,
-          no-target,
-        )))
-
-    pub create-surveyed :
-        (torn : Bool) → torn ≡ isTorn es e →
-        record { torn = torn; found = false; object = c .objects; sets = 0; plain = 0; limited = false }
+    -- a survey of an edit whose target stands where the index says
+    pub survey-found :
+        (e : Edit) → any (isTarget e) es ≡ true → (torn : Bool) (o k : ℕ) (m : Mates) → torn ≡ isTorn es e →
+        o ≡ numberAt rs (placeOf ps (e .tsite .0) (e .tseq .0)) → k ≡ length (setsOn (e .tsite) (e .tseq) es) →
+        m ≡ matesOf e (setsOn (e .tsite) (e .tseq) es) →
+        record { torn = torn; found = true; object = o; sets = k; plain = m .plain; limited = m .limited }
         ≡ surveyOf es e
-    unfolding surveyOf any
-    create-surveyed torn y =
-        rw (y, none-among e n not-target, object-none e n not-target, none-on, none-marked e, h .objects)
+    unfolding surveyOf
+    survey-found e held torn o k m y z w v =
+        let (l, t) = target-placed e held in
+        rw (y, z, w, v, held, object-is e (placeOf ps (e .tsite .0) (e .tseq .0)) l t)
 
-  -- ---- an edit whose target is held
+-- ---- by the whole index
 
-  -- where its target stands, and what the index has of it
+module _
+    (c : Counters)
+    (rs : List ℕ)
+    (h : Holds c rs)
+    (ps ns cs ms : List ℕ)
+    (x : IndexOf rs (c .records) ps ns cs ms) where
+  abbrev edits : List Edit
+  edits = editsOf rs (c .records)
+
+  -- where the target of an edit stands, and what the index has of it
   pub record Aimed (e : Edit) (q : ℕ) : Type 0 where
-    pub low : q < n
-    pub create : isCreate (recordAt rs q) ≡ true
-    pub number : getD ns q 0 ≡ objectOf e es
-    pub few : objectOf e es < mostObjects
-    pub count : getD cs (objectOf e es) 0 ≡ length (setsOn (e .tsite) (e .tseq) es)
+    pub low : q < (c .records)
+    pub target : isTarget e (recordAt rs q) ≡ true
+    pub number : getD ns q 0 ≡ objectOf e edits
+    pub few : objectOf e edits < mostObjects
+    pub count : getD cs (objectOf e edits) 0 ≡ length (setsOn (e .tsite) (e .tseq) edits)
     pub sets :
-        map (recordAt rs) (take (getD cs (objectOf e es) 0) (drop (objectOf e es * mostSets) ms))
-        ≡ setsOn (e .tsite) (e .tseq) es
+        map (recordAt rs) (take (getD cs (objectOf e edits) 0) (drop (objectOf e edits * mostSets) ms))
+        ≡ setsOn (e .tsite) (e .tseq) edits
 
-  module _ (e : Edit) (long : length (c .held) ≡ mostSites) (on : targetHeld (c .held) rs ps e ≡ true) where
-    held : any (isTarget e) es ≡ true
-    held =
-        sym (target-same (c .sites) (h .few-sites) rs n (h .pass) ps (x .indexed) (c .held) long (h .held) e)
-        ∙ on
-
-    at-place : (q : ℕ) → q < n → isTarget e (recordAt rs q) ≡ true → Aimed e q
+  module _ (e : Edit) (held : any (isTarget e) edits ≡ true) where
+    at-place : (q : ℕ) → q < (c .records) → isTarget e (recordAt rs q) ≡ true → Aimed e q
     at-place q l t =
         let parts = target-parts e (recordAt rs q) t in
-        let o = objectOf e es in
-        let is : o ≡ numberAt rs q = object-is e q l t in
-        let same : setsOn (recordAt rs q .site) (recordAt rs q .seq) es ≡ setsOn (e .tsite) (e .tseq) es
-        = ap₂ (λ (s : Site) (p : Seq). setsOn s p es) (same-site (recordAt rs q .site) (e .tsite) (parts .site))
+        let o = objectOf e edits in
+        let is : o ≡ numberAt rs q = object-is c rs h e q l t in
+        let same : setsOn (recordAt rs q .site) (recordAt rs q .seq) edits ≡ setsOn (e .tsite) (e .tseq) edits
+        = ap₂ (λ (s : Site) (p : Seq). setsOn s p edits) (same-site (recordAt rs q .site) (e .tsite) (parts .site))
         (same-seq (recordAt rs q .seq) (e .tseq) (parts .seq)) in
-        let many : getD cs o 0 ≡ length (placesOn rs n q) = rw is (x .counted q l (parts .create)) in
+        let many : getD cs o 0 ≡ length (placesOn rs (c .records) q) = rw is (x .counted q l (parts .create)) in
         let less : o < mostObjects
-        = omega (arith, create-less rs q n l (parts .create), h .objects, h .few-objects) in
+        = omega (arith, create-less rs q (c .records) l (parts .create), h .objects, h .few-objects) in
         let few : getD cs o 0 ≤ mostSets
-        = omega (arith, places-length rs q n, h .few-sets (recordAt rs q .site) (recordAt rs q .seq)) in
-        let part : take (getD cs o 0) (drop (o * mostSets) ms) ≡ placesOn rs n q
+        = omega (arith, places-length rs q (c .records), h .few-sets (recordAt rs q .site) (recordAt rs q .seq)) in
+        let part : take (getD cs o 0) (drop (o * mostSets) ms) ≡ placesOn rs (c .records) q
         = rw (many, is)
-        (row-places rs n ps ns cs ms x q l (parts .create) (omega arith) (omega (arith, is)) .1) in
+        (row-places rs (c .records) ps ns cs ms x q l (parts .create) (omega arith) (omega (arith, is)) .1) in
         record {
           low = l;
-          create = parts .create;
+          target = t;
           number = x .numbered q l (parts .create) ∙ sym is;
           few = less;
-          count = many ∙ places-length rs q n ∙ ap length same;
-          sets = ap (map (recordAt rs)) part ∙ places-sets rs q n ∙ same;
+          count = many ∙ places-length rs q (c .records) ∙ ap length same;
+          sets = ap (map (recordAt rs)) part ∙ places-sets rs q (c .records) ∙ same;
         }
 
     pub aimed : Aimed e (placeOf ps (e .tsite .0) (e .tseq .0))
     aimed =
-        let (q, l, t) = any-edit-at (isTarget e) rs n held in
-        let parts = target-parts e (recordAt rs q) t in
-        let at : placeOf ps (e .tsite .0) (e .tseq .0) ≡ q = rw (parts .site, parts .seq) at (x .indexed q l) in
-        rw at (at-place q l t)
-
-    pub target-surveyed :
-        (torn : Bool) (k : ℕ) (m : Mates) → torn ≡ isTorn es e → k ≡ getD cs (objectOf e es) 0 →
-        m ≡ matesOf e (setsOn (e .tsite) (e .tseq) es) →
-        record {
-          torn = torn;
-          found = true;
-          object = objectOf e es;
-          sets = k;
-          plain = m .plain;
-          limited = m .limited;
-        }
-        ≡ surveyOf es e
-    unfolding surveyOf
-    target-surveyed torn k m y z w = rw (y, z, w, held, aimed .count)
+        let (l, t) = target-placed c rs h ps (x .indexed) e held in
+        at-place (placeOf ps (e .tsite .0) (e .tseq .0)) l t

@@ -2,12 +2,13 @@
 // many Sets it has and where they stand. By it an arriving edit is surveyed without being held against every record.
 use edit_history::Surveyed;
 use edit_record::AT_KEY;
-use edit_record::AT_SEQ;
 use edit_record::AT_SITE;
+use edit_record::AT_TARGET;
+use edit_record::AT_TARGET_SEQ;
 use edit_record::CREATE;
 use edit_record::Edit;
 use edit_record::PLACE;
-use edit_record::SITES;
+use edit_record::RECORD;
 use edit_record::Seq;
 use edit_record::Site;
 use group_step::OBJECTS;
@@ -15,16 +16,18 @@ use group_step::SETS;
 use table_drawing::Counters;
 use table_drawing::entries::at16;
 ghost use mathlib.Core.Path.{_≡_};
-ghost use mathlib.Core.Bool.{not, _||_};
+ghost use mathlib.Core.Bool.{true};
 ghost use Prim.Native.Nat.{_+_, _*_, _≤_, _<_};
 ghost use lib.ListN.{length, getD, set, replicate};
-ghost use Rattle.edit_record.specs.Layout.{mostSites};
-ghost use Rattle.edit_record.specs.Answer1.{unfit};
+ghost use Rattle.math_lists.specs.SortedLists.{any};
+ghost use Rattle.edit_record.specs.Layout.{mostSites, recordLength};
+ghost use Rattle.edit_record.specs.RecordBytes.{decodeOf};
 ghost use Rattle.edit_causal.specs.Conflict.{doConflict};
 ghost use Rattle.edit_causal.specs.ConflictForms.{plainMarks};
-ghost use Rattle.edit_history.specs.EditsHeld.{mostRecords, recordAt, editsOf};
-ghost use Rattle.edit_history.specs.SurveyForms.{surveyOf, repeatedAgainst, earlyAgainst};
-ghost use Rattle.edit_walk.specs.WalkForms.{placesLength, slotOf, Spaced, SameStarts, countIn};
+ghost use Rattle.edit_history.specs.EditsHeld.{mostRecords, recordAt, editsOf, isTarget};
+ghost use Rattle.edit_history.specs.Answers2to5.{isTorn};
+ghost use Rattle.edit_history.specs.SurveyForms.{surveyOf, SurveyedOf};
+ghost use Rattle.edit_walk.specs.WalkForms.{placesLength, Spaced, SameStarts, countIn, Indexed, inTurnAgainst};
 ghost use Rattle.group_step.specs.GroupRows.{mostObjects, mostSets};
 ghost use Rattle.group_limited.specs.LimitedForms.{setsIn};
 ghost use Rattle.table_drawing.specs.declared.Counters.{Counters};
@@ -34,21 +37,15 @@ ghost use Rattle.table_index.specs.IndexForms.{numberAt, membersLength, 
 pub const MEMBERS: usize = OBJECTS * SETS;
 
 // Of the Sets of an object, those that conflict with an edit by document 01's rule, and whether one is limited.
-struct Mates {
-    plain: u64,
-    limited: bool,
+pub struct Mates {
+    pub plain: u64,
+    pub limited: bool,
 }
 
-// Where the index has the edit in place p of the records.
-fn spot(recs: &[u8], places: &[u16], p: usize) -> usize
-    requires { ⌜ p < mostRecords ⌝ }
-    ensures { λ r. ⌜ r ≡ slotOf (now (places .entry)) (recordAt (now (recs .entry)) p .site .0)
-        (recordAt (now (recs .entry)) p .seq .0) ⌝ }
-{
-    let at = p * PLACE;
-    let site = edit_record::byte_at(recs, at + AT_SITE);
-    let seq = edit_record::two_at(recs, at + AT_SEQ);
-    edit_walk::slot_of(places, Site(site), Seq(seq))
+// Whether 4 is given to an edit, and whether its target is held and was seen.
+pub struct Aim {
+    pub torn: bool,
+    pub held: bool,
 }
 
 // Puts the place p behind those of the Sets of object o.
@@ -86,7 +83,7 @@ pub fn add(
         × (r ≡ numberAt (now (recs .entry)) (p + 1))
         × SameStarts (now (places .entry)) (now (places .exit)) ⌝ }
 {
-    let at = spot(recs, places, p);
+    let at = edit_walk::spot(recs, places, p);
     places[at] = p as u16;
     let kind = edit_history::kind_at(recs, p);
     if kind == CREATE {
@@ -154,64 +151,85 @@ pub fn plain_marks(recs: &[u8], places: &[u16], k: usize, e: Edit) -> u64
     marks
 }
 
-// The same, and whether one of those edits is limited.
-fn mates_in(recs: &[u8], places: &[u16], k: usize, e: Edit) -> Mates
-    requires { ⌜ (k ≤ length (now places)) × (k ≤ mostSets) ⌝ }
-    ensures { λ r. ⌜ r ≡ matesOf e (setsIn (now (recs .entry)) (now (places .entry)) k) ⌝ }
+// Whether the edit in place p conflicts with that of rec, a record that is there whole. Where the other is there whole
+// too, both are read where they stand.
+fn is_conflict_with(recs: &[u8], p: u16, rec: &[u8]) -> bool
+    requires { ⌜ recordLength ≤ length (now rec) ⌝ }
+    ensures { λ r. ⌜ r ≡ doConflict (recordAt (now (recs .entry)) p) (decodeOf (now (rec .entry))) ⌝ }
 {
-    let plain = plain_marks(recs, places, k, e);
+    let at = p as usize * PLACE;
+    if at + RECORD <= recs.len() {
+        return edit_causal::is_conflict_in(&recs[at..], rec);
+    }
+    let a = edit_history::decode_at(recs, p as usize);
+    let e = edit_record::decode(rec);
+    edit_causal::is_conflict(a, e)
+}
+
+// Which of the edits in the k first places conflict with that of rec by document 01's rule, bit i for the i-th.
+fn marks_with(recs: &[u8], places: &[u16], k: usize, rec: &[u8]) -> u64
+    requires { ⌜ (k ≤ length (now places)) × (k ≤ mostSets) × (recordLength ≤ length (now rec)) ⌝ }
+    ensures { λ r. ⌜ r
+        ≡ plainMarks (decodeOf (now (rec .entry))) (setsIn (now (recs .entry)) (now (places .entry)) k) ⌝ }
+{
+    let mut marks: u64 = 0;
+    let mut i: usize = 0;
+    while i < k {
+        let b = is_conflict_with(recs, places[i], rec);
+        marks = edit_history::marked_if(b, marks, i);
+        i += 1;
+    }
+    marks
+}
+
+// The same for the edit in place p.
+pub fn marks_at(recs: &[u8], places: &[u16], k: usize, p: u16) -> u64
+    requires { ⌜ (k ≤ length (now places)) × (k ≤ mostSets) ⌝ }
+    ensures { λ r. ⌜ r
+        ≡ plainMarks (recordAt (now (recs .entry)) p) (setsIn (now (recs .entry)) (now (places .entry)) k) ⌝ }
+{
+    let at = p as usize * PLACE;
+    if at + RECORD <= recs.len() {
+        return marks_with(recs, places, k, &recs[at..]);
+    }
+    let e = edit_history::decode_at(recs, p as usize);
+    plain_marks(recs, places, k, e)
+}
+
+// The same, and whether one of those edits is limited.
+pub fn mates_in(recs: &[u8], places: &[u16], k: usize, rec: &[u8]) -> Mates
+    requires { ⌜ (k ≤ length (now places)) × (k ≤ mostSets) × (recordLength ≤ length (now rec)) ⌝ }
+    ensures { λ r. ⌜ r
+        ≡ matesOf (decodeOf (now (rec .entry))) (setsIn (now (recs .entry)) (now (places .entry)) k) ⌝ }
+{
+    let plain = marks_with(recs, places, k, rec);
     let limited = group_limited::is_any_limited(recs, places, k);
     Mates { plain, limited }
 }
 
-// Whether none of 1 to 3 applies to the edit, where so many edits of each site are held. It says as well what the type
-// of the counts says, for a caller that has them from a struct.
-fn is_in_turn(sites: u8, held: [u16; SITES], e: Edit) -> bool
-    ensures { λ r. ⌜ (r ≡ not (unfit sites e || repeatedAgainst held e || earlyAgainst held e))
-        × (length held ≡ mostSites) ⌝ }
-{
-    !(edit_record::is_unfit(sites, e)
-        | edit_history::is_repeated(held, e)
-        | edit_history::is_early(held, e))
-}
-
-// All that an arriving edit asks of the records held. The records are looked through only for an edit that is refused.
-pub fn survey(
+// All that an arriving edit asks of the records held, where its target is held.
+fn survey_held(
     c: Counters,
     recs: &[u8],
     places: &[u16],
     numbers: &[u16],
     counts: &[u16],
     members: &[u16],
-    e: Edit,
+    rec: &[u8],
+    torn: bool,
 ) -> Surveyed
     requires { ⌜ Holds c (now recs)
-        × IndexOf (now recs) (c .records) (now places) (now numbers) (now counts) (now members) ⌝ }
-    ensures { λ r. ⌜ r ≡ surveyOf (editsOf (now (recs .entry)) (c .records)) e ⌝ }
+        × IndexOf (now recs) (c .records) (now places) (now numbers) (now counts) (now members)
+        × (recordLength ≤ length (now rec))
+        × (any (isTarget (decodeOf (now rec))) (editsOf (now recs) (c .records)) ≡ true) ⌝ }
+    ensures { λ r. ⌜ (torn ≡ isTorn (editsOf (now (recs .entry)) (c .records)) (decodeOf (now (rec .entry))) →
+        r ≡ surveyOf (editsOf (now (recs .entry)) (c .records)) (decodeOf (now (rec .entry)))) ⌝ }
 {
-    let n = c.records as usize;
-    let held = c.held;
-    if !is_in_turn(c.sites, held, e) {
-        return edit_history::survey(recs, n, e);
-    }
-    let torn = edit_walk::is_torn_by_latest(recs, places, e);
-    if e.kind == CREATE {
-        return Surveyed {
-            torn,
-            found: false,
-            object: c.objects as usize,
-            sets: 0,
-            plain: 0,
-            limited: false,
-        };
-    }
-    if !edit_walk::is_target_held(held, recs, places, e) {
-        return edit_history::survey(recs, n, e);
-    }
-    let q = edit_walk::place_at(places, e.tsite, e.tseq);
+    let seq = edit_record::pair_at(rec, AT_TARGET_SEQ);
+    let q = edit_walk::place_at(places, Site(rec[AT_TARGET]), Seq(seq));
     let o = at16(numbers, q as usize) as usize;
     let k = at16(counts, o) as usize;
-    let m = mates_in(recs, &members[o * SETS..], k, e);
+    let m = mates_in(recs, &members[o * SETS..], k, rec);
     Surveyed {
         torn,
         found: true,
@@ -220,4 +238,47 @@ pub fn survey(
         plain: m.plain,
         limited: m.limited,
     }
+}
+
+// What is asked first of the records held for a record to which none of 1 to 3 is given, by the index of their places.
+pub fn aim_of(c: Counters, recs: &[u8], places: &[u16], rec: &[u8]) -> Aim
+    requires { ⌜ Holds c (now recs)
+        × Indexed (now recs) (c .records) (now places)
+        × (recordLength ≤ length (now rec))
+        × (inTurnAgainst (c .sites) (c .held) (decodeOf (now rec)) ≡ true)
+        × (length (c .held) ≡ mostSites) ⌝ }
+    ensures { λ r. ⌜ (r .torn ≡ isTorn (editsOf (now (recs .entry)) (c .records)) (decodeOf (now (rec .entry))))
+        × (r .held
+        ≡ any (isTarget (decodeOf (now (rec .entry)))) (editsOf (now (recs .entry)) (c .records))) ⌝ }
+{
+    let counts = c.held;
+    let v = edit_record::vector_of(rec);
+    let torn = edit_walk::is_torn_by_news(recs, places, v, Site(rec[AT_SITE]));
+    let held = edit_walk::is_target_held(&counts, recs, places, rec);
+    Aim { torn, held }
+}
+
+// All that an arriving edit to which none of 1 to 3 is given asks of the records held, by the index.
+pub fn survey(
+    c: Counters,
+    recs: &[u8],
+    places: &[u16],
+    numbers: &[u16],
+    counts: &[u16],
+    members: &[u16],
+    rec: &[u8],
+) -> Surveyed
+    requires { ⌜ Holds c (now recs)
+        × IndexOf (now recs) (c .records) (now places) (now numbers) (now counts) (now members)
+        × (recordLength ≤ length (now rec))
+        × (inTurnAgainst (c .sites) (c .held) (decodeOf (now rec)) ≡ true)
+        × (length (c .held) ≡ mostSites) ⌝ }
+    ensures { λ r.
+        ⌜ SurveyedOf (editsOf (now (recs .entry)) (c .records)) (decodeOf (now (rec .entry))) r ⌝ }
+{
+    let a = aim_of(c, recs, places, rec);
+    if !a.held {
+        return edit_history::none_found(a.torn);
+    }
+    survey_held(c, recs, places, numbers, counts, members, rec, a.torn)
 }

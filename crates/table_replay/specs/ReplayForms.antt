@@ -14,12 +14,14 @@ use Rattle.table_drawing.specs.AnswerNumbers.{outcomeOf}
 use Rattle.table_soundness.specs.Sound.{sound}
 use Rattle.table_index.specs.IndexForms.{IndexOf}
 use Rattle.table_arrival.specs.Arrival.{acceptanceOf}
+use Rattle.table_arrival.specs.ArrivalForms.{RowsApart}
 
 -- what taking the record b asks of the tables t and of the index of their records, which has room for it
 pub record Takes (t : Tables) (ps ns cs ms b : List ℕ) : Type 0 where
   pub isSound : sound t ≡ true
   pub wide : length (t .counters .held) ≡ mostSites
   pub index : IndexOf (t .records) (t .counters .records) ps ns cs ms
+  pub apart : RowsApart t
   pub room : Spaced (λ s. countFrom s (heldBy t ++ (decodeOf b ∷ []))) ps
 
 -- what it leaves: the answer a and the tables u; and where the record was taken, their index, which starts as before

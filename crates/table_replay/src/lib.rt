@@ -5,6 +5,7 @@ use edit_record::SITES;
 use edit_walk::PLACES;
 use group_step::OBJECTS;
 use table_arrival::Arrived;
+use table_arrival::asked;
 use table_drawing::Answer;
 use table_drawing::Counters;
 use table_index::MEMBERS;
@@ -49,10 +50,16 @@ fn take_next(
         (tablesOf (r .counters) (now (records .exit)) (now (objects .exit)) (now (groups .exit)))
         (now (places .entry)) (now (places .exit)) (now (numbers .exit)) (now (counts .exit)) (now (members .exit)) ⌝ }
 {
-    let e = edit_record::decode(rec);
-    let v = table_index::survey(c, records, places, numbers, counts, members, e);
-    let j = table_arrival::judge(records, c.records as usize, e, v);
-    let a = table_arrival::accept(c, records, objects, groups, rec, e, v, j);
+    let early = asked::one_to_three(c, rec);
+    if table_drawing::number(early) != 0 {
+        return Arrived {
+            answer: early,
+            counters: c,
+        };
+    }
+    let v = table_index::survey(c, records, places, numbers, counts, members, rec);
+    let j = table_arrival::judge(records, c.records as usize, rec, v);
+    let a = table_arrival::accept(c, records, objects, groups, rec, v, j, true);
     let answer = a.answer;
     if table_drawing::number(answer) == 0 {
         table_index::add(

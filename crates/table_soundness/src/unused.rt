@@ -8,17 +8,18 @@ ghost use Rattle.edit_record.specs.Layout.{placeLength};
 ghost use Rattle.edit_history.specs.EditsHeld.{mostRecords};
 ghost use Rattle.table_soundness.specs.Sound.{zeroFrom, restZero};
 
-// Whether every byte from k on is zero.
+// Whether every byte from k on is zero: whether they have no bit between them, which a processor tells faster than it
+// compares each.
 pub fn is_zero_from8(s: &[u8], k: usize) -> bool
     ensures { λ r. ⌜ r ≡ zeroFrom (now (s .entry)) k ⌝ }
 {
-    let mut zero = true;
+    let mut bits: u8 = 0;
     let mut i = k;
     while i < s.len() {
-        zero = zero & (s[i] == 0);
+        bits = bits | s[i];
         i += 1;
     }
-    zero
+    bits == 0
 }
 
 // Whether every number from k on is zero.
@@ -34,8 +35,7 @@ pub fn is_zero_from16(s: &[u16], k: usize) -> bool
     zero
 }
 
-// Whether every group from k on is zero: whether they have no bit between them, which a processor tells faster than it
-// compares each.
+// Whether every group from k on is zero, told in the same way.
 pub fn is_zero_from64(s: &[u64], k: usize) -> bool
     ensures { λ r. ⌜ r ≡ zeroFrom (now (s .entry)) k ⌝ }
 {

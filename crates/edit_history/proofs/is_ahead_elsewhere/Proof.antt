@@ -31,14 +31,14 @@ loop-holds c = search needs
 mul-found : tie.Need-mul-found Inv-loop μ-loop
 mul-found c = search needs
 
-array-read-found : tie.Need-array-read-found Inv-loop μ-loop
-array-read-found c = search needs
+shared-slice-read-found : tie.Need-shared-slice-read-found Inv-loop μ-loop
+shared-slice-read-found c = search needs
 
 mul-found-2 : tie.Need-mul-found-2 Inv-loop μ-loop
 mul-found-2 c = search needs
 
-array-read-found-2 : tie.Need-array-read-found-2 Inv-loop μ-loop
-array-read-found-2 c = search needs
+array-read-found : tie.Need-array-read-found Inv-loop μ-loop
+array-read-found c = search needs
 
 add-t : tie.Need-add-t Inv-loop μ-loop
 add-t c = search needs
@@ -48,7 +48,7 @@ loop-less c = search needs
 
 loop-again : tie.Need-loop-again Inv-loop μ-loop
 unfolding some
-loop-again c = (omega arith, rw (add-one, c .before .loop .inv .1))
+loop-again c = (omega arith, rw (add-one, c .before .before .loop .inv .1))
 
 returns : tie.Need-returns Inv-loop μ-loop
 unfolding aheadElsewhere
@@ -65,9 +65,9 @@ is-ahead-elsewhere-spec =
     cast-own
     loop-holds
     mul-found
-    array-read-found
+    shared-slice-read-found
     mul-found-2
-    array-read-found-2
+    array-read-found
     add-t
     loop-less
     loop-again

@@ -3,8 +3,8 @@ use borrow.Author.Needs.{needs}
 use Rattle.edit_history.proofs.is_early.Statement.{statement}
 use Rattle.edit_history.proofs.is_early.Tie as tie
 
-entry-requires : tie.Need-entry-requires
-entry-requires c κs = search needs
+held-from-requires : tie.Need-held-from-requires
+held-from-requires c κs = search needs
 
 cast-result : tie.Need-cast-result
 cast-result c = search needs
@@ -19,13 +19,13 @@ is-ahead-elsewhere-requires : tie.Need-is-ahead-elsewhere-requires
 is-ahead-elsewhere-requires c κs = search needs
 
 returns : tie.Need-returns
-returns c = rw (c .is-ahead-elsewhere .ensures, c .before .before .before .entry .ensures)
+returns c = rw (c .is-ahead-elsewhere .ensures, c .before .before .held-from .ensures)
 
 pub is-early-spec : {M : Type 1} → statement M
 is-early-spec =
     tie.close
     (tie.spec
-    entry-requires
+    held-from-requires
     cast-result
     add-result
     cast-result-2

@@ -1,14 +1,20 @@
--- `edit_walk::is_target_held` meets its contract: the target's kind is read where it stands. Assumes nothing.
+-- `edit_walk::is_target_held` meets its contract. Assumes nothing.
 use borrow.Author.Needs.{needs}
 use Rattle.edit_walk.specs.WalkForms.{targetHeld}
 use Rattle.edit_walk.proofs.is_target_held.Statement.{statement}
 use Rattle.edit_walk.proofs.is_target_held.Tie as tie
 
-entry-requires : tie.Need-entry-requires
-entry-requires c κs = search needs
+shared-slice-read-site : tie.Need-shared-slice-read-site
+shared-slice-read-site c = search needs
 
-entry-requires-2 : tie.Need-entry-requires-2
-entry-requires-2 c κs = search needs
+pair-at-requires : tie.Need-pair-at-requires
+pair-at-requires c κs = search needs
+
+own-entry-requires : tie.Need-own-entry-requires
+own-entry-requires c κs = search needs
+
+held-from-requires : tie.Need-held-from-requires
+held-from-requires c κs = search needs
 
 place-at-requires : tie.Need-place-at-requires
 place-at-requires c κs = search needs
@@ -23,18 +29,21 @@ returns : tie.Need-returns
 unfolding targetHeld
 returns c =
     rw (
-      c .before .before .before .before .before .kind-at .ensures,
-      c .before .before .before .before .before .before .place-at .ensures,
-      c .before .before .before .before .before .before .before .entry2 .ensures,
-      c .before .before .before .before .before .before .before .before .entry .ensures,
+      c .kind-at .ensures,
+      c .before .place-at .ensures,
+      c .before .before .held-from .ensures,
+      c .before .before .before .own-entry .ensures,
+      c .before .before .before .before .pair-at .ensures,
     )
 
 pub is-target-held-spec : {M : Type 1} → statement M
 is-target-held-spec =
     tie.close
     (tie.spec
-    entry-requires
-    entry-requires-2
+    shared-slice-read-site
+    pair-at-requires
+    own-entry-requires
+    held-from-requires
     place-at-requires
     cast-kind-at
     kind-at-requires

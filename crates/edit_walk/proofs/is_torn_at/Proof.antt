@@ -16,14 +16,33 @@ returns c =
 place-at-requires : tie.Need-place-at-requires
 place-at-requires c κs = search needs
 
-is-larger-at-requires : tie.Need-is-larger-at-requires
-is-larger-at-requires c κs = search needs
+cast-vector-at : tie.Need-cast-vector-at
+cast-vector-at c = search needs
+
+vector-at-requires : tie.Need-vector-at-requires
+vector-at-requires c κs = search needs
+
+is-larger-somewhere-requires : tie.Need-is-larger-somewhere-requires
+is-larger-somewhere-requires c κs = search needs
 
 returns-2 : tie.Need-returns-2
 unfolding tornBy
 returns-2 c =
-    let q = c .before .before .before .before .before .before .args .q .0 in
-    rw (ne-eqb q 0 (λ e. omega arith), c .is-larger-at .ensures, c .before .place-at .ensures)
+    let q = c .before .before .before .before .before .before .before .args .q .0 in
+    rw (
+      ne-eqb q 0 (λ e. omega arith),
+      c .is-larger-somewhere .ensures,
+      c .before .vector-at .ensures,
+      c .before .before .place-at .ensures,
+    )
 
 pub is-torn-at-spec : {M : Type 1} → statement M
-is-torn-at-spec = tie.close (tie.spec returns place-at-requires is-larger-at-requires returns-2)
+is-torn-at-spec =
+    tie.close
+    (tie.spec
+    returns
+    place-at-requires
+    cast-vector-at
+    vector-at-requires
+    is-larger-somewhere-requires
+    returns-2)

@@ -1,15 +1,19 @@
--- `edit_walk::walk` meets its contract: after i records they pass, and the counts and the index are theirs.
--- Assumes nothing.
+-- `edit_walk::walk` meets its contract: after i records they pass, and the counts and the index are theirs. Assumes
+-- nothing.
 use mathlib.Core.Path.{_≡_, refl, sym, _∙_}
-use Prim.Native.Nat.{_≤_, _<_, _-_}
+use mathlib.Core.Logic.{⊎-elim}
+use Prim.Native.Nat.{_≤_, _<_, _-_, _+_}
 use native.Mathlib.Numerals.{add-one}
 use native.Mathlib.Omega.{arith}
+use lib.ListN.{getD, set}
+use lib.Seq.{set-out}
 use denote.Ref.{now}
 use borrow.Author.Tests.{not-true, not-false}
 use borrow.Author.Needs.{needs}
 use Rattle.math_lists.proofs.Booleans.{clash}
+use Rattle.edit_history.proofs.FieldsInPlace.{site-in-place}
 use Rattle.edit_walk.specs.WalkForms.{placesLength}
-use Rattle.edit_walk.proofs.WalkKeeps.{Walking, walking-starts, walking-more, told, refused, held-few, slot-more}
+use Rattle.edit_walk.proofs.WalkKeeps.{Walking, walking-starts, walking-more, refused, held-few, slot-more}
 use Rattle.edit_walk.proofs.walk.Statement.{statement}
 use Rattle.edit_walk.proofs.walk.Tie as tie
 
@@ -30,11 +34,11 @@ loop-holds c =
     let a = c .before .before .before .before .before .before .args in
     (omega arith, walking-starts (a .sites) (now (a .recs)) _ (a .n) (c .before .before .start-places .ensures))
 
-decode-at-requires : tie.Need-decode-at-requires Inv-loop μ-loop
-decode-at-requires c κs = search needs
+slice-aggregate-is-passing-at : tie.Need-slice-aggregate-is-passing-at Inv-loop μ-loop
+slice-aggregate-is-passing-at c = search needs
 
-is-passing-requires : tie.Need-is-passing-requires Inv-loop μ-loop
-is-passing-requires c κs = search needs
+is-passing-at-requires : tie.Need-is-passing-at-requires Inv-loop μ-loop
+is-passing-at-requires c κs = search needs
 
 same-length : tie.Need-same-length Inv-loop μ-loop
 same-length c = search needs
@@ -44,9 +48,8 @@ returns c =
     let at = c .before .before .before .before .before in
     let few = start-of at .pre .0 in
     let w = at .loop .inv .1 in
-    let d = c .before .before .before .decode-at in
-    let p = c .before .is-passing in
-    let t = told few w (d .ensures) (p .ensures) ∙ not-true (p .result) (c .if1 .taken) in
+    let p = c .before .is-passing-at in
+    let t = sym (p .ensures) ∙ not-true (p .result) (c .if1 .taken) in
     record {
       ok = sym (refused few w (c .before .before .before .before .loop-test .taken) t);
       wide = w .wide;
@@ -55,22 +58,21 @@ returns c =
       indexed = λ h. clash h refl;
     }
 
-slot-of-requires : tie.Need-slot-of-requires Inv-loop μ-loop
-slot-of-requires c κs = search needs
+spot-requires : tie.Need-spot-requires Inv-loop μ-loop
+spot-requires c κs = search needs
 
 cast-places : tie.Need-cast-places Inv-loop μ-loop
 cast-places c = search needs
 
-slot-fits : (c : tie.After-slot-of Inv-loop μ-loop) → c .slot-of .result < placesLength
+slot-fits : (c : tie.After-spot Inv-loop μ-loop) → c .spot .result < placesLength
 slot-fits c =
     let at = c .before .before .before .before .before .before .before in
     let few = start-of at .pre .0 in
     let w = at .loop .inv .1 in
     let more = c .before .before .before .before .before .before .loop-test .taken in
-    let d = c .before .before .before .before .before .decode-at in
-    let p = c .before .before .before .is-passing in
-    let t = told few w (d .ensures) (p .ensures) ∙ not-false (p .result) (c .before .before .if1 .left) in
-    rw (c .slot-of .ensures, d .ensures) (slot-more few w more t)
+    let p = c .before .before .before .is-passing-at in
+    let t = sym (p .ensures) ∙ not-false (p .result) (c .before .before .if1 .left) in
+    rw (c .spot .ensures) (slot-more few w more t)
 
 mul-places : tie.Need-mul-places Inv-loop μ-loop
 mul-places c = omega (arith, slot-fits c)
@@ -80,11 +82,34 @@ slice-write-places c =
     let at = c .before .before .before .before .before .before .before in
     rw (at .loop .inv .1 .spaced .entries) (slot-fits c)
 
-bumped-requires : tie.Need-bumped-requires Inv-loop μ-loop
-bumped-requires c κs =
-    let at = c .before .before .before .before .before .before .before in
-    let e = c .before .before .before .before .before .decode-at .result in
-    omega (arith, held-few (start-of at .pre .0) (at .loop .inv .1) (e .site .0))
+mul-byte-at : tie.Need-mul-byte-at Inv-loop μ-loop
+mul-byte-at c = search needs
+
+add-byte-at : tie.Need-add-byte-at Inv-loop μ-loop
+add-byte-at c = search needs
+
+byte-at-requires : tie.Need-byte-at-requires Inv-loop μ-loop
+byte-at-requires c κs = search needs
+
+cast-own : tie.Need-cast-own Inv-loop μ-loop
+cast-own c = search needs
+
+mul-held : tie.Need-mul-held Inv-loop μ-loop
+mul-held c = search needs
+
+array-read-held : tie.Need-array-read-held Inv-loop μ-loop
+array-read-held c = search needs
+
+add-held : tie.Need-add-held Inv-loop μ-loop
+add-held c =
+    let at = c .before .before .before .before .before .before .before .before .before in
+    search (needs, held-few (start-of at .pre .0) (at .loop .inv .1) (c .before .byte-at .result))
+
+mul-held-2 : tie.Need-mul-held-2 Inv-loop μ-loop
+mul-held-2 c = search needs
+
+array-write-held : tie.Need-array-write-held Inv-loop μ-loop
+array-write-held c = search needs
 
 add-i : tie.Need-add-i Inv-loop μ-loop
 add-i c = search needs
@@ -94,15 +119,21 @@ loop-less c = search needs
 
 loop-again : tie.Need-loop-again Inv-loop μ-loop
 loop-again c =
-    let at = c .before .before .before .before .before .before .before .before in
+    let at = c .before .before .before .before .before .before .before .before .before in
+    let l = at .loop in
     let few = start-of at .pre .0 in
-    let w = at .loop .inv .1 in
-    let more = c .before .before .before .before .before .before .before .loop-test .taken in
-    let d = c .before .before .before .before .before .before .decode-at in
-    let p = c .before .before .before .before .is-passing in
-    let t = told few w (d .ensures) (p .ensures) ∙ not-false (p .result) (c .before .before .before .if1 .left) in (
+    let w = l .inv .1 in
+    let rs = now (start-of at .args .recs) in
+    let site = c .before .byte-at .result in
+    let own = getD (l .held) site 0 + 1 in
+    let more = c .before .before .before .before .before .before .before .before .loop-test .taken in
+    let p = c .before .before .before .before .before .is-passing-at in
+    let t = sym (p .ensures) ∙ not-false (p .result) (c .before .before .before .before .if1 .left) in
+    let e : c .if2 .held ≡ set (l .held) site own
+    = ⊎-elim (λ y. y .1) (λ y. y .1 ∙ sym (set-out (l .held) site own (omega (arith, w .wide)))) (c .if2 .came) in (
       omega arith,
-      rw (add-one, c .bumped .ensures, c .before .slot-of .ensures, d .ensures) (walking-more few w more t),
+      rw (add-one, e, c .before .byte-at .ensures, ← site-in-place rs (l .i), c .before .before .spot .ensures)
+          (walking-more few w more t),
     )
 
 same-length-2 : tie.Need-same-length-2 Inv-loop μ-loop
@@ -129,15 +160,23 @@ walk-spec =
     μ-loop
     start-places-requires
     loop-holds
-    decode-at-requires
-    is-passing-requires
+    slice-aggregate-is-passing-at
+    is-passing-at-requires
     same-length
     returns
-    slot-of-requires
+    spot-requires
     cast-places
     mul-places
     slice-write-places
-    bumped-requires
+    mul-byte-at
+    add-byte-at
+    byte-at-requires
+    cast-own
+    mul-held
+    array-read-held
+    add-held
+    mul-held-2
+    array-write-held
     add-i
     loop-less
     loop-again

@@ -33,11 +33,11 @@ returns : tie.Need-returns
 returns c =
     let joined = c .before .before .put-names in
     let mark = c .before .before .before .before .before .before .before in
-    let tagged = mark .before .before .before in
-    let a = tagged .before .before .before .before .args in
-    let names = identifierBy (take (a .t) (a .tags .now)) (a .g) in (
+    let named = mark .before .before .before in
+    let a = named .before .before .before .before .args in
+    let names = identifierBy (take (a .d) (a .disputes .now)) (a .g) in (
       two (take (a .n) (a .out .now)) (space ∷ []) (identifierText names) (mark .put-byte .ensures .0)
-          (joined .ensures .0 ∙ rw (tagged .identifier .ensures .0)),
+          (joined .ensures .0 ∙ rw (named .identifier .ensures .0)),
       omega (arith, joined .ensures .1),
     )
 

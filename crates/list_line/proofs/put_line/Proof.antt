@@ -35,8 +35,8 @@ returns c =
     let first = second .before .before .before .before in
     let start = first .before .before .before .before .before in
     let a = start .args in
-    let tags = take (a .t) (a .tags .now) in (
-      four [] (dotted (a .c .site .0) (a .c .seq .0)) (space ∷ identifierText (identifierBy tags (a .g)))
+    let disputes = take (a .d) (a .disputes .now) in (
+      four [] (dotted (a .site) (a .seq)) (space ∷ identifierText (identifierBy disputes (a .g)))
           (settingsBy (take (a .t) (a .stamps .now)) (a .g) keys) (newline ∷ []) (first .put-dotted .ensures .0)
           (second .put-identifier .ensures .0) (third .put-settings .ensures .0)
           (c .before .before .put-byte .ensures .0),

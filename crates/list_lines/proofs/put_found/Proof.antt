@@ -1,9 +1,13 @@
 -- `list_lines::put_found` meets its contract: what is gathered of the object is ready to be printed. Assumes
 -- nothing.
-use mathlib.Core.Path.{refl, _∙_}
+use mathlib.Core.Path.{_∙_}
 use native.Mathlib.Omega.{arith}
 use denote.Ref.{now}
+use lib.ListN.{length}
+use Prim.Native.Nat.{_≤_}
+use Rattle.group_step.specs.GroupRows.{mostSets, mostGroups}
 use Rattle.table_drawing.specs.Tables.{tablesOf}
+use Rattle.table_soundness.proofs.SoundFacts.{sound-at}
 use Rattle.list_lines.proofs.LinesGathered.{gathered-ready, gathered-count, gathered-line}
 use borrow.Author.Needs.{needs}
 use Rattle.list_lines.proofs.put_found.Statement.{statement}
@@ -13,9 +17,7 @@ slice-aggregate-put-sets : tie.Need-slice-aggregate-put-sets
 slice-aggregate-put-sets c = search needs
 
 put-sets-requires : tie.Need-put-sets-requires
-put-sets-requires c κs =
-    let s = c .before .before .before .before .before in
-    (s .pre .0, s .pre .1, refl)
+put-sets-requires c κs = search needs
 
 slice-aggregate-gather : tie.Need-slice-aggregate-gather
 slice-aggregate-gather c = search needs
@@ -23,21 +25,42 @@ slice-aggregate-gather c = search needs
 slice-aggregate-gather-2 : tie.Need-slice-aggregate-gather-2
 slice-aggregate-gather-2 c = search needs
 
+slice-aggregate-gather-3 : tie.Need-slice-aggregate-gather-3
+slice-aggregate-gather-3 c = search needs
+
+slice-aggregate-gather-4 : tie.Need-slice-aggregate-gather-4
+slice-aggregate-gather-4 c = search needs
+
 gather-requires : tie.Need-gather-requires
-gather-requires c κs =
-    let s = c .before .before .before .before .before .before .before .before .before in
-    (s .pre .0, s .pre .1, refl, c .before .before .before .put-sets .ensures)
+gather-requires c κs = search needs
+
+slice-aggregate-put-version : tie.Need-slice-aggregate-put-version
+slice-aggregate-put-version c = search needs
+
+slice-aggregate-put-version-2 : tie.Need-slice-aggregate-put-version-2
+slice-aggregate-put-version-2 c = search needs
+
+slice-aggregate-put-version-3 : tie.Need-slice-aggregate-put-version-3
+slice-aggregate-put-version-3 c = search needs
 
 put-version-requires : tie.Need-put-version-requires
 put-version-requires c κs =
-    let s10 = c .before .before .before .before .before .before .before .before .before .before in
-    let s = s10 .before .before in
-    let a = s .args in
+    let start = c .before .before .before .before .before .before .before .before .before .before .before .before .before .before .before .before .before .before .before in
+    let a = start .args in
     let t = tablesOf (a .c) (now (a .records)) (now (a .objects)) (now (a .groups)) in
-    let f = c .before .before .gather .ensures in (
-      gathered-ready t (a .o) _ f,
-      omega (arith, s .pre .2, f .few-groups, gathered-count t (a .o) _ f),
-      s .pre .3,
+    let s = sound-at t (start .pre .0) in
+    let g = c .before .before .before .before .before .before .before .gather in
+    let wide : mostSets ≤ length (g .last .0) = omega (arith, g .kept .0) in
+    let tall : mostSets ≤ length (g .last .1 .0) = omega (arith, g .kept .1 .0) in
+    let long : mostGroups ≤ length (g .last .1 .1 .0) = omega (arith, g .kept .1 .1 .0) in (
+      gathered-ready t s (a .o) (start .pre .1) _ _ _ _ (g .ensures) wide tall long,
+      omega (
+        arith,
+        start .pre .2,
+        g .ensures .few-groups,
+        gathered-count t s (a .o) (start .pre .1) _ _ _ _ (g .ensures) wide tall long,
+      ),
+      start .pre .3,
     )
 
 same-length : tie.Need-same-length
@@ -45,12 +68,17 @@ same-length c = search needs
 
 returns : tie.Need-returns
 returns c =
-    let s5 = c .before .before .before .before .before in
-    let s = s5 .before .before .before .before .before .before .before .before .before .before in
-    let a = s .args in
+    let start = c .before .before .before .before .before .before .before .before .before .before .before .before .before .before .before .before .before .before .before .before .before .before in
+    let a = start .args in
     let t = tablesOf (a .c) (now (a .records)) (now (a .objects)) (now (a .groups)) in
-    let e = c .before .before .put-version .ensures in
-    (e .0 ∙ gathered-line t (a .o) _ (s5 .gather .ensures) (a .v) (s .pre .2), e .1)
+    let s = sound-at t (start .pre .0) in
+    let g = c .before .before .before .before .before .before .before .before .before .before .gather in
+    let e = c .before .before .put-version .ensures in (
+      e .0
+          ∙ gathered-line t s (a .o) (start .pre .1) _ _ _ _ (g .ensures) (omega (arith, g .kept .0))
+          (omega (arith, g .kept .1 .0)) (omega (arith, g .kept .1 .1 .0)) (a .v) (start .pre .2),
+      e .1,
+    )
 
 pub put-found-spec : {M : Type 1} → statement M
 put-found-spec =
@@ -60,7 +88,12 @@ put-found-spec =
     put-sets-requires
     slice-aggregate-gather
     slice-aggregate-gather-2
+    slice-aggregate-gather-3
+    slice-aggregate-gather-4
     gather-requires
+    slice-aggregate-put-version
+    slice-aggregate-put-version-2
+    slice-aggregate-put-version-3
     put-version-requires
     same-length
     returns)

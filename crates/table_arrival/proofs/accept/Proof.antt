@@ -1,17 +1,35 @@
 -- `table_arrival::accept` meets its contract. Assumes nothing.
 use mathlib.Core.Path.{_≡_, sym, _∙_}
+use mathlib.Core.Bool.{true, false}
 use denote.Ref.{now}
+use borrow.Author.Needs.{needs}
 use borrow.Author.Tests.{eq-eqb, ne-eqb}
+use Rattle.edit_record.specs.Layout.{createKind}
+use Rattle.edit_record.specs.RecordBytes.{decodeOf}
+use Rattle.edit_record.specs.Answer1.{isCreate, isSet}
 use Rattle.table_drawing.specs.Tables.{tablesOf}
 use Rattle.table_drawing.specs.AnswerNumbers.{numberOf}
-use Rattle.edit_record.specs.Layout.{createKind}
-use Rattle.table_arrival.proofs.CodeInHand.{first-is, create-given, create-taken, set-ready, layer-given}
-use Rattle.table_arrival.proofs.CodeInHand.{layer-taken}
-use Rattle.table_arrival.proofs.CodeOutcomes.{refused-is}
 use Rattle.table_arrival.specs.ArrivalForms.{firstToSix}
-use borrow.Author.Needs.{needs}
+use Rattle.table_arrival.proofs.CodeInHand.{first-is, create-given, create-taken, layer-given, layer-taken}
+use Rattle.table_arrival.proofs.CodeOutcomes.{refused-is}
 use Rattle.table_arrival.proofs.accept.Statement.{statement}
 use Rattle.table_arrival.proofs.accept.Tie as tie
+
+-- the start, and that none of 1 to 6 applies, once the refusal is past
+abbrev start-of : tie.After-number → tie.Start
+start-of c = c .before .before .before .before .before .before
+
+first-of :
+    (c : tie.After-number) →
+    let a = start-of c .args in
+    c .number .result ≡ firstToSix (tablesOf (a .c) (now (a .records)) (now (a .objects)) (now (a .groups))) (now (a .rec))
+first-of c =
+    let s = start-of c in
+    let a = s .args in
+    let r = c .before .refusal in
+    c .number .ensures ∙ r .ensures
+    ∙ first-is (tablesOf (a .c) (now (a .records)) (now (a .objects)) (now (a .groups))) (now (a .rec)) (a .v) (a .j)
+    (a .apart) (s .pre)
 
 refusal-requires : tie.Need-refusal-requires
 refusal-requires c κs = search needs
@@ -21,29 +39,28 @@ number-requires c κs = search needs
 
 returns : tie.Need-returns
 returns c =
-    let s = c .before .before .before .before .before .before .before in
-    let a = s .args in
+    let n = c .before in
+    let a = start-of n .args in
     let t = tablesOf (a .c) (now (a .records)) (now (a .objects)) (now (a .groups)) in
-    let b = now (a .rec) in
-    let r = c .before .before .refusal in
-    let q : numberOf (r .result) ≡ firstToSix t b
-    = r .ensures ∙ first-is t (s .pre .0) b (a .e) (s .pre .1) (a .v) (s .pre .2) (a .j) (s .pre .3) in
-    let other : firstToSix t b ≡ 0 → ⊥ = λ z. c .if1 .taken (c .before .number .ensures ∙ q ∙ z) in
-    rw q (refused-is t b other)
+    let is = first-of n in
+    rw (sym (n .number .ensures) ∙ is) (refused-is t (now (a .rec)) (λ z. c .if1 .taken (is ∙ z)))
 
-take-create-requires : tie.Need-take-create-requires
-take-create-requires c κs =
-    let s5 = c .before .before .before .before .before in
-    let s6 = s5 .before in
-    let s = s6 .before .before .before .before .before in
-    let a = s .args in
-    let t = tablesOf (a .c) (now (a .records)) (now (a .objects)) (now (a .groups)) in
-    let b = now (a .rec) in
-    let r = s6 .refusal in
-    let q : numberOf (r .result) ≡ firstToSix t b
-    = r .ensures ∙ first-is t (s .pre .0) b (a .e) (s .pre .1) (a .v) (s .pre .2) (a .j) (s .pre .3) in
-    let z : firstToSix t b ≡ 0 = sym q ∙ sym (s5 .number .ensures) ∙ c .before .before .before .before .if1 .left in
-    create-given t (s .pre .0) b (a .e) (s .pre .1) z (eq-eqb (a .e .kind) createKind (c .before .before .if2 .taken))
+byte-at-requires : tie.Need-byte-at-requires
+byte-at-requires c κs = search needs
+
+is-set-kind-requires : tie.Need-is-set-kind-requires
+is-set-kind-requires c κs = search needs
+
+take-set-requires : tie.Need-take-set-requires
+take-set-requires c κs =
+    let z = c .before .before .before .before .before .before in
+    let n = z .before in
+    record {
+      inHand = start-of n .pre;
+      passes = sym (first-of n) ∙ z .if1 .left;
+      set = rw (c .before .before .before .before .before .byte-at .ensures) at
+          (sym (c .before .before .before .before .is-set-kind .ensures) ∙ c .before .before .before .if2 .taken);
+    }
 
 same-length : tie.Need-same-length
 same-length c = search needs
@@ -51,45 +68,28 @@ same-length c = search needs
 same-length-2 : tie.Need-same-length-2
 same-length-2 c = search needs
 
-returns-2 : tie.Need-returns-2
-returns-2 c =
-    let s7 = c .before .before .before .before .before .before .before in
-    let s9 = s7 .before .before in
-    let s10 = s9 .before in
-    let s11 = s10 .before in
-    let s = s11 .before .before .before .before .before in
-    let a = s .args in
-    let t = tablesOf (a .c) (now (a .records)) (now (a .objects)) (now (a .groups)) in
-    let b = now (a .rec) in
-    let r = s11 .refusal in
-    let q : numberOf (r .result) ≡ firstToSix t b
-    = r .ensures ∙ first-is t (s .pre .0) b (a .e) (s .pre .1) (a .v) (s .pre .2) (a .j) (s .pre .3) in
-    let z : firstToSix t b ≡ 0 = sym q ∙ sym (s10 .number .ensures) ∙ s9 .if1 .left in
-    let m = c .before .before .before .before .take-create in
-    rw (m .ensures .0, m .ensures .1, m .ensures .2)
-    (create-taken t (s .pre .0) b (a .e) (s .pre .1) z (eq-eqb (a .e .kind) createKind (s7 .if2 .taken)))
-
-is-set-kind-requires : tie.Need-is-set-kind-requires
-is-set-kind-requires c κs = search needs
-
-take-set-requires : tie.Need-take-set-requires
-take-set-requires c κs =
-    let s7 = c .before .before .before .before .before .before .before in
-    let s8 = s7 .before in
-    let s9 = s8 .before in
-    let s = s9 .before .before .before .before .before in
-    let a = s .args in
-    let t = tablesOf (a .c) (now (a .records)) (now (a .objects)) (now (a .groups)) in
-    let b = now (a .rec) in
-    let r = s9 .refusal in
-    let q : numberOf (r .result) ≡ firstToSix t b
-    = r .ensures ∙ first-is t (s .pre .0) b (a .e) (s .pre .1) (a .v) (s .pre .2) (a .j) (s .pre .3) in
-    let z : firstToSix t b ≡ 0 = sym q ∙ sym (s8 .number .ensures) ∙ s7 .if1 .left in
-    set-ready t (s .pre .0) b (a .e) (s .pre .1) z (a .v) (s .pre .2) (a .j) (s .pre .3)
-    (sym (c .before .before .before .before .is-set-kind .ensures) ∙ c .before .before .before .if3 .taken)
-
 same-length-3 : tie.Need-same-length-3
 same-length-3 c = search needs
+
+returns-2 : tie.Need-returns-2
+returns-2 c = search needs
+
+byte-at-requires-2 : tie.Need-byte-at-requires-2
+byte-at-requires-2 c κs = search needs
+
+take-create-requires : tie.Need-take-create-requires
+take-create-requires c κs =
+    let z = c .before .before .before .before .before .before .before in
+    let n = z .before in
+    let s = start-of n in
+    let a = s .args in
+    let t = tablesOf (a .c) (now (a .records)) (now (a .objects)) (now (a .groups)) in
+    let b = now (a .rec) in
+    let k : isCreate (decodeOf b) ≡ true
+    = eq-eqb (decodeOf b .kind) createKind (sym (c .before .before .before .before .before .before .byte-at .ensures)
+    ∙ c .before .before .if3 .taken) in
+    rw (c .before .before .before .byte-at2 .ensures)
+    (create-given t b (a .v) (a .j) (a .apart) (s .pre) (sym (first-of n) ∙ z .if1 .left) k)
 
 same-length-4 : tie.Need-same-length-4
 same-length-4 c = search needs
@@ -99,46 +99,50 @@ same-length-5 c = search needs
 
 returns-3 : tie.Need-returns-3
 returns-3 c =
-    let s6 = c .before .before .before .before .before .before in
-    s6 .take-set .ensures
-
-take-layer-requires : tie.Need-take-layer-requires
-take-layer-requires c κs =
-    let s5 = c .before .before .before .before .before in
-    let s6 = s5 .before in
-    let s7 = s6 .before in
-    let s = s7 .before .before .before .before .before in
+    let y = c .before .before .before .before .before .before .before in
+    let z = y .before .before .before .before .before in
+    let n = z .before in
+    let s = start-of n in
     let a = s .args in
     let t = tablesOf (a .c) (now (a .records)) (now (a .objects)) (now (a .groups)) in
     let b = now (a .rec) in
-    let r = s7 .refusal in
-    let q : numberOf (r .result) ≡ firstToSix t b
-    = r .ensures ∙ first-is t (s .pre .0) b (a .e) (s .pre .1) (a .v) (s .pre .2) (a .j) (s .pre .3) in
-    let z : firstToSix t b ≡ 0 = sym q ∙ sym (s6 .number .ensures) ∙ s5 .if1 .left in
-    layer-given t (s .pre .0) b (a .e) (s .pre .1) z
+    let k : isCreate (decodeOf b) ≡ true
+    = eq-eqb (decodeOf b .kind) createKind (sym (y .before .before .before .before .byte-at .ensures)
+    ∙ y .if3 .taken) in
+    let m = c .before .before .before .before .take-create in
+    rw (m .ensures .0, m .ensures .1, m .ensures .2, y .before .byte-at2 .ensures)
+    (create-taken t b (a .v) (a .j) (a .apart) (s .pre) (sym (first-of n) ∙ z .if1 .left) k)
+
+take-layer-requires : tie.Need-take-layer-requires
+take-layer-requires c κs =
+    let z = c .before .before .before .before .before .before in
+    let n = z .before in
+    let s = start-of n in
+    let a = s .args in
+    let t = tablesOf (a .c) (now (a .records)) (now (a .objects)) (now (a .groups)) in
+    rw (c .before .before .byte-at2 .ensures)
+    (layer-given t (now (a .rec)) (a .v) (a .j) (a .apart) (s .pre) (sym (first-of n) ∙ z .if1 .left))
 
 same-length-6 : tie.Need-same-length-6
 same-length-6 c = search needs
 
 returns-4 : tie.Need-returns-4
 returns-4 c =
-    let s4 = c .before .before .before .before in
-    let s6 = s4 .before .before in
-    let s8 = s6 .before .before in
-    let s9 = s8 .before in
-    let s10 = s9 .before in
-    let s = s10 .before .before .before .before .before in
+    let y = c .before .before .before .before in
+    let z = y .before .before .before .before .before in
+    let n = z .before in
+    let s = start-of n in
     let a = s .args in
     let t = tablesOf (a .c) (now (a .records)) (now (a .objects)) (now (a .groups)) in
     let b = now (a .rec) in
-    let r = s10 .refusal in
-    let q : numberOf (r .result) ≡ firstToSix t b
-    = r .ensures ∙ first-is t (s .pre .0) b (a .e) (s .pre .1) (a .v) (s .pre .2) (a .j) (s .pre .3) in
-    let z : firstToSix t b ≡ 0 = sym q ∙ sym (s9 .number .ensures) ∙ s8 .if1 .left in
+    let kind = y .before .before .before .before .byte-at .ensures in
+    let create : isCreate (decodeOf b) ≡ false
+    = ne-eqb (decodeOf b .kind) createKind (λ e. y .if3 .left (kind ∙ e)) in
+    let set : isSet (decodeOf b) ≡ false
+    = rw kind at (sym (y .before .before .before .is-set-kind .ensures) ∙ y .before .before .if2 .left) in
     let m = c .before .before .take-layer in
-    rw (m .ensures .0, m .ensures .1)
-    (layer-taken t (s .pre .0) b (a .e) (s .pre .1) z (ne-eqb (a .e .kind) createKind (s6 .if2 .left))
-    (sym (s4 .before .is-set-kind .ensures) ∙ s4 .if3 .left))
+    rw (m .ensures .0, m .ensures .1, y .before .byte-at2 .ensures)
+    (layer-taken t b (a .v) (a .j) (a .apart) (s .pre) (sym (first-of n) ∙ z .if1 .left) create set)
 
 pub accept-spec : {M : Type 1} → statement M
 accept-spec =
@@ -147,13 +151,15 @@ accept-spec =
     refusal-requires
     number-requires
     returns
-    take-create-requires
-    same-length
-    same-length-2
-    returns-2
+    byte-at-requires
     is-set-kind-requires
     take-set-requires
+    same-length
+    same-length-2
     same-length-3
+    returns-2
+    byte-at-requires-2
+    take-create-requires
     same-length-4
     same-length-5
     returns-3

@@ -1,5 +1,4 @@
--- `table_arrival::is_full` meets its contract. The file is here so that an edit of a limit is refused at `returns`.
--- Assumes nothing.
+-- `table_arrival::is_full` meets its contract. Assumes nothing.
 use borrow.Author.Needs.{needs}
 use Rattle.table_arrival.proofs.is_full.Statement.{statement}
 use Rattle.table_arrival.proofs.is_full.Tie as tie

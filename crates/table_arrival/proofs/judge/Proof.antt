@@ -1,30 +1,39 @@
 -- `table_arrival::judge` meets its contract. Assumes nothing.
-use mathlib.Core.Path.{subst}
+use mathlib.Core.Path.{_≡_, subst, ap, _∙_}
 use mathlib.Core.List.{List}
 use Prim.Native.Nat.{_≤_}
+use lib.ListN.{length}
 use denote.Ref.{now}
 use borrow.Author.Needs.{needs}
 use Rattle.edit_record.specs.declared.Edit.{Edit}
-use Rattle.edit_history.specs.EditsHeld.{editsOf}
+use Rattle.edit_record.specs.RecordBytes.{decodeOf}
+use Rattle.edit_history.specs.EditsHeld.{editsOf, setsOn}
 use Rattle.group_step.specs.GroupRows.{mostSets}
 use Rattle.group_limited.specs.LimitedForms.{JudgedOf}
 use Rattle.table_arrival.proofs.JudgedPlainly.{judged-plainly}
 use Rattle.table_arrival.proofs.judge.Statement.{statement}
 use Rattle.table_arrival.proofs.judge.Tie as tie
 
+byte-at-requires : tie.Need-byte-at-requires
+byte-at-requires c κs = search needs
+
 returns : tie.Need-returns
 returns c =
-    let s = c .before .before .before .before in
+    let s = c .before .before .before .before .before in
     let a = s .args in
-    judged-plainly (editsOf (now (a .recs)) (a .n)) (a .e) (a .v) (s .pre .2) (c .if1 .taken)
+    judged-plainly (editsOf (now (a .recs)) (a .n)) (decodeOf (now (a .rec))) (a .v) (s .pre .2)
+    (rw (c .before .before .byte-at .ensures) at (c .if1 .taken))
+
+decode-requires : tie.Need-decode-requires
+decode-requires c κs = search needs
 
 slice-aggregate-put-places : tie.Need-slice-aggregate-put-places
 slice-aggregate-put-places c = search needs
 
 put-places-requires : tie.Need-put-places-requires
 put-places-requires c κs =
-    let s = c .before .before .before .before .before in
-    (s .pre .0, s .pre .1)
+    let s = c .before .before .before .before .before .before .before in
+    (s .pre .0, rw (c .before .decode .ensures) (s .pre .1))
 
 slice-aggregate-judge : tie.Need-slice-aggregate-judge
 slice-aggregate-judge c = search needs
@@ -32,22 +41,31 @@ slice-aggregate-judge c = search needs
 judge-requires : tie.Need-judge-requires
 judge-requires c κs =
     let p = c .before .before .put-places in
+    let s = c .before .before .before .before .before .before .before .before .before .before in
     let few : p .result ≤ mostSets
-    = rw (p .ensures .1) (c .before .before .before .before .before .before .before .before .pre .1) in
+    = rw (p .ensures .1, c .before .before .before .before .decode .ensures) (s .pre .1) in
     (few, search (needs, few))
 
 returns-2 : tie.Need-returns-2
 returns-2 c =
-    let a = c .before .before .before .before .before .before .before .before .before .args in
-    subst (λ (ms : List Edit). JudgedOf ms (a .e) (c .judge .result))
+    let s = c .before .before .before .before .before .before .before .before .before .before .before in
+    let a = s .args in
+    let es = editsOf (now (a .recs)) (a .n) in
+    let e = c .before .before .before .before .before .decode in
+    let of : JudgedOf (setsOn (e .result .tsite) (e .result .tseq) es) (e .result) (c .judge .result)
+    = subst (λ (ms : List Edit). JudgedOf ms (e .result) (c .judge .result))
     (c .before .before .before .put-places .ensures .0)
-    (c .judge .ensures)
+    (c .judge .ensures) in
+    let own = subst (λ (x : Edit). JudgedOf (setsOn (x .tsite) (x .tseq) es) x (c .judge .result)) (e .ensures) of in
+    record { nameless = own .nameless; conflicts = λ found. own .conflicts }
 
 pub judge-spec : {M : Type 1} → statement M
 judge-spec =
     tie.close
     (tie.spec
+    byte-at-requires
     returns
+    decode-requires
     slice-aggregate-put-places
     put-places-requires
     slice-aggregate-judge

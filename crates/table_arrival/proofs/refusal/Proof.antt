@@ -3,20 +3,11 @@ use borrow.Author.Needs.{needs}
 use Rattle.table_arrival.proofs.refusal.Statement.{statement}
 use Rattle.table_arrival.proofs.refusal.Tie as tie
 
-span-of-requires : tie.Need-span-of-requires
-span-of-requires c κs = search needs
+byte-at-requires : tie.Need-byte-at-requires
+byte-at-requires c κs = search needs
 
-is-unfit-requires : tie.Need-is-unfit-requires
-is-unfit-requires c κs = search needs
-
-is-repeated-requires : tie.Need-is-repeated-requires
-is-repeated-requires c κs = search needs
-
-is-early-requires : tie.Need-is-early-requires
-is-early-requires c κs = search needs
-
-is-aimed-requires : tie.Need-is-aimed-requires
-is-aimed-requires c κs = search needs
+is-aimed-kind-requires : tie.Need-is-aimed-kind-requires
+is-aimed-kind-requires c κs = search needs
 
 is-full-requires : tie.Need-is-full-requires
 is-full-requires c κs = search needs
@@ -26,15 +17,10 @@ first-reason-requires c κs = search needs
 
 returns : tie.Need-returns
 returns c =
-    let f = c .before in
-    let e = f .before .before .before in
     rw (
-      f .is-full .ensures,
-      f .before .before .is-aimed .ensures,
-      e .is-early .ensures,
-      e .before .is-repeated .ensures,
-      e .before .before .is-unfit .ensures,
-      e .before .before .before .span-of .ensures,
+      c .before .is-full .ensures,
+      c .before .before .before .is-aimed-kind .ensures,
+      c .before .before .before .before .byte-at .ensures,
     ) at
     (c .first-reason .ensures)
 
@@ -42,11 +28,8 @@ pub refusal-spec : {M : Type 1} → statement M
 refusal-spec =
     tie.close
     (tie.spec
-    span-of-requires
-    is-unfit-requires
-    is-repeated-requires
-    is-early-requires
-    is-aimed-requires
+    byte-at-requires
+    is-aimed-kind-requires
     is-full-requires
     first-reason-requires
     returns)

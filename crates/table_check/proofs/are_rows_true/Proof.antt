@@ -9,7 +9,6 @@ use Rattle.table_drawing.specs.Tables.{tablesOf}
 use Rattle.table_soundness.proofs.SoundFacts.{sound-at}
 use Rattle.table_soundness.proofs.SoundTests.{targeted}
 use Rattle.table_check.specs.CheckForms.{rowTrue, rowsTrue}
-use Rattle.table_check.proofs.RowWorkedOut.{aims-tell}
 use borrow.Author.Needs.{needs}
 use Rattle.table_check.proofs.are_rows_true.Statement.{statement}
 use Rattle.table_check.proofs.are_rows_true.Tie as tie
@@ -27,15 +26,20 @@ cast-n c = search needs
 cast-m : tie.Need-cast-m Inv-loop μ-loop
 cast-m c = search needs
 
-slice-aggregate-note-aims : tie.Need-slice-aggregate-note-aims Inv-loop μ-loop
-slice-aggregate-note-aims c = search needs
+slice-aggregate-chain-sets : tie.Need-slice-aggregate-chain-sets Inv-loop μ-loop
+slice-aggregate-chain-sets c = search needs
 
-note-aims-requires : tie.Need-note-aims-requires Inv-loop μ-loop
-note-aims-requires c κs =
+chain-sets-requires : tie.Need-chain-sets-requires Inv-loop μ-loop
+chain-sets-requires c κs =
     let s = c .before .before .before .before .before .before .before in
     let a = s .args in
     let t = tablesOf (a .c) (now (a .records)) (now (a .objects)) (now (a .groups)) in
-    (sound-at t (s .pre .0) .few-records, refl)
+    let sound = sound-at t (s .pre .0) in (
+      sound .few-records,
+      sound .few-records,
+      s .pre .1,
+      targeted (a .c .sites) (now (a .records)) (a .c .records) (sound .pass),
+    )
 
 loop-holds : tie.Need-loop-holds Inv-loop μ-loop
 unfolding all
@@ -47,17 +51,7 @@ slice-aggregate-is-row-true c = search needs
 is-row-true-requires : tie.Need-is-row-true-requires Inv-loop μ-loop
 is-row-true-requires c κs =
     let b = c .before .before .before .before in
-    let s = b .before .before .before .before .before .before .before .before in
-    let a = s .args in
-    let noted = b .note-aims in
-    let t = tablesOf (a .c) (now (a .records)) (now (a .objects)) (now (a .groups)) in
-    let sound = sound-at t (s .pre .0) in (
-      s .pre .0,
-      omega arith,
-      noted .kept .1 .1 .1 .0,
-      aims-tell (now (a .records)) (now (a .places)) (noted .last .1 .1 .1 .0) (a .c .records) (sound .few-records)
-          (s .pre .1) (targeted (a .c .sites) (now (a .records)) (a .c .records) (sound .pass)) (noted .ensures),
-    )
+    (b .before .before .before .before .before .before .before .before .pre .0, omega arith, b .chain-sets .ensures)
 
 add-o : tie.Need-add-o Inv-loop μ-loop
 add-o c = search needs
@@ -85,8 +79,8 @@ are-rows-true-spec =
     μ-loop
     cast-n
     cast-m
-    slice-aggregate-note-aims
-    note-aims-requires
+    slice-aggregate-chain-sets
+    chain-sets-requires
     loop-holds
     slice-aggregate-is-row-true
     is-row-true-requires

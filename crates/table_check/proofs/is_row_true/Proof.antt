@@ -1,9 +1,12 @@
 -- `table_check::is_row_true` meets its contract; the Sets are proper in turn, as `work_out` asks. Assumes nothing.
+use Prim.Native.Nat.{_≤_}
 use native.Mathlib.Omega.{arith}
+use lib.ListN.{length}
 use denote.Ref.{now}
 use Rattle.table_drawing.specs.Tables.{tablesOf}
 use Rattle.table_soundness.proofs.SoundFacts.{sound-at}
-use Rattle.table_check.proofs.RowWorkedOut.{few-aimed, aimed-in-turn, row-fits-in, too-many, row-decides}
+use Rattle.table_check.proofs.RowWorkedOut.{few-sets, places-are, places-in-turn, row-fits-in}
+use Rattle.table_check.proofs.RowWorkedOut.{too-many, row-decides}
 use borrow.Author.Needs.{needs}
 use Rattle.table_check.proofs.is_row_true.Statement.{statement}
 use Rattle.table_check.proofs.is_row_true.Tie as tie
@@ -20,40 +23,57 @@ add-at16 c = search needs
 at16-requires-2 : tie.Need-at16-requires-2
 at16-requires-2 c κs = search needs
 
-cast-gather : tie.Need-cast-gather
-cast-gather c = search needs
+add-at16-2 : tie.Need-add-at16-2
+add-at16-2 c = search needs
 
-slice-aggregate-gather : tie.Need-slice-aggregate-gather
-slice-aggregate-gather c = search needs
+at16-requires-3 : tie.Need-at16-requires-3
+at16-requires-3 c κs = search needs
 
-gather-requires : tie.Need-gather-requires
-gather-requires c κs =
+cast-gather-sets : tie.Need-cast-gather-sets
+cast-gather-sets c = search needs
+
+cast-gather-sets-2 : tie.Need-cast-gather-sets-2
+cast-gather-sets-2 c = search needs
+
+slice-aggregate-gather-sets : tie.Need-slice-aggregate-gather-sets
+slice-aggregate-gather-sets c = search needs
+
+gather-sets-requires : tie.Need-gather-sets-requires
+gather-sets-requires c κs =
     let s = c .before .before .before .before .before .before .before .before in
     let a = s .args in
-    let t = tablesOf (a .c) (now (a .records)) (now (a .objects)) (now (a .groups)) in
-    let sound = sound-at t (s .pre .0) in
-    let few = few-aimed t sound (now (a .aims)) (s .pre .3) (a .o) (s .pre .1) in
     let p = c .before .before .before .at16 in
-    (omega (arith, s .pre .2, sound .few-records), sound .few-records, rw (p .ensures) few)
+    let k = c .before .before .at162 in
+    let t = tablesOf (a .c) (now (a .records)) (now (a .objects)) (now (a .groups)) in
+    few-sets t (sound-at t (s .pre .0)) (a .o) (s .pre .1) (p .result) (k .result) (p .ensures) (k .ensures)
 
 slice-aggregate-work-out : tie.Need-slice-aggregate-work-out
 slice-aggregate-work-out c = search needs
+
+cast-work-out : tie.Need-cast-work-out
+cast-work-out c = search needs
 
 slice-aggregate-work-out-2 : tie.Need-slice-aggregate-work-out-2
 slice-aggregate-work-out-2 c = search needs
 
 work-out-requires : tie.Need-work-out-requires
 work-out-requires c κs =
-    let b = c .before .before .before .before .before .before .before in
-    let s = b .before .before .before .before .before in
+    let b = c .before .before .before in
+    let s = b .before .before .before .before .before .before .before .before .before in
     let a = s .args in
-    let g = c .before .before .before .gather in
-    let t = tablesOf (a .c) (now (a .records)) (now (a .objects)) (now (a .groups)) in (
+    let p = b .before .before .before .before .at16 in
+    let k = b .before .before .before .at162 in
+    let t = tablesOf (a .c) (now (a .records)) (now (a .objects)) (now (a .groups)) in
+    let sound = sound-at t (s .pre .0) in
+    let e = places-are t sound (a .o) (s .pre .1) (p .result) (k .result) (p .ensures) (k .ensures)
+    (now (a .chain)) _ (s .pre .2) (b .gather-sets .ensures) in
+    let few = few-sets t sound (a .o) (s .pre .1) (p .result) (k .result) (p .ensures) (k .ensures) in
+    let g = b .gather-sets in
+    let room : k .result ≤ length (g .last .1 .1 .1 .0) = omega (arith, g .kept .1 .1 .1 .0) in (
+      room,
+      few,
       search needs,
-      search needs,
-      search needs,
-      aimed-in-turn t (sound-at t (s .pre .0)) (now (a .aims)) (s .pre .3) (a .o) (s .pre .1) _ (g .result)
-          (search needs) (rw (b .at16 .ensures) at (g .ensures .0)),
+      places-in-turn t sound (a .o) (s .pre .1) (p .result) (k .result) (p .ensures) (k .ensures) _ room e,
     )
 
 returns : tie.Need-returns
@@ -61,12 +81,15 @@ returns c =
     let b = c .before .before .before .before .before .before in
     let s = b .before .before .before .before .before .before .before .before .before in
     let a = s .args in
-    let g = b .gather in
-    let w = c .before .before .work-out in
+    let p = b .before .before .before .before .at16 in
+    let k = b .before .before .before .at162 in
     let t = tablesOf (a .c) (now (a .records)) (now (a .objects)) (now (a .groups)) in
     let sound = sound-at t (s .pre .0) in
-    too-many t sound (now (a .aims)) (s .pre .3) (a .o) (s .pre .1) _ _ (g .result) (w .result)
-    (rw (b .before .before .before .before .at16 .ensures) at (g .ensures .0)) (w .ensures) (c .if1 .taken)
+    let e = places-are t sound (a .o) (s .pre .1) (p .result) (k .result) (p .ensures) (k .ensures)
+    (now (a .chain)) _ (s .pre .2) (b .gather-sets .ensures) in
+    let w = c .before .before .work-out in
+    too-many t sound (a .o) (s .pre .1) (p .result) (k .result) (p .ensures) (k .ensures) _ _ (w .result) e
+    (w .ensures) (c .if1 .taken)
 
 cast-is-row : tie.Need-cast-is-row
 cast-is-row c = search needs
@@ -76,14 +99,15 @@ slice-aggregate-is-row c = search needs
 
 is-row-requires : tie.Need-is-row-requires
 is-row-requires c κs =
-    let b = c .before .before .before .before .before .before .before .before .before .before in
-    let s = b .before .before .before .before .before .before in
+    let b = c .before .before .before .before .before .before .before in
+    let s = b .before .before .before .before .before .before .before .before .before in
     let a = s .args in
+    let p = b .before .before .before .before .at16 in
+    let k = b .before .before .before .at162 in
     let t = tablesOf (a .c) (now (a .records)) (now (a .objects)) (now (a .groups)) in
-    let sound = sound-at t (s .pre .0) in
-    let x = sound .object (a .o) (s .pre .1) in (
-      row-fits-in t sound (now (a .aims)) (s .pre .3) (a .o) (s .pre .1),
-      rw (b .at162 .ensures) (x .row .few),
+    let sound = sound-at t (s .pre .0) in (
+      row-fits-in t sound (a .o) (s .pre .1) (p .result) (k .result) (p .ensures) (k .ensures),
+      rw (b .before .before .at163 .ensures) (sound .object (a .o) (s .pre .1) .row .few),
       omega (arith, c .before .before .before .work-out .kept .1 .1 .1 .0),
     )
 
@@ -92,13 +116,15 @@ returns-2 c =
     let b = c .before .before .before .before .before .before .before .before in
     let s = b .before .before .before .before .before .before .before .before .before in
     let a = s .args in
-    let g = b .gather in
-    let w = c .before .before .before .before .work-out in
+    let p = b .before .before .before .before .at16 in
+    let k = b .before .before .before .at162 in
     let t = tablesOf (a .c) (now (a .records)) (now (a .objects)) (now (a .groups)) in
     let sound = sound-at t (s .pre .0) in
-    row-decides t sound (now (a .aims)) (s .pre .3) (a .o) (s .pre .1) _ _ (g .result) (w .result)
-    (rw (b .before .before .before .before .at16 .ensures) at (g .ensures .0)) (w .ensures) (c .is-row .result)
-    (omega arith) (rw (b .before .before .before .at162 .ensures) at (c .is-row .ensures))
+    let e = places-are t sound (a .o) (s .pre .1) (p .result) (k .result) (p .ensures) (k .ensures)
+    (now (a .chain)) _ (s .pre .2) (b .gather-sets .ensures) in
+    let w = c .before .before .before .before .work-out in
+    row-decides t sound (a .o) (s .pre .1) (p .result) (k .result) (p .ensures) (k .ensures) _ _ (w .result) e
+    (w .ensures) (c .is-row .result) (omega arith) (rw (b .before .before .at163 .ensures) at (c .is-row .ensures))
 
 pub is-row-true-spec : {M : Type 1} → statement M
 is-row-true-spec =
@@ -108,10 +134,14 @@ is-row-true-spec =
     at16-requires
     add-at16
     at16-requires-2
-    cast-gather
-    slice-aggregate-gather
-    gather-requires
+    add-at16-2
+    at16-requires-3
+    cast-gather-sets
+    cast-gather-sets-2
+    slice-aggregate-gather-sets
+    gather-sets-requires
     slice-aggregate-work-out
+    cast-work-out
     slice-aggregate-work-out-2
     work-out-requires
     returns

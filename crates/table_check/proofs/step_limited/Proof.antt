@@ -10,7 +10,8 @@ use Rattle.group_step.specs.GroupRows.{mostGroups}
 use Rattle.group_limited.specs.LimitedForms.{setsIn, RowsTell}
 use Rattle.group_limited.proofs.RowsInPlaces.{no-rows, rows-more}
 use Rattle.table_check.specs.CheckForms.{groupsIn}
-use Rattle.table_check.proofs.RowWorkedOut.{groups-none, stepped, in-ascending, in-below, in-more, settled-front}
+use Rattle.table_check.proofs.RowWorkedOut.{groups-none, stepped, in-ascending, in-below, in-apart, in-more}
+use Rattle.table_check.proofs.RowWorkedOut.{settled-front}
 use Rattle.table_check.proofs.SetsInTurn.{told-are-all}
 use borrow.Author.Needs.{needs}
 use Rattle.table_check.proofs.step_limited.Statement.{statement}
@@ -57,8 +58,8 @@ decode-at-requires c κs = omega (arith, c .shared-slice-known3 .given (c .befor
 told-of-requires : tie.Need-told-of-requires Inv-loop μ-loop
 told-of-requires c κs = search needs
 
-step-row-requires : tie.Need-step-row-requires Inv-loop μ-loop
-step-row-requires c κs =
+step-apart-requires : tie.Need-step-apart-requires Inv-loop μ-loop
+step-apart-requires c κs =
     let l = c .before .before .before .before .before .before .before .loop in
     let a = c .before .before .before .before .before .before .before .before .before .before .before .before .before
     .args in (
@@ -67,6 +68,7 @@ step-row-requires c κs =
       omega arith,
       rw (l .inv .3) (in-ascending (now (a .recs)) (now (a .places)) (l .i)),
       rw (l .inv .3) (in-below (now (a .recs)) (now (a .places)) (l .i) (omega arith)),
+      rw (l .inv .3) (in-apart (now (a .recs)) (now (a .places)) (l .i)),
     )
 
 same-length : tie.Need-same-length Inv-loop μ-loop
@@ -94,7 +96,7 @@ returns c =
     (b .told-of .result) told in
     let next = stepped rs ps (l .i) (l .n) (l .gs) (omega arith)
     (none-itself _ (w .proper (l .i + 1) (omega arith))) (l .inv .3) (d .result) (d .ensures) _ all in
-    let r = c .before .before .before .step-row in
+    let r = c .before .before .before .step-apart in
     record {
       few = λ h. absurd (omega arith);
       many =
@@ -122,7 +124,7 @@ loop-again : tie.Need-loop-again Inv-loop μ-loop
 loop-again c =
     let p = c .before .before .before .before .put-told in
     let f = c .before .before .before .before .before .before .before .if1 in
-    let r = c .before .before .before .before .before .before .before .before .before .before .step-row in
+    let r = c .before .before .before .before .before .before .before .before .before .before .step-apart in
     let b = c .before .before .before .before .before .before .before .before .before .before .before .before in
     let d = b .before .before .before .decode-at in
     let y = b .before .before .before .before .before in
@@ -174,7 +176,7 @@ step-limited-spec =
     cast-decode-at
     decode-at-requires
     told-of-requires
-    step-row-requires
+    step-apart-requires
     same-length
     same-length-2
     same-length-3

@@ -1,13 +1,15 @@
 -- `table_check::step_plainly` meets its contract: after i Sets, their groups stand in front. Assumes nothing.
-use mathlib.Core.Path.{_≡_, sym, ap, _∙_}
+use mathlib.Core.Path.{_≡_, refl, sym, ap, _∙_}
 use Prim.Native.Nat.{_+_, _-_, _≤_}
 use native.Mathlib.Omega.{arith}
-use lib.ListN.{length, take}
+use lib.ListN.{length, getD, take}
 use denote.Ref.{now}
 use Rattle.edit_causal.proofs.ConflictsAmongSets.{none-itself}
+use Rattle.edit_history.specs.EditsHeld.{recordAt}
 use Rattle.group_step.specs.GroupRows.{mostGroups}
 use Rattle.table_check.specs.CheckForms.{groupsIn}
-use Rattle.table_check.proofs.RowWorkedOut.{groups-none, stepped, in-ascending, in-below, in-more, settled-front}
+use Rattle.table_check.proofs.RowWorkedOut.{groups-none, stepped, in-ascending, in-below, in-apart, in-more}
+use Rattle.table_check.proofs.RowWorkedOut.{settled-front}
 use Rattle.table_check.proofs.SetsInTurn.{plain-are-all}
 use borrow.Author.Needs.{needs}
 use Rattle.table_check.proofs.step_plainly.Statement.{statement}
@@ -26,31 +28,26 @@ loop-holds c =
     let a = s .args in
     (omega arith, s .pre .0, omega arith, s .pre .1 ∙ sym (groups-none (now (a .recs)) (now (a .places))))
 
-mul-decode-at : tie.Need-mul-decode-at Inv-loop μ-loop
-mul-decode-at c = search needs
+mul-marks-at : tie.Need-mul-marks-at Inv-loop μ-loop
+mul-marks-at c = search needs
 
-shared-slice-read-decode-at : tie.Need-shared-slice-read-decode-at Inv-loop μ-loop
-shared-slice-read-decode-at c = search needs
+shared-slice-read-marks-at : tie.Need-shared-slice-read-marks-at Inv-loop μ-loop
+shared-slice-read-marks-at c = search needs
 
-cast-decode-at : tie.Need-cast-decode-at Inv-loop μ-loop
-cast-decode-at c = omega (arith, c .shared-slice-known3 .given (c .before .before .loop .i))
+marks-at-requires : tie.Need-marks-at-requires Inv-loop μ-loop
+marks-at-requires c κs = search needs
 
-decode-at-requires : tie.Need-decode-at-requires Inv-loop μ-loop
-decode-at-requires c κs = omega (arith, c .shared-slice-known3 .given (c .before .before .loop .i))
-
-plain-marks-requires : tie.Need-plain-marks-requires Inv-loop μ-loop
-plain-marks-requires c κs = search needs
-
-step-row-requires : tie.Need-step-row-requires Inv-loop μ-loop
-step-row-requires c κs =
-    let s = c .before .before .before .before .before .before .before .before .before in
+step-apart-requires : tie.Need-step-apart-requires Inv-loop μ-loop
+step-apart-requires c κs =
+    let s = c .before .before .before .before .before .before .before .before in
     let a = s .args in
-    let l = c .before .before .before .before .before .loop in (
+    let l = c .before .before .before .before .loop in (
       l .inv .1,
       l .inv .2,
       omega arith,
       rw (l .inv .3) (in-ascending (now (a .recs)) (now (a .places)) (l .i)),
       rw (l .inv .3) (in-below (now (a .recs)) (now (a .places)) (l .i) (omega arith)),
+      rw (l .inv .3) (in-apart (now (a .recs)) (now (a .places)) (l .i)),
     )
 
 same-length : tie.Need-same-length Inv-loop μ-loop
@@ -59,17 +56,17 @@ same-length c = search needs
 returns : tie.Need-returns Inv-loop μ-loop
 returns c =
     let b = c .before .before .before .before .before in
-    let s = b .before .before .before .before .before .before .before .before in
+    let s = b .before .before .before .before .before .before .before in
     let a = s .args in
-    let l = b .before .before .before .before .loop in
-    let r = c .before .before .before .step-row in
-    let e = b .before .decode-at in
-    let m = b .plain-marks in
-    let next = stepped (now (a .recs)) (now (a .places)) (l .i) (l .n) (l .gs) (omega arith)
-    (none-itself _ (s .pre .4 .proper (l .i + 1) (omega arith))) (l .inv .3) (e .result) (e .ensures) (m .result)
-    (m .ensures
-    ∙ plain-are-all (now (a .recs)) (now (a .places)) (a .k) (s .pre .2) (l .i) (omega arith) (e .result) (e .ensures)
-    (s .pre .5)) in
+    let l = b .before .before .before .loop in
+    let r = c .before .before .before .step-apart in
+    let m = b .marks-at in
+    let rs = now (a .recs) in
+    let ps = now (a .places) in
+    let e = recordAt rs (getD ps (l .i) 0) in
+    let next = stepped rs ps (l .i) (l .n) (l .gs) (omega arith)
+    (none-itself _ (s .pre .4 .proper (l .i + 1) (omega arith))) (l .inv .3) e refl (m .result)
+    (m .ensures ∙ plain-are-all rs ps (a .k) (s .pre .2) (l .i) (omega arith) e refl (s .pre .5)) in
     record {
       few = λ h. absurd (omega arith);
       many =
@@ -77,8 +74,7 @@ returns c =
             arith,
             r .ensures .0,
             ap length next,
-            in-more (now (a .recs)) (now (a .places)) (l .i + 1) (a .k) (omega arith)
-                (none-itself _ (s .pre .4 .proper (a .k) (omega arith))),
+            in-more rs ps (l .i + 1) (a .k) (omega arith) (none-itself _ (s .pre .4 .proper (a .k) (omega arith))),
           );
     }
 
@@ -91,17 +87,17 @@ loop-less c = search needs
 loop-again : tie.Need-loop-again Inv-loop μ-loop
 loop-again c =
     let b = c .before .before .before .before .before in
-    let s = b .before .before .before .before .before .before .before .before in
+    let s = b .before .before .before .before .before .before .before in
     let a = s .args in
-    let l = b .before .before .before .before .loop in
-    let r = c .before .before .before .step-row in
-    let e = b .before .decode-at in
-    let m = b .plain-marks in
-    let next = stepped (now (a .recs)) (now (a .places)) (l .i) (l .n) (l .gs) (omega arith)
-    (none-itself _ (s .pre .4 .proper (l .i + 1) (omega arith))) (l .inv .3) (e .result) (e .ensures) (m .result)
-    (m .ensures
-    ∙ plain-are-all (now (a .recs)) (now (a .places)) (a .k) (s .pre .2) (l .i) (omega arith) (e .result) (e .ensures)
-    (s .pre .5)) in (
+    let l = b .before .before .before .loop in
+    let r = c .before .before .before .step-apart in
+    let m = b .marks-at in
+    let rs = now (a .recs) in
+    let ps = now (a .places) in
+    let e = recordAt rs (getD ps (l .i) 0) in
+    let next = stepped rs ps (l .i) (l .n) (l .gs) (omega arith)
+    (none-itself _ (s .pre .4 .proper (l .i + 1) (omega arith))) (l .inv .3) e refl (m .result)
+    (m .ensures ∙ plain-are-all rs ps (a .k) (s .pre .2) (l .i) (omega arith) e refl (s .pre .5)) in (
       omega arith,
       r .kept .0 ∙ l .inv .1,
       omega arith,
@@ -124,12 +120,10 @@ step-plainly-spec =
     Inv-loop
     μ-loop
     loop-holds
-    mul-decode-at
-    shared-slice-read-decode-at
-    cast-decode-at
-    decode-at-requires
-    plain-marks-requires
-    step-row-requires
+    mul-marks-at
+    shared-slice-read-marks-at
+    marks-at-requires
+    step-apart-requires
     same-length
     returns
     add-i

@@ -1,50 +1,40 @@
--- `table_engine::put_masks` meets its contract: the masks are the conflicts by the rows of the Sets. Assumes nothing.
-use denote.Ref.{now}
-use Rattle.table_engine.proofs.MasksOfSets.{masked}
+-- `table_engine::put_masks` meets its contract. Assumes nothing.
+use mathlib.Core.Path.{sym, _∙_}
 use borrow.Author.Needs.{needs}
 use Rattle.table_engine.proofs.put_masks.Statement.{statement}
 use Rattle.table_engine.proofs.put_masks.Tie as tie
 
-slice-aggregate-put-rows : tie.Need-slice-aggregate-put-rows
-slice-aggregate-put-rows c = search needs
+is-any-limited-requires : tie.Need-is-any-limited-requires
+is-any-limited-requires c κs = search needs
 
-slice-aggregate-put-rows-2 : tie.Need-slice-aggregate-put-rows-2
-slice-aggregate-put-rows-2 c = search needs
-
-put-rows-requires : tie.Need-put-rows-requires
-put-rows-requires c κs = search needs
-
-slice-aggregate-put-conflicts : tie.Need-slice-aggregate-put-conflicts
-slice-aggregate-put-conflicts c = search needs
-
-slice-aggregate-put-conflicts-2 : tie.Need-slice-aggregate-put-conflicts-2
-slice-aggregate-put-conflicts-2 c = search needs
-
-put-conflicts-requires : tie.Need-put-conflicts-requires
-put-conflicts-requires c κs = search needs
+put-by-rows-requires : tie.Need-put-by-rows-requires
+put-by-rows-requires c κs = search needs
 
 same-length : tie.Need-same-length
 same-length c = search needs
 
 returns : tie.Need-returns
-returns c =
-    let m = c .before .before .put-conflicts in
-    let r = c .before .before .before .before .before .before .before .before .put-rows in
-    let s = c .before .before .before .before .before .before .before .before .before .before .before .before .before
-    .before in
-    let a = s .args in
-    masked (now (a .recs)) (now (a .places)) (a .k) (s .pre .0) (s .pre .3) _ _ (m .last .0) (r .ensures)
-    (m .ensures)
+returns c = search needs
+
+put-plainly-requires : tie.Need-put-plainly-requires
+put-plainly-requires c κs =
+    let s = c .before .before .before .before .before .before in
+    (s .pre .0, s .pre .1, s .pre .2, sym (c .before .before .is-any-limited .ensures) ∙ c .before .if1 .left)
+
+same-length-2 : tie.Need-same-length-2
+same-length-2 c = search needs
+
+returns-2 : tie.Need-returns-2
+returns-2 c = search needs
 
 pub put-masks-spec : {M : Type 1} → statement M
 put-masks-spec =
     tie.close
     (tie.spec
-    slice-aggregate-put-rows
-    slice-aggregate-put-rows-2
-    put-rows-requires
-    slice-aggregate-put-conflicts
-    slice-aggregate-put-conflicts-2
-    put-conflicts-requires
+    is-any-limited-requires
+    put-by-rows-requires
     same-length
-    returns)
+    returns
+    put-plainly-requires
+    same-length-2
+    returns-2)

@@ -1,47 +1,90 @@
 -- `table_replay::take_next` meets its contract: what an accepted record leaves holds what the index needs to take it
 -- in. Assumes nothing.
 use mathlib.Core.Path.{_≡_, sym, _∙_}
+use Prim.Native.Nat.{_≤_}
 use native.Mathlib.Omega.{arith}
+use lib.ListN.{length}
 use denote.Ref.{now}
+use borrow.Author.Needs.{needs}
+use Rattle.edit_record.specs.Layout.{recordLength}
+use Rattle.edit_record.specs.RecordBytes.{decodeOf}
+use Rattle.edit_record.proofs.RecordSpans.{span-least}
 use Rattle.table_drawing.specs.Tables.{tablesOf}
 use Rattle.table_drawing.specs.AnswerNumbers.{numberOf}
-use Rattle.table_arrival.proofs.CodeInHand.{surveyable, holds}
+use Rattle.table_arrival.specs.Answers6and7.{firstOf, inTurn}
+use Rattle.table_arrival.specs.ArrivalForms.{threeBy}
+use Rattle.table_arrival.proofs.CodeInHand.{surveyable, early-refused, holds}
+use Rattle.table_arrival.proofs.SixByCounters.{none-of-three}
 use Rattle.table_replay.proofs.IndexGoesAlong.{counted-on, room-on, holds-on, index-on, numbered-on}
-use borrow.Author.Needs.{needs}
 use Rattle.table_replay.proofs.take_next.Statement.{statement}
 use Rattle.table_replay.proofs.take_next.Tie as tie
 
-decode-requires : tie.Need-decode-requires
-decode-requires c κs = search needs
+-- the start, and the first of 1 to 3
+abbrev start-of : tie.After-number → tie.Start
+start-of c = c .before .before .before .before .before .before .before .before .before .before
+
+three : (c : tie.After-number) →
+    let a = start-of c .args in
+    c .number .result ≡ firstOf inTurn (threeBy (a .c) (now (a .rec)))
+three c = c .number .ensures ∙ c .before .one-to-three .ensures .0
+
+one-to-three-requires : tie.Need-one-to-three-requires
+one-to-three-requires c κs = search needs
+
+number-requires : tie.Need-number-requires
+number-requires c κs = search needs
+
+returns : tie.Need-returns
+returns c =
+    let n = c .before in
+    let a = start-of n .args in
+    let t = tablesOf (a .c) (now (a .records)) (now (a .objects)) (now (a .groups)) in
+    let some : firstOf inTurn (threeBy (a .c) (now (a .rec))) ≡ 0 → ⊥ = λ z. c .if1 .taken (three n ∙ z) in
+    let is = n .before .one-to-three .ensures .0 in
+    record {
+      outcome = rw is (early-refused t (start-of n .pre .isSound) (now (a .rec)) some);
+      index = λ z. absurd (some (sym is ∙ z));
+      starts = λ z. absurd (some (sym is ∙ z));
+    }
 
 survey-requires : tie.Need-survey-requires
 survey-requires c κs =
-    let s10 = c .before .before .before .before .before .before .before .before .before .before in
-    let s = s10 .before .before .before .before in
+    let n = c .before .before .before .before .before .before in
+    let s = start-of n in
     let a = s .args in
-    (holds (tablesOf (a .c) (now (a .records)) (now (a .objects)) (now (a .groups))) (s .pre .isSound), s .pre .index)
+    let t = tablesOf (a .c) (now (a .records)) (now (a .objects)) (now (a .groups)) in
+    let b = now (a .rec) in
+    let (whole, timely)
+    = none-of-three (a .c) b (sym (three n) ∙ c .before .before .before .before .before .if1 .left) in
+    let long : recordLength ≤ length b = omega (arith, whole, span-least b) in
+    (holds t (s .pre .isSound), s .pre .index, long, timely, s .pre .wide)
 
 cast-judge : tie.Need-cast-judge
 cast-judge c = search needs
 
 judge-requires : tie.Need-judge-requires
 judge-requires c κs =
-    let s8 = c .before .before .before .before .before .before .before .before in
-    let s = s8 .before .before .before .before .before .before .before .before .before in
+    let n = c .before .before .before .before .before .before .before .before .before in
+    let s = start-of n in
     let a = s .args in
     let t = tablesOf (a .c) (now (a .records)) (now (a .objects)) (now (a .groups)) in
-    let (few, sets) = surveyable t (s .pre .isSound) (s8 .decode .result) in
+    let (few, sets) = surveyable t (s .pre .isSound) (decodeOf (now (a .rec))) in
     (few, sets, c .before .before .survey .ensures)
 
 accept-requires : tie.Need-accept-requires
 accept-requires c κs =
-    let s6 = c .before .before .before .before .before .before in
-    let s12 = s6 .before .before .before .before .before .before in
-    let s = s12 .before .before .before .before .before .before .before .before .before in
-    (s .pre .isSound, s12 .decode .ensures, s6 .survey .ensures, c .before .before .before .judge .ensures)
+    let z = c .before .before .before .before .before .before in
+    let n = z .before .before .before .before .before .before .before in
+    record {
+      isSound = start-of n .pre .isSound;
+      timely = sym (three n) ∙ z .before .before .before .before .before .before .if1 .left;
+      surveyed = z .survey .ensures;
+      judged = c .before .before .before .judge .ensures;
+      rows = λ h. start-of n .pre .apart;
+    }
 
-number-requires : tie.Need-number-requires
-number-requires c κs = search needs
+number-requires-2 : tie.Need-number-requires-2
+number-requires-2 c κs = search needs
 
 cast-add : tie.Need-cast-add
 cast-add c = search needs
@@ -51,14 +94,12 @@ add-requires c κs =
     let s6 = c .before .before .before .before .before .before in
     let s7 = s6 .before in
     let s14 = s7 .before .before .before .before .before .before .before in
-    let s27 = s14 .before .before .before .before .before .before .before .before .before .before .before .before
-    .before in
-    let s = s27 .before .before .before .before .before .before .before .before .before in
+    let s = start-of (s14 .before .before .before .before .before .before .before .before .before .before .before .before .before .before) in
     let a = s .args in
     let t = tablesOf (a .c) (now (a .records)) (now (a .objects)) (now (a .groups)) in
     let b = now (a .rec) in
     let m = s14 .accept in
-    let z : numberOf (m .result .answer) ≡ 0 = sym (s7 .number .ensures) ∙ s6 .if1 .taken in
+    let z : numberOf (m .result .answer) ≡ 0 = sym (s7 .number2 .ensures) ∙ s6 .if2 .taken in
     let ok = rw z at (m .ensures) in (
       (
         m .result .counters,
@@ -94,20 +135,18 @@ same-length-6 c = search needs
 same-length-7 : tie.Need-same-length-7
 same-length-7 c = search needs
 
-returns : tie.Need-returns
-returns c =
+returns-2 : tie.Need-returns-2
+returns-2 c =
     let s8 = c .before .before .before .before .before .before .before .before in
     let s15 = s8 .before .before .before .before .before .before .before in
     let s16 = s15 .before in
     let s23 = s16 .before .before .before .before .before .before .before in
-    let s36 = s23 .before .before .before .before .before .before .before .before .before .before .before .before
-    .before in
-    let s = s36 .before .before .before .before .before .before .before .before .before in
+    let s = start-of (s23 .before .before .before .before .before .before .before .before .before .before .before .before .before .before) in
     let a = s .args in
     let t = tablesOf (a .c) (now (a .records)) (now (a .objects)) (now (a .groups)) in
     let b = now (a .rec) in
     let m = s23 .accept in
-    let z : numberOf (m .result .answer) ≡ 0 = sym (s16 .number .ensures) ∙ s15 .if1 .taken in
+    let z : numberOf (m .result .answer) ≡ 0 = sym (s16 .number2 .ensures) ∙ s15 .if2 .taken in
     let ok = rw z at (m .ensures) in
     record {
       outcome = m .ensures;
@@ -136,10 +175,10 @@ same-length-13 c = search needs
 same-length-14 : tie.Need-same-length-14
 same-length-14 c = search needs
 
-returns-2 : tie.Need-returns-2
-returns-2 c =
+returns-3 : tie.Need-returns-3
+returns-3 c =
     let s8 = c .before .before .before .before .before .before .before .before in
-    let refused : numberOf (s8 .accept .result .answer) ≡ 0 → ⊥ = λ z. c .if1 .left (c .before .number .ensures ∙ z) in
+    let refused : numberOf (s8 .accept .result .answer) ≡ 0 → ⊥ = λ z. c .if2 .left (c .before .number2 .ensures ∙ z) in
     record {
       outcome = s8 .accept .ensures;
       index = λ z. absurd (refused z);
@@ -150,12 +189,14 @@ pub take-next-spec : {M : Type 1} → statement M
 take-next-spec =
     tie.close
     (tie.spec
-    decode-requires
+    one-to-three-requires
+    number-requires
+    returns
     survey-requires
     cast-judge
     judge-requires
     accept-requires
-    number-requires
+    number-requires-2
     cast-add
     add-requires
     same-length
@@ -165,7 +206,7 @@ take-next-spec =
     same-length-5
     same-length-6
     same-length-7
-    returns
+    returns-2
     same-length-8
     same-length-9
     same-length-10
@@ -173,4 +214,4 @@ take-next-spec =
     same-length-12
     same-length-13
     same-length-14
-    returns-2)
+    returns-3)

@@ -6,6 +6,7 @@ use native.Mathlib.Numerals.{add-one}
 use native.Mathlib.Omega.{arith}
 use lib.ListN.{length, take, drop}
 use denote.Ref.{now}
+use Rattle.table_arrival.proofs.Faithful.{faithful-apart}
 use borrow.Author.Needs.{needs}
 use Rattle.edit_form.specs.OldForm.{longFrom, startOf, storedIn}
 use Rattle.edit_form.proofs.Stretches.{lent-is, next-start, start-inside, next-inside, lent-there}
@@ -163,6 +164,8 @@ take-one-requires c κs =
         isSound = going-sound (s .args .empty .sites) (given-of b) (s .pre .3) (l .i) _ (l .inv .2);
         wide = going-faithful (s .args .empty .sites) (given-of b) (s .pre .3) (l .i) _ (l .inv .2) .kept .wide;
         index = l .inv .3;
+        apart =
+            faithful-apart _ (going-faithful (s .args .empty .sites) (given-of b) (s .pre .3) (l .i) _ (l .inv .2));
         room = rw (taken-is b)
             (next-room (s .args .empty .sites) (given-of b) (s .pre .3) (l .i) (s .args .n) (r .loop-test .taken)
             (tables-of b) (l .inv .2) (l .places) (l .inv .4));

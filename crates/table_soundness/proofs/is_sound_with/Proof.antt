@@ -1,12 +1,13 @@
 -- `table_soundness::is_sound_with` meets its contract. Assumes nothing.
 use mathlib.Core.Bool.{true}
 use mathlib.Core.Path.{_≡_, refl, sym, _∙_}
+use native.Mathlib.Omega.{arith}
 use denote.Ref.{now}
 use borrow.Author.Tests.{not-true, not-false}
 use borrow.Author.Needs.{needs}
 use Rattle.math_lists.proofs.Booleans.{clash}
 use Rattle.table_soundness.proofs.SoundTests.{few, few-sites, wrong-lengths, past-limits, not-passing}
-use Rattle.table_soundness.proofs.SoundTests.{walk-passed}
+use Rattle.table_soundness.proofs.SoundTests.{record-room, walk-passed}
 use Rattle.table_soundness.specs.Sound.{withinLimits}
 use Rattle.table_drawing.specs.Tables.{tablesOf}
 use Rattle.table_soundness.proofs.is_sound_with.Statement.{statement}
@@ -47,7 +48,10 @@ walk-requires c κs =
     let w = c .before .before .before .within-limits in
     let k = s .args .c in
     let h : withinLimits k ≡ true = sym (w .ensures) ∙ not-false (w .result) (c .before .before .if2 .left) in
-    (few-sites k h, few k h .0, s .pre)
+    let l = c .before .before .before .before .before .lengths-right in
+    let room = record-room (now (s .args .records)) (now (s .args .objects)) (now (s .args .groups))
+    (sym (l .ensures) ∙ not-false (l .result) (c .before .before .before .before .if1 .left)) in
+    (few-sites k h, few k h .0, omega (arith, room, few k h .0), s .pre)
 
 same-length : tie.Need-same-length
 same-length c = search needs

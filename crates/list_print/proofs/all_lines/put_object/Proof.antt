@@ -1,69 +1,49 @@
 -- `list_print::all_lines::put_object` meets its contract: what is gathered of the object is ready to be printed.
 -- Assumes nothing.
-use Prim.Native.Nat.{_<_}
+use mathlib.Core.Path.{refl}
+use Prim.Native.Nat.{_≤_}
 use native.Mathlib.Omega.{arith}
 use denote.Ref.{now}
-use Rattle.group_step.specs.GroupRows.{mostObjects}
+use lib.ListN.{length}
+use Rattle.group_step.specs.GroupRows.{mostSets, mostGroups}
 use Rattle.table_drawing.specs.Tables.{tablesOf}
 use Rattle.table_soundness.proofs.SoundFacts.{sound-at}
-use Rattle.list_objects.proofs.SetsByIndex.{rest-placed}
 use Rattle.list_print.proofs.BytesBehind.{fewer-behind}
 use Rattle.list_lines.proofs.LinesGathered.{gathered-ready, gathered-lines}
 use borrow.Author.Needs.{needs}
 use Rattle.list_print.proofs.all_lines.put_object.Statement.{statement}
 use Rattle.list_print.proofs.all_lines.put_object.Tie as tie
 
-mul-gather : tie.Need-mul-gather
-mul-gather c = search needs
+slice-aggregate-put-chained : tie.Need-slice-aggregate-put-chained
+slice-aggregate-put-chained c = search needs
 
-mul-gather-2 : tie.Need-mul-gather-2
-mul-gather-2 c =
-    let s = c .before .before .before .before .before .before .before .before in
-    let a = s .args in
-    let t = tablesOf (a .c) (now (a .records)) (now (a .objects)) (now (a .groups)) in
-    let low : a .o < mostObjects = omega (arith, s .pre .2, sound-at t (s .pre .0) .few-objects) in
-    search (needs, low)
+put-chained-requires : tie.Need-put-chained-requires
+put-chained-requires c κs =
+    let p = c .before .before .before .before .before .before .before .before .before .before .pre in
+    (p .0, p .2, p .1, refl)
 
-sub-gather : tie.Need-sub-gather
-sub-gather c =
-    let s = c .before .before .before .before .before .before .before .before in
-    let a = s .args in
-    let t = tablesOf (a .c) (now (a .records)) (now (a .objects)) (now (a .groups)) in
-    let low : a .o < mostObjects = omega (arith, s .pre .2, sound-at t (s .pre .0) .few-objects) in
-    omega (arith, low, s .pre .1 .long)
-
-part-gather-start : tie.Need-part-gather-start
-part-gather-start c =
-    let s = c .before .before .before .before .before .before .before .before in
-    let a = s .args in
-    let t = tablesOf (a .c) (now (a .records)) (now (a .objects)) (now (a .groups)) in
-    let low : a .o < mostObjects = omega (arith, s .pre .2, sound-at t (s .pre .0) .few-objects) in
-    search (needs, low, s .pre .1 .long)
-
-part-gather-end : tie.Need-part-gather-end
-part-gather-end c = search needs
+slice-aggregate-gather : tie.Need-slice-aggregate-gather
+slice-aggregate-gather c = search needs
 
 gather-requires : tie.Need-gather-requires
 gather-requires c κs =
-    let s = c .before .before .before .before .before .before .before .before .before in
-    let a = s .args in
-    let t = tablesOf (a .c) (now (a .records)) (now (a .objects)) (now (a .groups)) in
-    let low : a .o < mostObjects = omega (arith, s .pre .2, sound-at t (s .pre .0) .few-objects) in (
-      s .pre .0,
-      s .pre .2,
-      s .pre .4,
-      rest-placed t (a .o) (now (a .members)) (omega (arith, low, s .pre .1 .long))
-          (s .pre .1 .rows (a .o) (s .pre .2)),
-    )
+    let p = c .before .before .before .before .before .before .before .before .before .before .before .before .before .before .before .before .pre in
+    (p .0, p .2, c .before .before .before .before .before .put-chained .ensures, p .5, p .6, p .7)
 
 put-versions-requires : tie.Need-put-versions-requires
 put-versions-requires c κs =
-    let s10 = c .before .before .before .before .before .before .before .before .before .before in
-    let s = s10 .before .before .before .before in
-    let a = s .args in
+    let start = c .before .before .before .before .before .before .before .before .before .before .before .before .before .before .before .before .before .before .before .before .before .before .before .before .before .before .before .before in
+    let a = start .args in
     let t = tablesOf (a .c) (now (a .records)) (now (a .objects)) (now (a .groups)) in
-    let f = c .before .before .before .before .gather .ensures in
-    (gathered-ready t (a .o) _ f, f .few-groups, s .pre .3, s .pre .5)
+    let g = c .before .before .before .before .before .before .before .before .before .before .before .gather in
+    let wide : mostSets ≤ length (g .last .0) = omega (arith, g .kept .0, start .pre .5) in
+    let tall : mostSets ≤ length (g .last .1 .0) = omega (arith, g .kept .1 .0, start .pre .6) in
+    let long : mostGroups ≤ length (g .last .1 .1 .0) = omega (arith, g .kept .1 .1 .0, start .pre .7) in (
+      gathered-ready t (sound-at t (start .pre .0)) (a .o) (start .pre .2) _ _ _ _ (g .ensures) wide tall long,
+      g .ensures .few-groups,
+      start .pre .3,
+      start .pre .4,
+    )
 
 same-length : tie.Need-same-length
 same-length c = search needs
@@ -74,29 +54,38 @@ same-length-2 c = search needs
 same-length-3 : tie.Need-same-length-3
 same-length-3 c = search needs
 
+same-length-4 : tie.Need-same-length-4
+same-length-4 c = search needs
+
+same-length-5 : tie.Need-same-length-5
+same-length-5 c = search needs
+
 returns : tie.Need-returns
 returns c =
-    let s9 = c .before .before .before .before .before .before .before .before .before in
-    let s = s9 .before .before .before .before .before .before .before .before .before .before in
-    let a = s .args in
+    let start = c .before .before .before .before .before .before .before .before .before .before .before .before .before .before .before .before .before .before .before .before .before .before .before .before .before .before .before .before .before .before .before .before .before in
+    let a = start .args in
     let t = tablesOf (a .c) (now (a .records)) (now (a .objects)) (now (a .groups)) in
-    let f = s9 .gather .ensures in
-    rw (← gathered-lines t (a .o) _ f)
-    (fewer-behind (now (a .out)) (a .n) (omega (arith, f .few-groups))
-    (c .before .before .before .before .put-versions .ensures))
+    let g = c .before .before .before .before .before .before .before .before .before .before .before .before .before .before .before .before .gather in
+    let wide : mostSets ≤ length (g .last .0) = omega (arith, g .kept .0, start .pre .5) in
+    let tall : mostSets ≤ length (g .last .1 .0) = omega (arith, g .kept .1 .0, start .pre .6) in
+    let long : mostGroups ≤ length (g .last .1 .1 .0) = omega (arith, g .kept .1 .1 .0, start .pre .7) in
+    let lines = gathered-lines t (sound-at t (start .pre .0)) (a .o) (start .pre .2) _ _ _ _ (g .ensures) wide tall long
+    in
+    rw (← lines)
+    (fewer-behind (now (a .out)) (a .n) (omega (arith, g .ensures .few-groups)) (c .before .before .before .before .put-versions .ensures))
 
 pub put-object-spec : {M : Type 1} → statement M
 put-object-spec =
     tie.close
     (tie.spec
-    mul-gather
-    mul-gather-2
-    sub-gather
-    part-gather-start
-    part-gather-end
+    slice-aggregate-put-chained
+    put-chained-requires
+    slice-aggregate-gather
     gather-requires
     put-versions-requires
     same-length
     same-length-2
     same-length-3
+    same-length-4
+    same-length-5
     returns)

@@ -3,8 +3,7 @@
 use native.Mathlib.Omega.{arith}
 use Rattle.list_print.proofs.BytesBehind.{copied-behind}
 use denote.Ref.{now}
-use lib.ListN.{take}
-use Rattle.list_line.specs.LineForms.{lineBy}
+use Rattle.list_lines.specs.LinesForms.{lineIn}
 use borrow.Author.Needs.{needs}
 use Rattle.list_print.proofs.object_lines.put_behind.Statement.{statement}
 use Rattle.list_print.proofs.object_lines.put_behind.Tie as tie
@@ -35,14 +34,12 @@ same-length-2 c = search needs
 
 returns : tie.Need-returns
 returns c =
-    let w = c .before .before in
-    let v = w .before .before .before .before .before in
-    let s = v .before .before .before .before .before .before in
-    let a = s .args in
-    let e = v .put-line .ensures in
-    let text = lineBy (a .c) (take (a .t) (now (a .tags))) (take (a .t) (now (a .stamps))) (a .g) in
-    copied-behind (now (a .out)) (a .n) _ text _ _ (e .0)
-    (omega (arith, e .1, v .put-line .kept .0, s .pre .4)) (e .1) (w .copy-in .ensures)
+    let start = c .before .before .before .before .before .before .before .before .before .before .before .before .before in
+    let a = start .args in
+    let p = c .before .before .before .before .before .before .before .put-line in
+    let text = lineIn (a .g) (now (a .disputes)) (now (a .stamps)) (a .v) in
+    copied-behind (now (a .out)) (a .n) _ text _ _ (p .ensures .0)
+    (omega (arith, p .ensures .1, p .kept .0, start .pre .5)) (p .ensures .1) (c .before .before .copy-in .ensures)
 
 pub put-behind-spec : {M : Type 1} → statement M
 put-behind-spec =

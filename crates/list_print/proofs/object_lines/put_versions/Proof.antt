@@ -16,43 +16,32 @@ use Rattle.list_print.proofs.object_lines.put_versions.Statement.{state
 use Rattle.list_print.proofs.object_lines.put_versions.Tie as tie
 
 abbrev Inv-loop : tie.InvT-loop
-Inv-loop out₀ line₀ n g create tags stamps versions w₀ v₀ out line w v =
+Inv-loop out₀ line₀ n g disputes stamps versions w₀ v₀ out line w v =
     (v ≤ g .count) × (length out ≡ length out₀) × (length line ≡ length line₀)
-    × Behind out₀ n (joined (map (lineIn g) (take v (g .versions)))) (v * lineLength) out w
+    × Behind out₀ n (joined (map (lineIn g disputes stamps) (take v versions))) (v * lineLength) out w
 
 abbrev μ-loop : tie.MeasureT-loop
-μ-loop out₀ line₀ n g create tags stamps versions w₀ v₀ out line w v = g .count - v
+μ-loop out₀ line₀ n g disputes stamps versions w₀ v₀ out line w v = g .count - v
 
 loop-holds : tie.Need-loop-holds Inv-loop μ-loop
 loop-holds c =
-    let s6 = c .before .before .before .before .before .before in
-    let a = s6 .args in
-    (search needs, refl, refl, no-piece (lineIn (a .g)) lineLength (now (a .out)) (a .g .versions) (a .n))
-
-slice-aggregate-put-behind : tie.Need-slice-aggregate-put-behind Inv-loop μ-loop
-slice-aggregate-put-behind c = search needs
-
-slice-aggregate-put-behind-2 : tie.Need-slice-aggregate-put-behind-2 Inv-loop μ-loop
-slice-aggregate-put-behind-2 c = search needs
+    let a = c .before .before .before .before .before .args in
+    let text = lineIn (a .g) (now (a .disputes)) (now (a .stamps)) in
+    (search needs, refl, refl, no-piece text lineLength (now (a .out)) (now (a .versions)) (a .n))
 
 mul-put-behind : tie.Need-mul-put-behind Inv-loop μ-loop
 mul-put-behind c = search needs
 
-array-read-put-behind : tie.Need-array-read-put-behind Inv-loop μ-loop
-array-read-put-behind c =
-    let s10 = c .before .before .before .before .before .before .before .before .before .before in
-    let s13 = s10 .before .before .before in
-    let p = s13 .pre in
-    search (needs, p .1, p .0 .versions-long)
+shared-slice-read-put-behind : tie.Need-shared-slice-read-put-behind Inv-loop μ-loop
+shared-slice-read-put-behind c = omega (arith, c .before .before .before .before .before .before .before .before .before .before .before .pre .1, c .before .before .before .before .before .before .before .before .before .before .before .pre .0 .versions-long)
 
 put-behind-requires : tie.Need-put-behind-requires Inv-loop μ-loop
 put-behind-requires c κs =
-    let s6 = c .before .before .before .before .before .before in
-    let s13 = s6 .before .before .before .before .before .before .before in
-    let l = s6 .loop in
-    let p = s13 .pre in
+    let p = c .before .before .before .before .before .before .before .before .before .before .before .pre in
+    let l = c .before .before .before .before .before .loop in
     let r = p .0 in (
-      omega (arith, r .few, r .tags-long),
+      omega (arith, r .disputed, r .disputes-long),
+      r .disputed,
       omega (arith, r .few, r .stamps-long),
       r .few,
       omega (arith, p .1, p .2, l .inv .1, l .inv .3 .end, l .inv .3 .few),
@@ -67,17 +56,17 @@ loop-less c = omega arith
 
 loop-again : tie.Need-loop-again Inv-loop μ-loop
 loop-again c =
-    let b = c .before .before .before .before in
-    let l = b .before .before .before .before .before .before .before .loop in
-    let s = b .before .before .before .before .before .before .before .before .before .before .before .before
-    .before .before in
-    let a = s .args in (
+    let p = c .before .before .before .before .put-behind in
+    let l = c .before .before .before .before .before .before .before .before .before .before .loop in
+    let start = c .before .before .before .before .before .before .before .before .before .before .before .before .before .before .before .before in
+    let a = start .args in
+    let text = lineIn (a .g) (now (a .disputes)) (now (a .stamps)) in (
       omega arith,
-      b .put-behind .kept .0 ∙ l .inv .1,
-      b .put-behind .kept .1 .0 ∙ l .inv .2,
-      piece-behind (lineIn (a .g)) lineLength (now (a .out)) (a .g .versions) (a .n) (l .v)
-          (omega (arith, s .pre .0 .versions-long, s .pre .1)) (omega (arith, s .pre .1, s .pre .2)) (l .inv .3)
-          (b .put-behind .ensures),
+      p .kept .0 ∙ l .inv .1,
+      p .kept .1 .0 ∙ l .inv .2,
+      piece-behind text lineLength (now (a .out)) (now (a .versions)) (a .n) (l .v)
+          (omega (arith, start .pre .0 .versions-long, start .pre .1)) (omega (arith, start .pre .1, start .pre .2))
+          (l .inv .3) (p .ensures),
     )
 
 same-length : tie.Need-same-length Inv-loop μ-loop
@@ -88,9 +77,8 @@ same-length-2 c = c .before .before .loop .inv .2
 
 returns : tie.Need-returns Inv-loop μ-loop
 returns c =
-    let s9 = c .before .before .before .before .before .before .before .before .before in
     let l = c .before .before .loop in
-    let e : l .v ≡ s9 .args .g .count = omega arith in
+    let e : l .v ≡ c .before .before .before .before .before .before .before .before .args .g .count = omega arith in
     rw (← e) (l .inv .3)
 
 pub put-versions-spec : {M : Type 1} → statement M
@@ -100,10 +88,8 @@ put-versions-spec =
     Inv-loop
     μ-loop
     loop-holds
-    slice-aggregate-put-behind
-    slice-aggregate-put-behind-2
     mul-put-behind
-    array-read-put-behind
+    shared-slice-read-put-behind
     put-behind-requires
     add-v
     loop-less

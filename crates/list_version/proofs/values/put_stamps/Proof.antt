@@ -1,12 +1,10 @@
 -- `list_version::values::put_stamps` meets its contract: the stamps of the Sets passed stand at the front. Assumes
 -- nothing.
-use mathlib.Core.Path.{_≡_, refl, subst}
+use mathlib.Core.Path.{_≡_, refl}
 use Prim.Native.Nat.{ℕ, _-_, _≤_, _<_}
 use native.Mathlib.Omega.{arith}
 use borrow.Author.Needs.{needs}
 use lib.ListN.{length, length-set}
-use Rattle.edit_record.specs.declared.Edit.{Edit}
-use Rattle.list_version.specs.VersionForms.{stampOf, Small}
 use Rattle.list_version.proofs.ValuesByStamps.{StampedAt, stamp-more, stamps-all}
 use Rattle.list_version.proofs.values.put_stamps.Statement.{statement}
 use Rattle.list_version.proofs.values.put_stamps.Tie as tie
@@ -21,11 +19,14 @@ abbrev μ-loop : tie.MeasureT-loop
 loop-holds : tie.Need-loop-holds Inv-loop μ-loop
 loop-holds c = (search needs, refl, λ j l. absurd (omega arith))
 
-edit-in-requires : tie.Need-edit-in-requires Inv-loop μ-loop
-edit-in-requires c κs = search needs
+mul-stamp-at : tie.Need-mul-stamp-at Inv-loop μ-loop
+mul-stamp-at c = search needs
 
-stamp-requires : tie.Need-stamp-requires Inv-loop μ-loop
-stamp-requires c κs = search needs
+shared-slice-read-stamp-at : tie.Need-shared-slice-read-stamp-at Inv-loop μ-loop
+shared-slice-read-stamp-at c = search needs
+
+stamp-at-requires : tie.Need-stamp-at-requires Inv-loop μ-loop
+stamp-at-requires c κs = search needs
 
 mul-out : tie.Need-mul-out Inv-loop μ-loop
 mul-out c = search needs
@@ -42,12 +43,10 @@ loop-less c = search needs
 loop-again : tie.Need-loop-again Inv-loop μ-loop
 loop-again c =
     let l = c .before .before .before .loop in
-    let a = c .before .before .before .before .before .before .before .args in
-    let z = c .stamp .result in (
+    let a = c .before .before .before .before .before .before .before .args in (
       omega arith,
       simp length-set (l .inv .1),
-      stamp-more (a .recs .now) (a .places .now) (l .out) (l .i) z (omega arith) (l .inv .2)
-          (subst (λ (e : Edit). (z ≡ stampOf e) × Small e) (c .before .edit-in .ensures) (c .stamp .ensures)),
+      stamp-more (a .recs .now) (a .places .now) (l .out) (l .i) _ (omega arith) (l .inv .2) (c .stamp-at .ensures),
     )
 
 same-length : tie.Need-same-length Inv-loop μ-loop
@@ -67,8 +66,9 @@ put-stamps-spec =
     Inv-loop
     μ-loop
     loop-holds
-    edit-in-requires
-    stamp-requires
+    mul-stamp-at
+    shared-slice-read-stamp-at
+    stamp-at-requires
     mul-out
     slice-write-out
     add-i
