@@ -1,43 +1,53 @@
-/* The contexts of limited Sets, and the conflicts that they bring, by masks. Of an object that a limited Set was
-   judged for the index has two rows: with which Sets each Set conflicts by document 01's rule, and each Set with its
-   context. Other objects have none. Of two Sets the one that arrived first has not seen the other. */
+/* The contexts of limited Sets, and the conflicts that they bring, by masks. An object that a limited Set was judged
+   for has its Sets chained, and rows in the index: which Sets each Set has seen, with which it conflicts by document
+   01's rule, and each Set with its context. Other objects have none. */
 #include "plain_index.h"
 
-/* Which of the Sets of object o before number k the edit e has seen, and with which of the others it conflicts by
-   document 01's rule. */
-static uint64_t look_back(const struct index *x, unsigned o, unsigned k, const struct edit *e, uint64_t *conflicts) {
-    uint64_t seen = 0;
-    *conflicts = 0;
-    for (unsigned i = 0; i < k; i++) {
-        const struct edit *a = &x->edits[x->set[o][i]];
-        uint64_t bit = UINT64_C(1) << i;
-        if (e->vector[a->site] >= a->seq) seen |= bit;
-        else if (a->key == e->key && shown_value(a) != shown_value(e)) *conflicts |= bit;
+static inline unsigned lowest(uint64_t mask) { return (unsigned)__builtin_ctzll(mask); }
+
+/* Which of the Sets of object o before number k the edit e has seen: with each Set that is seen, what that had seen. */
+static uint64_t seen_by(const struct index *x, unsigned o, unsigned k, const struct edit *e) {
+    uint64_t seen = 0, left = k == SETS ? UINT64_MAX : (UINT64_C(1) << k) - 1;
+    while (left != 0) {
+        unsigned i = 63 - (unsigned)__builtin_clzll(left);
+        const struct mark *m = &x->chains[o].marks[i];
+        uint64_t known = UINT64_C(1) << i;
+        if (has_seen(e, m->site, m->seq)) {
+            known |= x->seen[o][i];
+            seen |= known;
+        }
+        left &= ~known;
     }
     return seen;
 }
 
-void index_meet(struct index *x, unsigned o, unsigned k) {
-    for (uint64_t left = x->plain[o][k]; left != 0; left &= left - 1)
-        x->plain[o][__builtin_ctzll(left)] |= UINT64_C(1) << k;
+/* Puts the Set e with its context behind the others of object o, as number k. */
+static void put_rows(struct index *x, unsigned o, unsigned k, const struct edit *e, uint64_t seen, uint64_t context) {
+    uint64_t bit = UINT64_C(1) << k, conflicts = chains_add(&x->chains[o], k, e);
+    x->seen[o][k] = seen;
+    x->plain[o][k] = conflicts;
+    x->reach[o][k] = context | bit;
+    for (; conflicts != 0; conflicts &= conflicts - 1) x->plain[o][lowest(conflicts)] |= bit;
 }
 
 static void make_rows(struct index *x, unsigned o) {
-    x->is_limited[o] = 1;
-    for (unsigned k = 0; k < x->sets[o]; k++) {
-        look_back(x, o, k, &x->edits[x->set[o][k]], &x->plain[o][k]);
-        x->reach[o][k] = UINT64_C(1) << k;
-        index_meet(x, o, k);
-    }
+    x->limited |= UINT64_C(1) << o;
+    chains_open(&x->chains[o]);
+    for (unsigned k = 0; k < x->sets[o]; k++) put_rows(x, o, k, set_at(x, o, k), seen_by(x, o, k, set_at(x, o, k)), 0);
 }
 
-/* The bit of the Set of object o with this name, if it is among those seen and one of these disputes it; else 0. */
+/* The bit of the Set of object o with this name, if it is among those seen and one of these disputes it; else 0. The
+   places of an object's Sets ascend. */
 static uint64_t bit_of(const struct index *x, unsigned o, const struct member *m, uint64_t seen) {
     if (m->site >= x->sites || m->seq == 0 || m->seq > x->held[m->site]) return 0;
-    unsigned place = x->place[m->site][m->seq];
-    if (!is_set(x->edits[place].kind) || index_target(x, &x->edits[place]) != o) return 0;
-    uint64_t bit = UINT64_C(1) << x->number[place];
-    return (x->plain[o][x->number[place]] & seen) != 0 ? bit & seen : 0;
+    unsigned place = place_of(x, m->site, m->seq), low = 0, high = x->sets[o];
+    while (low < high) {
+        unsigned middle = (low + high) / 2;
+        if (x->set[o][middle] < place) low = middle + 1;
+        else high = middle;
+    }
+    if (low == x->sets[o] || x->set[o][low] != place || (x->plain[o][low] & seen) == 0) return 0;
+    return UINT64_C(1) << low & seen;
 }
 
 /* The version that a limited Set names among the Sets that it has seen; whether there is one. What it lists tells
@@ -50,12 +60,12 @@ static int find_context(const struct index *x, unsigned o, const struct record *
         uint64_t bit = bit_of(x, o, &r->members[i], seen);
         if (bit == 0) return 0;
         listed |= bit;
-        foes |= plain[__builtin_ctzll(bit)];
+        foes |= plain[lowest(bit)];
     }
     for (uint64_t left = seen & ~listed; left != 0; left &= left - 1)
-        if ((plain[__builtin_ctzll(left)] & seen) != 0) unlisted |= left & -left;
+        if ((plain[lowest(left)] & seen) != 0) unlisted |= left & -left;
     for (uint64_t left = seen; left != 0; left &= left - 1) {
-        uint64_t reached = reach[__builtin_ctzll(left)];
+        uint64_t reached = reach[lowest(left)];
         if ((reached & unlisted) == 0) held |= left & -left;
         else if ((reached & foes) == 0) return 0;
     }
@@ -65,24 +75,17 @@ static int find_context(const struct index *x, unsigned o, const struct record *
 
 unsigned index_context(struct index *x, unsigned o, const struct record *r) {
     unsigned k = x->sets[o];
-    uint64_t conflicts, context = 0;
-    if (r->edit.kind == LIMITED && !x->is_limited[o]) make_rows(x, o);
-    if (!x->is_limited[o]) return SPIRESLATE_DONE;
-    uint64_t seen = look_back(x, o, k, &r->edit, &conflicts);
+    uint64_t context = 0;
+    if (!has_limited(x, o)) make_rows(x, o);
+    uint64_t seen = seen_by(x, o, k, &r->edit);
     if (r->edit.kind == LIMITED && !find_context(x, o, r, seen, &context)) return SPIRESLATE_NO_VERSION;
-    if (k == SETS) return SPIRESLATE_DONE;
-    x->plain[o][k] = conflicts;
-    x->reach[o][k] = context | UINT64_C(1) << k;
+    if (k < SETS) put_rows(x, o, k, &r->edit, seen, context);
     return SPIRESLATE_DONE;
 }
 
-uint64_t index_conflicts(const struct index *x, unsigned o, unsigned k, const struct edit *e) {
+uint64_t index_limited_conflicts(const struct index *x, unsigned o, unsigned k) {
     uint64_t foes = 0, mask = 0;
-    if (!x->is_limited[o]) {
-        look_back(x, o, k, e, &mask);
-        return mask;
-    }
-    for (uint64_t left = x->reach[o][k]; left != 0; left &= left - 1) foes |= x->plain[o][__builtin_ctzll(left)];
+    for (uint64_t left = x->reach[o][k]; left != 0; left &= left - 1) foes |= x->plain[o][lowest(left)];
     for (unsigned j = 0; j < k; j++)
         if ((x->reach[o][j] & foes) != 0) mask |= UINT64_C(1) << j;
     return mask;
