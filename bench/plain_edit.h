@@ -63,6 +63,9 @@ static inline uint32_t half_at(const void *bytes, size_t at) {
     return half;
 }
 
+/* Whether so many bytes are zero; they are looked at 64 at a time, by a processor's whole registers. */
+int are_zero(const void *bytes, size_t n);
+
 /* A vector is compared and added up in words of four entries. Those of an edit that is held, and of one that nothing
    is missing for, are below 2^15, so that a bit is free above each. */
 enum { LANES = 4, LANE = 16, WORDS = SITES / LANES };

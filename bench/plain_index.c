@@ -86,37 +86,39 @@ unsigned index_judge_news(const struct index *x, const struct edit *e, uint64_t 
     return found == 0 ? SPIRESLATE_DONE : (unsigned)__builtin_ctz(found);
 }
 
-int are_groups_zero(const uint64_t *groups, size_t n) {
-    uint64_t any = 0;
-    for (size_t i = 0; i < n; i++) any |= groups[i];
-    return any == 0;
+typedef uint64_t pair __attribute__((vector_size(16), aligned(1), may_alias));
+
+/* All of 64 bytes in one pair of words. */
+static inline pair gather(const uint8_t *bytes) {
+    const pair *p = (const pair *)bytes;
+    return (p[0] | p[1]) | (p[2] | p[3]);
 }
 
-static int are_bytes_zero(const uint8_t *bytes, size_t n) {
-    uint64_t any = 0;
-    for (; n >= sizeof any; n -= sizeof any, bytes += sizeof any) any |= word_at(bytes, 0);
-    for (; n != 0; n--) any |= *bytes++;
+int are_zero(const void *bytes, size_t n) {
+    enum { BLOCK = 4 * sizeof(pair) };
+    const uint8_t *at = bytes;
+    pair all = {0};
+    for (; n >= BLOCK; n -= BLOCK, at += BLOCK) all |= gather(at);
+    uint64_t any = all[0] | all[1];
+    for (; n >= sizeof any; n -= sizeof any, at += sizeof any) any |= word_at(at, 0);
+    for (; n != 0; n--) any |= *at++;
     return any == 0;
 }
 
 int is_rest_zero(const struct record *r) {
-    enum { FIRST = SPIRESLATE_RECORD + sizeof(uint32_t) };
-    if (r->edit.kind == LIMITED) {
-        size_t bytes = record_bytes(r);
-        return are_bytes_zero((const uint8_t *)r + bytes, SPIRESLATE_PLACE - bytes);
-    }
-    uint64_t any = half_at(r, SPIRESLATE_RECORD);
-    for (size_t at = FIRST; at < SPIRESLATE_PLACE; at += sizeof any) any |= word_at(r, at);
-    return any == 0;
+    enum { BEHIND = SPIRESLATE_RECORD + sizeof(uint32_t) };
+    const uint8_t *place = (const uint8_t *)r;
+    if (r->edit.kind == LIMITED) return are_zero(place + record_bytes(r), SPIRESLATE_PLACE - record_bytes(r));
+    pair rest = gather(place + BEHIND);
+    return (rest[0] | rest[1] | half_at(place, SPIRESLATE_RECORD)) == 0;
 }
 
 int are_tables_zero(const uint8_t *records, const uint16_t *objects, const uint64_t *groups, unsigned held,
                     unsigned made) {
     size_t used = held * SPIRESLATE_PLACE, entries = made * ENTRY, rows = made * GROUPS;
-    return are_bytes_zero(records + used, SPIRESLATE_RECORDS_LENGTH - used) &&
-           are_bytes_zero((const uint8_t *)(objects + entries),
-                          (SPIRESLATE_OBJECTS_LENGTH - entries) * sizeof *objects) &&
-           are_groups_zero(groups + rows, SPIRESLATE_GROUPS_LENGTH - rows);
+    return are_zero(records + used, SPIRESLATE_RECORDS_LENGTH - used) &&
+           are_zero(objects + entries, (SPIRESLATE_OBJECTS_LENGTH - entries) * sizeof *objects) &&
+           are_zero(groups + rows, (SPIRESLATE_GROUPS_LENGTH - rows) * sizeof *groups);
 }
 
 /* Whether the row of an object with so many Sets and groups is sound. The groups ascend, so that the last one is the
@@ -126,7 +128,7 @@ static int is_row_sound(const uint64_t *row, unsigned sets, unsigned many) {
     if (sets < SETS && row[many - 1] >> sets != 0) return 0;
     for (unsigned i = 1; i < many; i++)
         if (row[i] <= row[i - 1]) return 0;
-    return are_groups_zero(row + many, GROUPS - many);
+    return is_row_ended(row, many);
 }
 
 /* Whether the records pass 1 to 5 and 16 in turn, each in a place that is zero behind it, with the objects of the table

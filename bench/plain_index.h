@@ -88,7 +88,9 @@ int is_rest_zero(const struct record *r);
 int are_tables_zero(const uint8_t *records, const uint16_t *objects, const uint64_t *groups, unsigned held,
                     unsigned made);
 
-/* Whether so many groups are zero. */
-int are_groups_zero(const uint64_t *groups, size_t n);
+/* Whether the row of an object with so many groups is zero behind them. */
+static inline int is_row_ended(const uint64_t *row, unsigned many) {
+    return are_zero(row + many, (GROUPS - many) * sizeof *row);
+}
 
 #endif
