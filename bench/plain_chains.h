@@ -1,45 +1,59 @@
-/* The Sets of an object, each chained to the one of its key before it: by document 01's rule a Set is in conflict with
-   Sets of its key alone. Of two Sets the one that arrived first has not seen the other. */
+/* The Sets of an object by their keys: by document 01's rule a Set is in conflict with Sets of its key alone. Of two
+   Sets the one that arrived first has not seen the other. */
 #ifndef PLAIN_CHAINS_H
 #define PLAIN_CHAINS_H
 
 #include "plain_edit.h"
-
-enum { SAW_ALL = 128 };
 
 /* What a later Set asks of one. */
 struct mark {
     uint32_t value; /* as it is shown */
     uint16_t seq;
     uint8_t site;
-    uint8_t before; /* 1 above the number of the one before it, 0 for none; SAW_ALL if it has seen all before it */
 };
 
 struct chains {
-    uint8_t last[KEYS]; /* 1 above the number of the last Set of the key; 0 for none */
+    unsigned keys;       /* that are set: these have the following */
+    uint64_t sets[KEYS]; /* the Sets of the key */
+    uint64_t sure[KEYS]; /* those of them that have seen all before them */
     struct mark marks[SETS];
 };
 
-static inline void chains_open(struct chains *c) { memset(c->last, 0, sizeof c->last); }
+static inline unsigned lowest(uint64_t mask) { return (unsigned)__builtin_ctzll(mask); }
+static inline unsigned highest(uint64_t mask) { return 63 - (unsigned)__builtin_clzll(mask); }
 
-/* Puts the Set e behind the others as number k; gives those that it conflicts with. Whoever has seen a Set has seen
-   what that had seen, so that the chain is followed no further than to one that is seen and saw all before it. */
+static inline void chains_open(struct chains *c) { c->keys = 0; }
+
+/* The Sets of a key that e may not have seen. Whoever has seen a Set has seen what that had seen: so none up to the
+   last one that is seen and had seen all before it. */
+static inline uint64_t chains_unsure(const struct chains *c, const struct edit *e) {
+    for (uint64_t sure = c->sure[e->key]; sure != 0;) {
+        unsigned i = highest(sure);
+        if (has_seen(e, c->marks[i].site, c->marks[i].seq)) return c->sets[e->key] & -(UINT64_C(2) << i);
+        sure ^= UINT64_C(1) << i;
+    }
+    return c->sets[e->key];
+}
+
+/* Puts the Set e behind the others as number k; gives those that it conflicts with. */
 static inline uint64_t chains_add(struct chains *c, unsigned k, const struct edit *e) {
     uint32_t value = shown_value(e);
-    uint64_t conflicts = 0;
-    unsigned saw = SAW_ALL, last = c->last[e->key];
-    for (unsigned j = last; j != 0;) {
-        const struct mark *m = &c->marks[j - 1];
-        if (!has_seen(e, m->site, m->seq)) {
-            saw = 0;
-            if (m->value != value) conflicts |= UINT64_C(1) << (j - 1);
-        } else if (m->before >= SAW_ALL) {
-            break;
-        }
-        j = m->before % SAW_ALL;
+    uint64_t conflicts = 0, unseen = 0, bit = UINT64_C(1) << k;
+    unsigned key = e->key;
+    c->marks[k] = (struct mark){value, e->seq, e->site};
+    if ((c->keys >> key & 1) == 0) {
+        c->keys |= 1u << key;
+        c->sets[key] = c->sure[key] = bit;
+        return 0;
     }
-    c->marks[k] = (struct mark){value, e->seq, e->site, (uint8_t)(last | saw)};
-    c->last[e->key] = (uint8_t)(k + 1);
+    for (uint64_t left = chains_unsure(c, e); left != 0; left &= left - 1) {
+        const struct mark *m = &c->marks[lowest(left)];
+        if (has_seen(e, m->site, m->seq)) continue;
+        unseen |= left & -left;
+        if (m->value != value) conflicts |= left & -left;
+    }
+    c->sets[key] |= bit;
+    if (unseen == 0) c->sure[key] |= bit;
     return conflicts;
 }
 

@@ -3,13 +3,11 @@
    01's rule, and each Set with its context. Other objects have none. */
 #include "plain_index.h"
 
-static inline unsigned lowest(uint64_t mask) { return (unsigned)__builtin_ctzll(mask); }
-
 /* Which of the Sets of object o before number k the edit e has seen: with each Set that is seen, what that had seen. */
 static uint64_t seen_by(const struct index *x, unsigned o, unsigned k, const struct edit *e) {
     uint64_t seen = 0, left = k == SETS ? UINT64_MAX : (UINT64_C(1) << k) - 1;
     while (left != 0) {
-        unsigned i = 63 - (unsigned)__builtin_clzll(left);
+        unsigned i = highest(left);
         const struct mark *m = &x->chains[o].marks[i];
         uint64_t known = UINT64_C(1) << i;
         if (has_seen(e, m->site, m->seq)) {

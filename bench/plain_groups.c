@@ -13,8 +13,6 @@ struct search {
     uint64_t groups[GROUPS];
 };
 
-static inline unsigned lowest(uint64_t mask) { return (unsigned)__builtin_ctzll(mask); }
-
 /* Which Sets of object o conflict with which; gives those that conflict with any. */
 static uint32_t find_conflicts(struct search *s, const struct index *x, unsigned o) {
     struct chains c;
@@ -40,7 +38,7 @@ static inline int have_foes(const struct search *s, uint32_t sets, uint32_t may)
    conflict with one that is, or are in `out` and each need one of `may` yet that they conflict with. */
 static void decide(struct search *s, uint32_t taken, uint32_t may, uint32_t out) {
     while (may != 0) {
-        unsigned k = 31 - (unsigned)__builtin_clz(may);
+        unsigned k = highest(may);
         uint32_t bit = UINT32_C(1) << k, foes = s->conflicts[k];
         may &= ~bit;
         if (have_foes(s, (out & foes) | bit, may)) {

@@ -51,56 +51,73 @@ static int keeps_own(const struct index *x, const struct edit *e) {
     return least == LANE_TOPS;
 }
 
-/* The answer to one new entry, as a bit; 0 for none. */
+/* The answer to a new entry, as a bit; 0 for none. */
 static inline unsigned judge_entry(const struct index *x, const struct edit *e, unsigned s, uint64_t *news) {
     unsigned seen = e->vector[s];
     if (s >= x->sites) return 1u << SPIRESLATE_MALFORMED;
-    if (s == e->site) return 1u << (seen <= x->held[s] ? SPIRESLATE_REPEATED : SPIRESLATE_EARLY);
+    if (s == e->site || seen == 0) return 0;
     if (seen > x->held[s]) return 1u << SPIRESLATE_EARLY;
-    if (seen == 0) return 0;
     const struct edit *a = edit_at(x, place_of(x, s, seen));
     if (!is_within(a, e)) return 1u << SPIRESLATE_TORN;
     if ((news[0] | news[1] | news[2] | news[3]) != 0) cover(news, a, e);
     return 0;
 }
 
+/* The same of all new entries of other sites. */
+static unsigned judge_entries(const struct index *x, const struct edit *e, uint64_t *news) {
+    unsigned found = 0;
+    for (unsigned w = 0; w < WORDS; w++) {
+        while (news[w] != 0) {
+            unsigned lane = lowest(news[w]) / LANE;
+            news[w] &= ~(UINT64_C(0xFFFF) << lane * LANE);
+            found |= judge_entry(x, e, w * LANES + lane, news);
+        }
+    }
+    return found;
+}
+
 /* The edits held have seen what those that they had seen had seen, so the latest edit of each site that e has seen
-   answers for the earlier ones; and the record before e, where e has seen that, often for all. Entries too high to be
-   compared by words are found to be early. */
+   answers for the earlier ones; and the record before e, where e has seen that, often for all. */
 unsigned index_judge_news(const struct index *x, const struct edit *e, uint64_t *news) {
-    unsigned found = keeps_own(x, e) ? 0 : 1u << SPIRESLATE_TORN;
+    unsigned found = 0, own = x->held[e->site], kept = own == 0;
+    if (e->seq != own + 1) found |= 1u << (e->seq <= own ? SPIRESLATE_REPEATED : SPIRESLATE_EARLY);
     if (x->count != 0) {
         const struct edit *before = edit_at(x, x->count - 1);
         if (before->site != e->site && has_seen(e, before->site, before->seq)) {
             if (!is_within(before, e)) found |= 1u << SPIRESLATE_TORN;
             cover(news, before, e);
+            kept |= has_seen(before, e->site, own);
         }
     }
-    for (unsigned w = 0; w < WORDS; w++) {
-        while (news[w] != 0) {
-            unsigned lane = (unsigned)__builtin_ctzll(news[w]) / LANE;
-            news[w] &= ~(UINT64_C(0xFFFF) << lane * LANE);
-            found |= judge_entry(x, e, w * LANES + lane, news);
-        }
-    }
-    return found == 0 ? SPIRESLATE_DONE : (unsigned)__builtin_ctz(found);
+    if (!kept && !keeps_own(x, e)) found |= 1u << SPIRESLATE_TORN;
+    found |= judge_entries(x, e, news);
+    return found == 0 ? SPIRESLATE_DONE : lowest(found);
 }
 
-typedef uint64_t pair __attribute__((vector_size(16), aligned(1), may_alias));
+typedef uint64_t pair __attribute__((vector_size(16), may_alias));
+typedef pair loose_pair __attribute__((aligned(1)));
 
-/* All of 64 bytes in one pair of words. */
-static inline pair gather(const uint8_t *bytes) {
-    const pair *p = (const pair *)bytes;
-    return (p[0] | p[1]) | (p[2] | p[3]);
+/* From the first 16 bytes on that are aligned as a processor wants it. */
+static uint64_t gather_blocks(const uint8_t *at, size_t n) {
+    enum { BLOCK = 4 * sizeof(pair) };
+    pair all = *(const loose_pair *)at, more = {0};
+    size_t skipped = -(uintptr_t)at % sizeof(pair);
+    for (at += skipped, n -= skipped; n >= BLOCK; n -= BLOCK, at += BLOCK) {
+        const pair *p = (const pair *)at;
+        all |= p[0] | p[1];
+        more |= p[2] | p[3];
+    }
+    for (; n >= sizeof(pair); n -= sizeof(pair), at += sizeof(pair)) all |= *(const pair *)at;
+    all |= more;
+    uint64_t any = all[0] | all[1];
+    for (; n != 0; n--) any |= *at++;
+    return any;
 }
 
 int are_zero(const void *bytes, size_t n) {
-    enum { BLOCK = 4 * sizeof(pair) };
     const uint8_t *at = bytes;
-    pair all = {0};
-    for (; n >= BLOCK; n -= BLOCK, at += BLOCK) all |= gather(at);
-    uint64_t any = all[0] | all[1];
-    for (; n >= sizeof any; n -= sizeof any, at += sizeof any) any |= word_at(at, 0);
+    uint64_t any = 0;
+    if (n >= sizeof(pair)) return gather_blocks(at, n) == 0;
     for (; n != 0; n--) any |= *at++;
     return any == 0;
 }
@@ -109,7 +126,8 @@ int is_rest_zero(const struct record *r) {
     enum { BEHIND = SPIRESLATE_RECORD + sizeof(uint32_t) };
     const uint8_t *place = (const uint8_t *)r;
     if (r->edit.kind == LIMITED) return are_zero(place + record_bytes(r), SPIRESLATE_PLACE - record_bytes(r));
-    pair rest = gather(place + BEHIND);
+    const loose_pair *p = (const loose_pair *)(place + BEHIND);
+    pair rest = (p[0] | p[1]) | (p[2] | p[3]);
     return (rest[0] | rest[1] | half_at(place, SPIRESLATE_RECORD)) == 0;
 }
 

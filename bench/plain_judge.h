@@ -52,12 +52,13 @@ static inline unsigned judge(struct index *x, const struct record *r, unsigned *
 static inline void index_add(struct index *x, const struct record *r, unsigned o) {
     const struct edit *e = &r->edit;
     unsigned place = x->count++, site = e->site, made = 0;
-    uint64_t *next = x->next[site];
+    uint64_t sum = 0;
     for (unsigned w = 0; w < WORDS; w++) {
-        next[w] = vector_word(e, w);
-        x->vectors += next[w];
+        sum += vector_word(e, w);
+        x->next[site][w] = vector_word(e, w);
     }
-    next[site / LANES] += UINT64_C(1) << site % LANES * LANE;
+    x->vectors += sum;
+    x->next[site][site / LANES] += UINT64_C(1) << site % LANES * LANE;
     x->heads += half_at(e, 0);
     x->tails += tail_word(e);
     x->held[site] = e->seq;
