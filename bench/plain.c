@@ -148,19 +148,21 @@ static struct spireslate_file_answer take_long(struct index *x, struct rows *w, 
     return (struct spireslate_file_answer){SPIRESLATE_DONE, 0};
 }
 
-/* The same of n old records. As long ones they have seen nothing of the sites that they have no entry for. */
+/* The same of n old records. As long ones they have seen nothing of the sites that they have no entry for. All are put
+   into their places first: a processor would wait for what it has only just written. */
 static struct spireslate_file_answer take_old(struct index *x, struct rows *w, uint8_t *place, const uint8_t *at,
                                               unsigned n) {
     enum { FRONT = offsetof(struct edit, vector[SPIRESLATE_OLD_SITES]), TAIL = offsetof(struct edit, tsite) };
-    struct record r;
-    memset(&r, 0, sizeof r);
     for (unsigned i = 0; i < n; i++, place += SPIRESLATE_PLACE, at += SPIRESLATE_OLD_RECORD) {
-        memcpy(&r, at, FRONT);
-        memcpy((uint8_t *)&r + TAIL, at + FRONT, SPIRESLATE_OLD_RECORD - FRONT);
+        memset(place + FRONT, 0, SPIRESLATE_PLACE - FRONT);
+        memcpy(place, at, FRONT);
+        memcpy(place + TAIL, at + FRONT, SPIRESLATE_OLD_RECORD - FRONT);
+    }
+    for (unsigned i = 0; i < n; i++) {
+        const struct record *r = record_at(x, i);
         unsigned answer = SPIRESLATE_MALFORMED;
-        if (r.edit.kind == CREATE || r.edit.kind == SET) answer = take(x, w, &r);
+        if (r->edit.kind == CREATE || r->edit.kind == SET) answer = take(x, w, r);
         if (answer != SPIRESLATE_DONE) return (struct spireslate_file_answer){(uint8_t)answer, i};
-        memcpy(place, &r, sizeof r);
     }
     return (struct spireslate_file_answer){SPIRESLATE_DONE, 0};
 }

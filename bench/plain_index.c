@@ -29,19 +29,20 @@ int is_list_unfit(const struct record *r) {
     return wrong != 0;
 }
 
-/* Whether e has seen what a has seen, an edit that is held. */
-static inline int is_within(const struct edit *a, const struct edit *e) {
+/* Whether e has seen what a has seen, an edit that is held. Takes from the new entries of e those that a has as well: a
+   passed, so that they can no more tear e than a does. */
+static inline int meet(uint64_t *news, const struct edit *a, const struct edit *e) {
     uint64_t least = LANE_TOPS;
-    for (unsigned w = 0; w < WORDS; w++) least &= lanes_at_least(vector_word(e, w), vector_word(a, w));
-    return least == LANE_TOPS;
-}
-
-/* Takes from the new entries of e those that a has as well: it passed, so that they can no more tear e than a does. */
-static inline void cover(uint64_t *news, const struct edit *a, const struct edit *e) {
     for (unsigned w = 0; w < WORDS; w++) {
-        uint64_t other = vector_word(e, w) ^ vector_word(a, w), low = other & ~LANE_TOPS;
-        news[w] &= (((low + ~LANE_TOPS) | other) & LANE_TOPS) / (1 << (LANE - 1)) * 0xFFFF;
+        uint64_t word = vector_word(e, w), other = word ^ vector_word(a, w);
+        if (other == 0) {
+            news[w] = 0;
+            continue;
+        }
+        least &= lanes_at_least(word, vector_word(a, w));
+        news[w] &= ((((other & ~LANE_TOPS) + ~LANE_TOPS) | other) & LANE_TOPS) / (1 << (LANE - 1)) * 0xFFFF;
     }
+    return least == LANE_TOPS;
 }
 
 /* Whether e has all that its author's latest edit had. */
@@ -57,10 +58,7 @@ static inline unsigned judge_entry(const struct index *x, const struct edit *e, 
     if (s >= x->sites) return 1u << SPIRESLATE_MALFORMED;
     if (s == e->site || seen == 0) return 0;
     if (seen > x->held[s]) return 1u << SPIRESLATE_EARLY;
-    const struct edit *a = edit_at(x, place_of(x, s, seen));
-    if (!is_within(a, e)) return 1u << SPIRESLATE_TORN;
-    if ((news[0] | news[1] | news[2] | news[3]) != 0) cover(news, a, e);
-    return 0;
+    return meet(news, edit_at(x, place_of(x, s, seen)), e) ? 0 : 1u << SPIRESLATE_TORN;
 }
 
 /* The same of all new entries of other sites. */
@@ -84,8 +82,7 @@ unsigned index_judge_news(const struct index *x, const struct edit *e, uint64_t 
     if (x->count != 0) {
         const struct edit *before = edit_at(x, x->count - 1);
         if (before->site != e->site && has_seen(e, before->site, before->seq)) {
-            if (!is_within(before, e)) found |= 1u << SPIRESLATE_TORN;
-            cover(news, before, e);
+            if (!meet(news, before, e)) found |= 1u << SPIRESLATE_TORN;
             kept |= has_seen(before, e->site, own);
         }
     }
