@@ -13,9 +13,11 @@ struct mark {
 };
 
 struct chains {
-    unsigned keys;       /* that are set: these have the following */
-    uint64_t sets[KEYS]; /* the Sets of the key */
-    uint64_t sure[KEYS]; /* those of them that have seen all before them */
+    unsigned keys; /* that are set: these have the following */
+    struct chain {
+        uint64_t sets; /* the Sets of the key */
+        uint64_t sure; /* those of them that have seen all before them */
+    } of[KEYS];
     struct mark marks[SETS];
 };
 
@@ -27,23 +29,24 @@ static inline void chains_open(struct chains *c) { c->keys = 0; }
 /* The Sets of a key that e may not have seen. Whoever has seen a Set has seen what that had seen: so none up to the
    last one that is seen and had seen all before it. */
 static inline uint64_t chains_unsure(const struct chains *c, const struct edit *e) {
-    for (uint64_t sure = c->sure[e->key]; sure != 0;) {
+    const struct chain *chain = &c->of[e->key];
+    for (uint64_t sure = chain->sure; sure != 0;) {
         unsigned i = highest(sure);
-        if (has_seen(e, c->marks[i].site, c->marks[i].seq)) return c->sets[e->key] & -(UINT64_C(2) << i);
+        if (has_seen(e, c->marks[i].site, c->marks[i].seq)) return chain->sets & -(UINT64_C(2) << i);
         sure ^= UINT64_C(1) << i;
     }
-    return c->sets[e->key];
+    return chain->sets;
 }
 
 /* Puts the Set e behind the others as number k; gives those that it conflicts with. */
 static inline uint64_t chains_add(struct chains *c, unsigned k, const struct edit *e) {
     uint32_t value = shown_value(e);
     uint64_t conflicts = 0, unseen = 0, bit = UINT64_C(1) << k;
-    unsigned key = e->key;
+    struct chain *chain = &c->of[e->key];
     c->marks[k] = (struct mark){value, e->seq, e->site};
-    if ((c->keys >> key & 1) == 0) {
-        c->keys |= 1u << key;
-        c->sets[key] = c->sure[key] = bit;
+    if ((c->keys >> e->key & 1) == 0) {
+        c->keys |= 1u << e->key;
+        chain->sets = chain->sure = bit;
         return 0;
     }
     for (uint64_t left = chains_unsure(c, e); left != 0; left &= left - 1) {
@@ -52,8 +55,8 @@ static inline uint64_t chains_add(struct chains *c, unsigned k, const struct edi
         unseen |= left & -left;
         if (m->value != value) conflicts |= left & -left;
     }
-    c->sets[key] |= bit;
-    if (unseen == 0) c->sure[key] |= bit;
+    chain->sets |= bit;
+    if (unseen == 0) chain->sure |= bit;
     return conflicts;
 }
 

@@ -1,42 +1,58 @@
 /* The contexts of limited Sets, and the conflicts that they bring, by masks. An object that a limited Set was judged
-   for has its Sets chained, and rows in the index: which Sets each Set has seen, with which it conflicts by document
-   01's rule, and each Set with its context. Other objects have none. */
+   for has its Sets chained, and their ties in the index. Other objects have none. */
 #include "plain_index.h"
 
-/* Which of the Sets of object o before number k the edit e has seen: with each Set that is seen, what that had seen. */
-static uint64_t seen_by(const struct index *x, unsigned o, unsigned k, const struct edit *e) {
-    uint64_t seen = 0, left = k == SETS ? UINT64_MAX : (UINT64_C(1) << k) - 1;
+/* The Sets of an object that an edit has seen, and those of them that another of them conflicts with by document 01's
+   rule. */
+struct sight {
+    uint64_t seen, disputed;
+};
+
+/* What e has seen of the Sets of object o before number k: with each Set that is seen, what that had seen. The disputes
+   of the last one that is seen are known; those of the others with any are looked up. */
+static struct sight look_back(const struct index *x, unsigned o, unsigned k, const struct edit *e) {
+    struct sight s = {0, 0};
+    uint64_t others = 0, left = k == SETS ? UINT64_MAX : (UINT64_C(1) << k) - 1;
     while (left != 0) {
         unsigned i = highest(left);
         const struct mark *m = &x->chains[o].marks[i];
         uint64_t known = UINT64_C(1) << i;
         if (has_seen(e, m->site, m->seq)) {
-            known |= x->seen[o][i];
-            seen |= known;
+            known |= x->ties[o][i].seen;
+            if (s.seen == 0) s.disputed = x->ties[o][i].disputed, others = UINT64_C(1) << i;
+            else others |= known & ~s.seen;
+            s.seen |= known;
         }
         left &= ~known;
     }
-    return seen;
+    for (; others != 0; others &= others - 1) {
+        uint64_t foes = x->ties[o][lowest(others)].foes & s.seen;
+        if (foes != 0) s.disputed |= foes | (others & -others);
+    }
+    return s;
 }
 
 /* Puts the Set e with its context behind the others of object o, as number k. */
-static void put_rows(struct index *x, unsigned o, unsigned k, const struct edit *e, uint64_t seen, uint64_t context) {
+static void tie(struct index *x, unsigned o, unsigned k, const struct edit *e, struct sight s, uint64_t context) {
     uint64_t bit = UINT64_C(1) << k, conflicts = chains_add(&x->chains[o], k, e);
-    x->seen[o][k] = seen;
-    x->plain[o][k] = conflicts;
-    x->reach[o][k] = context | bit;
-    for (; conflicts != 0; conflicts &= conflicts - 1) x->plain[o][lowest(conflicts)] |= bit;
+    x->ties[o][k] = (struct ties){s.seen, s.disputed, conflicts, context | bit, bit};
+    if (context != 0) x->contexts[o] |= bit;
+    for (; conflicts != 0; conflicts &= conflicts - 1) x->ties[o][lowest(conflicts)].foes |= bit;
+    for (; context != 0; context &= context - 1) x->ties[o][lowest(context)].holders |= bit;
 }
 
-static void make_rows(struct index *x, unsigned o) {
+static void tie_all(struct index *x, unsigned o) {
     x->limited |= UINT64_C(1) << o;
+    x->contexts[o] = 0;
     chains_open(&x->chains[o]);
-    for (unsigned k = 0; k < x->sets[o]; k++) put_rows(x, o, k, set_at(x, o, k), seen_by(x, o, k, set_at(x, o, k)), 0);
+    for (unsigned k = 0; k < x->sets[o]; k++) {
+        const struct edit *e = set_at(x, o, k);
+        tie(x, o, k, e, look_back(x, o, k, e), 0);
+    }
 }
 
-/* The bit of the Set of object o with this name, if it is among those seen and one of these disputes it; else 0. The
-   places of an object's Sets ascend. */
-static uint64_t bit_of(const struct index *x, unsigned o, const struct member *m, uint64_t seen) {
+/* The bit of the Set of object o with this name; 0 where there is none. The places of an object's Sets ascend. */
+static uint64_t bit_of(const struct index *x, unsigned o, const struct member *m) {
     if (m->site >= x->sites || m->seq == 0 || m->seq > x->held[m->site]) return 0;
     unsigned place = place_of(x, m->site, m->seq), low = 0, high = x->sets[o];
     while (low < high) {
@@ -44,47 +60,46 @@ static uint64_t bit_of(const struct index *x, unsigned o, const struct member *m
         if (x->set[o][middle] < place) low = middle + 1;
         else high = middle;
     }
-    if (low == x->sets[o] || x->set[o][low] != place || (x->plain[o][low] & seen) == 0) return 0;
-    return UINT64_C(1) << low & seen;
+    return low < x->sets[o] && x->set[o][low] == place ? UINT64_C(1) << low : 0;
+}
+
+/* The Sets that have one of these in their reach. */
+static uint64_t holders_of(const struct index *x, unsigned o, uint64_t sets) {
+    uint64_t holders = 0;
+    for (; sets != 0; sets &= sets - 1) holders |= x->ties[o][lowest(sets)].holders;
+    return holders;
 }
 
 /* The version that a limited Set names among the Sets that it has seen; whether there is one. What it lists tells
    which: it has the Sets whose reach holds nothing in dispute but what is listed, and it is one if what is listed is
-   in it, has no conflict inside, and each other Set has one with it. */
-static int find_context(const struct index *x, unsigned o, const struct record *r, uint64_t seen, uint64_t *context) {
-    const uint64_t *plain = x->plain[o], *reach = x->reach[o];
-    uint64_t listed = 0, foes = 0, unlisted = 0, held = 0;
+   in dispute and in it, has no conflict inside, and each other Set has one with it. */
+static int find_context(const struct index *x, unsigned o, const struct record *r, struct sight s, uint64_t *context) {
+    uint64_t listed = 0, foes = 0;
     for (unsigned i = 0; i < r->count; i++) {
-        uint64_t bit = bit_of(x, o, &r->members[i], seen);
+        uint64_t bit = bit_of(x, o, &r->members[i]) & s.disputed;
         if (bit == 0) return 0;
         listed |= bit;
-        foes |= plain[lowest(bit)];
+        foes |= x->ties[o][lowest(bit)].foes;
     }
-    for (uint64_t left = seen & ~listed; left != 0; left &= left - 1)
-        if ((plain[lowest(left)] & seen) != 0) unlisted |= left & -left;
-    for (uint64_t left = seen; left != 0; left &= left - 1) {
-        uint64_t reached = reach[lowest(left)];
-        if ((reached & unlisted) == 0) held |= left & -left;
-        else if ((reached & foes) == 0) return 0;
-    }
+    uint64_t unlisted = s.disputed & ~listed, held = s.seen & ~unlisted;
+    for (uint64_t left = held & x->contexts[o]; left != 0; left &= left - 1)
+        if ((x->ties[o][lowest(left)].reach & unlisted) != 0) held &= ~(left & -left);
     *context = held;
-    return (listed & (foes | ~held)) == 0;
+    return (listed & (foes | ~held)) == 0 && (s.seen & ~held & ~holders_of(x, o, foes & s.seen)) == 0;
 }
 
 unsigned index_context(struct index *x, unsigned o, const struct record *r) {
     unsigned k = x->sets[o];
     uint64_t context = 0;
-    if (!has_limited(x, o)) make_rows(x, o);
-    uint64_t seen = seen_by(x, o, k, &r->edit);
-    if (r->edit.kind == LIMITED && !find_context(x, o, r, seen, &context)) return SPIRESLATE_NO_VERSION;
-    if (k < SETS) put_rows(x, o, k, &r->edit, seen, context);
+    if (!has_limited(x, o)) tie_all(x, o);
+    struct sight s = look_back(x, o, k, &r->edit);
+    if (r->edit.kind == LIMITED && !find_context(x, o, r, s, &context)) return SPIRESLATE_NO_VERSION;
+    if (k < SETS) tie(x, o, k, &r->edit, s, context);
     return SPIRESLATE_DONE;
 }
 
 uint64_t index_limited_conflicts(const struct index *x, unsigned o, unsigned k) {
-    uint64_t foes = 0, mask = 0;
-    for (uint64_t left = x->reach[o][k]; left != 0; left &= left - 1) foes |= x->plain[o][lowest(left)];
-    for (unsigned j = 0; j < k; j++)
-        if ((x->reach[o][j] & foes) != 0) mask |= UINT64_C(1) << j;
-    return mask;
+    uint64_t foes = 0, before = (UINT64_C(1) << k) - 1;
+    for (uint64_t left = x->ties[o][k].reach; left != 0; left &= left - 1) foes |= x->ties[o][lowest(left)].foes;
+    return holders_of(x, o, foes) & before;
 }

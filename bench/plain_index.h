@@ -10,6 +10,15 @@
 #include "plain_chains.h"
 #include "plain_edit.h"
 
+/* What binds a Set to the others of its object, where some are limited. Conflicts are those of document 01's rule. */
+struct ties {
+    uint64_t seen;     /* the Sets that it has seen */
+    uint64_t disputed; /* those of them that conflict with another of them */
+    uint64_t foes;     /* the Sets that it conflicts with */
+    uint64_t reach;    /* itself and its context */
+    uint64_t holders;  /* the Sets in whose reach it is */
+};
+
 struct index {
     const uint8_t *records; /* the table, where the edits held stand */
     unsigned sites, count, objects;
@@ -24,11 +33,10 @@ struct index {
     uint32_t heads, lists;
     uint64_t vectors, tails;
     size_t list_bytes;
-    uint64_t limited;              /* the objects for which a limited Set was judged: they have the following */
-    uint64_t seen[OBJECTS][SETS];  /* which Sets each Set has seen */
-    uint64_t plain[OBJECTS][SETS]; /* with which Sets each Set conflicts by document 01's rule */
-    uint64_t reach[OBJECTS][SETS]; /* each Set and its context */
-    struct chains chains[OBJECTS]; /* which objects of true tables all have */
+    uint64_t limited;                /* the objects for which a limited Set was judged: they have the following */
+    uint64_t contexts[OBJECTS];      /* the Sets that have contexts which are not empty */
+    struct ties ties[OBJECTS][SETS]; /* of each Set */
+    struct chains chains[OBJECTS];   /* which objects of true tables all have */
 };
 
 enum { PLACE_BITS = 8, MADE = 1 << PLACE_BITS };
