@@ -175,8 +175,8 @@ static const struct {
 };
 
 static void (*const makers[FILES])(struct file *) = {
-    make_many,   make_settled, make_disputed,    make_many_wide,  make_wide,         make_layers,
-    make_split,  make_split_boxes, make_recoloured, make_settled_full, make_disputed_full, make_undisputed,
+    make_many,  make_settled,     make_disputed,   make_many_wide,    make_wide,          make_layers,
+    make_split, make_split_boxes, make_recoloured, make_settled_full, make_disputed_full, make_undisputed,
 };
 
 /* Drawings half as long as one of those, with as many versions of a box. */

@@ -8,8 +8,8 @@ struct sight {
     uint64_t seen, disputed;
 };
 
-/* What e has seen of the Sets of object o before number k: with each Set that is seen, what that had seen. The disputes
-   of the last one that is seen are known; those of the others with any are looked up. */
+/* What e has seen of the Sets of object o before number k: with each Set that is seen, what that had seen. The
+   disputes of the last one that is seen are known; those of the others with any are looked up. */
 static struct sight look_back(const struct index *x, unsigned o, unsigned k, const struct edit *e) {
     struct sight s = {0, 0};
     uint64_t others = 0, left = k == SETS ? UINT64_MAX : (UINT64_C(1) << k) - 1;

@@ -29,8 +29,8 @@ int is_list_unfit(const struct record *r) {
     return wrong != 0;
 }
 
-/* Whether e has seen what a has seen, an edit that is held. Takes from the new entries of e those that a has as well: a
-   passed, so that they can no more tear e than a does. */
+/* Whether e has seen what a has seen, an edit that is held. Takes from the new entries of e those that a has as well:
+   a passed, so that they can no more tear e than a does. */
 static inline int meet(uint64_t *news, const struct edit *a, const struct edit *e) {
     uint64_t least = LANE_TOPS;
     for (unsigned w = 0; w < WORDS; w++) {
@@ -146,8 +146,8 @@ static int is_row_sound(const uint64_t *row, unsigned sets, unsigned many) {
     return is_row_ended(row, many);
 }
 
-/* Whether the records pass 1 to 5 and 16 in turn, each in a place that is zero behind it, with the objects of the table
-   in the order of their Creates and no Set more than an object may have. */
+/* Whether the records pass 1 to 5 and 16 in turn, each in a place that is zero behind it, with the table's objects in
+   the order of their Creates and no Set more than an object may have. */
 static int walk(struct index *x, unsigned n, const uint16_t *objects, unsigned most) {
     for (unsigned i = 0; i < n; i++) {
         const struct record *r = record_at(x, i);

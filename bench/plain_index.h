@@ -1,6 +1,6 @@
-/* What the plain calls know of records that they have walked over once: where each edit stands, what each site had seen
-   last, the Sets of each object, and where some of these are limited their contexts. The edits are read in the table's
-   places, and only what is filled is ever read, so that an index is made with no copying and hardly any clearing. */
+/* What the plain calls know of records that they have walked over once: where each edit stands, what each site had
+   seen last, the Sets of each object, and where some of these are limited their contexts. The edits are read in the
+   table's places, and only what is filled is ever read: an index is made with no copying and hardly any clearing. */
 #ifndef PLAIN_INDEX_H
 #define PLAIN_INDEX_H
 

@@ -18,8 +18,8 @@ static inline int is_unfit(unsigned sites, const struct record *r) {
     return !is_layer(e->kind) || e->tseq == 0 || e->key != 0 || e->value != 0;
 }
 
-/* Answers 1 to 4 by the vector. Only the entries that are not as the author's latest edit lets expect need a look: that
-   edit passed. */
+/* Answers 1 to 4 by the vector. The author's latest edit passed: so only those entries need a look that are not as in
+   the edit that comes next if its author has seen nothing new. */
 static inline unsigned judge_vector(const struct index *x, const struct edit *e) {
     uint64_t news[WORDS], any = 0;
     for (unsigned w = 0; w < WORDS; w++) any |= news[w] = vector_word(e, w) ^ x->next[e->site][w];

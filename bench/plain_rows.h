@@ -5,8 +5,8 @@
 
 #include "plain_index.h"
 
-/* The step for Set k with these conflicts on a sound row of n groups; says how many there are then. Where they are more
-   than a row holds, the row stays. */
+/* The step for Set k with these conflicts on a sound row of n groups; says how many there are then. Where they are
+   more than a row holds, the row stays. */
 unsigned row_step(uint64_t *row, unsigned n, uint64_t conflicts, unsigned k);
 
 /* The true rows of a drawing that grows. The Sets that had no conflict when they came are in all groups of their
