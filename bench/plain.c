@@ -167,7 +167,8 @@ static struct spireslate_file_answer take_old(struct index *x, struct rows *w, u
     return (struct spireslate_file_answer){SPIRESLATE_DONE, 0};
 }
 
-/* Clears the rest of a table. It is most often clear, and seeing that takes no longer than writing. */
+/* Clears the rest of a table. It is most often clear already, and the look saves an emulator a long memset, which is
+   many times slower there; a processor may well be faster without the look. */
 static void clear(void *rest, size_t n) {
     if (!are_zero(rest, n)) memset(rest, 0, n);
 }
