@@ -229,16 +229,29 @@ static void compare_lengths(const struct drawing *given, const uint8_t *record) 
     }
 }
 
-/* Hands in a record with one byte changed, or of another length, or one that was handed in before. */
+/* Gives an edit the number before its own, or after it: it is then held already or early, whatever it has seen. */
+static void renumber(uint8_t *record) {
+    uint8_t *own = record + 4 + 2 * record[1];
+    unsigned seq = record[2] + 256u * record[3] + 1 - 2 * random_below(2);
+    record[2] = own[0] = (uint8_t)(seq % 256);
+    record[3] = own[1] = (uint8_t)(seq / 256);
+}
+
+/* Hands in a record with one byte changed, or of another length, or under another number, or one that was handed in
+   before. */
 static void compare_wrong_arrival(struct drawing *d, const struct file *f, const uint8_t *record) {
     uint8_t wrong[2 * SPIRESLATE_PLACE] = {0};
     const uint8_t *other = file_record(f, random_below(f->records));
     size_t length = record_length(record), from = length > SPIRESLATE_RECORD ? random_below(2) * SPIRESLATE_RECORD : 0;
     memcpy(wrong, record, length);
-    switch (random_below(5)) {
+    switch (random_below(6)) {
     case 0: compare_arrive(d, wrong, random_below(sizeof wrong)); break;
     case 1: compare_arrive(d, wrong, random_below(2) == 0 ? SPIRESLATE_PLACE : SPIRESLATE_RECORD); break;
     case 2: compare_arrive(d, other, record_length(other)); break;
+    case 3:
+        renumber(wrong);
+        compare_arrive(d, wrong, length);
+        break;
     default:
         /* of a limited Set every other time in its list */
         wrong[from + random_below((unsigned)(length - from))] = (uint8_t)random_below(random_below(2) == 0 ? 256 : 4);

@@ -5,22 +5,37 @@
 
 enum { SITES = SPIRESLATE_SITES, EIGHT = SPIRESLATE_OLD_SITES };
 
-static void put_many(struct file *f, const char *name, unsigned sites) {
-    enum { OBJECTS = 64, ROUNDS = 3, KEYS = 2 };
+static void put_many(struct file *f, const char *name, unsigned sites, unsigned objects) {
+    enum { ROUNDS = 3, KEYS = 2 };
     file_open(f, name, sites);
-    for (unsigned o = 0; o < OBJECTS; o++) file_create(f, o % sites);
+    for (unsigned o = 0; o < objects; o++) file_create(f, o % sites);
     file_sync_all(f);
-    for (unsigned i = 0; i < ROUNDS * OBJECTS; i++) {
-        unsigned site = random_below(sites), o = i % OBJECTS;
+    for (unsigned i = 0; i < ROUNDS * objects; i++) {
+        unsigned site = random_below(sites), o = i % objects;
         if (random_below(4) == 0) file_sync(f, site, random_below(sites));
         file_set(f, site, o % sites, o / sites + 1, random_below(KEYS), random_value());
     }
     file_close(f);
 }
 
-void make_many(struct file *f) { put_many(f, "256 records, 64 objects", EIGHT); }
+void make_many(struct file *f) { put_many(f, "256 records, 64 objects", EIGHT, 64); }
+void make_many_wide(struct file *f) { put_many(f, "256 records, 16 sites", SITES, 64); }
+void make_half_many(struct file *f) { put_many(f, "128 records, 32 objects", EIGHT, 32); }
+void make_half_many_wide(struct file *f) { put_many(f, "128 records, 16 sites", SITES, 32); }
 
-void make_many_wide(struct file *f) { put_many(f, "256 records, 16 sites", SITES); }
+enum { KEYS = 16 };
+
+static void put_undisputed(struct file *f, const char *name, unsigned records) {
+    enum { OBJECTS = 4 };
+    file_open(f, name, 1);
+    for (unsigned o = 0; o < OBJECTS; o++) file_create(f, 0);
+    for (unsigned i = 0; f->records < records; i++)
+        file_set(f, 0, 0, 1 + i % OBJECTS, i / OBJECTS % KEYS, 1000 * i);
+    file_close(f);
+}
+
+void make_undisputed(struct file *f) { put_undisputed(f, "256 undisputed, 1 site", 256); }
+void make_half_undisputed(struct file *f) { put_undisputed(f, "128 undisputed, 1 site", 128); }
 
 void make_layers(struct file *f) {
     enum { OBJECTS = 64 };
@@ -47,7 +62,22 @@ static void open_box(struct file *f, const char *name, unsigned sites) {
 static void settle_box(struct file *f, unsigned sets) {
     for (unsigned i = f->records - 1; i < sets; i++) {
         file_sync_all(f);
-        file_set(f, i % f->sites, 0, 1, random_below(16), random_value());
+        file_set(f, i % f->sites, 0, 1, random_below(KEYS), random_value());
+    }
+    file_close(f);
+}
+
+/* Three boxes more, and their Sets in turn until there are 256 records; the last one is of the last box. */
+static void fill_up(struct file *f, const char *name) {
+    enum { BOXES = 3 };
+    f->name = name;
+    file_sync_all(f);
+    for (unsigned box = 0; box < BOXES; box++) file_create(f, 0);
+    unsigned last = f->vectors[0][0];
+    for (unsigned i = 0; f->records < MOST_RECORDS; i++) {
+        unsigned left = MOST_RECORDS - 1 - f->records;
+        file_sync_all(f);
+        file_set(f, i % f->sites, 0, last - left % BOXES, i / BOXES % KEYS, 1000 * i);
     }
     file_close(f);
 }
@@ -64,6 +94,16 @@ void make_disputed(struct file *f) {
     open_box(f, "64 Sets in dispute", EIGHT);
     for (unsigned i = 0; i < SETS; i++) file_set(f, 1 + i % 2, 0, 1, i / 2 % DISPUTED_KEYS, 1000000 * (1 + i % 2));
     file_close(f);
+}
+
+void make_settled_full(struct file *f) {
+    make_settled(f);
+    fill_up(f, "32 versions, 256 records");
+}
+
+void make_disputed_full(struct file *f) {
+    make_disputed(f);
+    fill_up(f, "64 in dispute, 256 records");
 }
 
 void make_wide(struct file *f) {

@@ -79,6 +79,14 @@ void file_shorten(struct old_file *old, const struct file *f);
 void make_many(struct file *f);      /* of eight sites */
 void make_many_wide(struct file *f); /* of sixteen */
 
+/* Half of them: 128 records over 32 objects. */
+void make_half_many(struct file *f);
+void make_half_many_wide(struct file *f);
+
+/* Four objects of one site, whose Sets take all keys in turn. */
+void make_undisputed(struct file *f);      /* 256 records: 63 Sets each */
+void make_half_undisputed(struct file *f); /* 128 records: 31 Sets each */
+
 /* 64 objects of sixteen sites, with 64 Sets and 128 layer edits. */
 void make_layers(struct file *f);
 
@@ -86,6 +94,10 @@ void make_layers(struct file *f);
 void make_settled(struct file *f);  /* two of eight sites dispute five keys; the other 54 Sets have seen all before */
 void make_disputed(struct file *f); /* they do so again and again, so that all 64 Sets are in dispute */
 void make_wide(struct file *f);     /* all of sixteen sites dispute one key, and two of them another */
+
+/* The first two filled up to 256 records: with three objects more, whose Sets have seen all before them. */
+void make_settled_full(struct file *f);
+void make_disputed_full(struct file *f);
 
 /* Drawings of limited Sets. To split a box two sites limit a Set to each of its versions, each without sight of the
    other's: then it has twice as many. */

@@ -1,28 +1,24 @@
-/* The index of records, the answers to an edit against it, and the soundness of tables: each record is looked at once,
-   and whatever a later test asks of it is then found by its number. */
-#include <string.h>
-
+/* The index of records, the answers to what an edit has seen, and the soundness of tables: each record is looked at
+   once, and whatever a later test asks of it is then found by its number. */
 #include "plain_index.h"
 
-size_t record_decode(struct record *r, const uint8_t *stretch, size_t length) {
-    size_t bytes = stored_bytes(stretch, length);
-    if (bytes == 0) return 0;
-    memcpy(&r->edit, stretch, sizeof r->edit);
-    if (r->edit.kind != LIMITED) return bytes;
-    memcpy((uint8_t *)r + SPIRESLATE_RECORD, stretch + SPIRESLATE_RECORD,
-           (bytes <= sizeof *r ? bytes : SPIRESLATE_LIMITED_RECORD) - SPIRESLATE_RECORD);
-    return bytes;
-}
+#include <string.h>
 
-void index_open(struct index *x, unsigned sites) {
+#include "plain_judge.h"
+
+void index_open(struct index *x, const uint8_t *records, unsigned sites) {
+    x->records = records;
     x->sites = sites;
-    x->records = x->objects = x->tops = 0;
-    x->bytes = x->sum = 0;
+    x->count = x->objects = x->tops = 0;
+    x->heads = x->lists = 0;
+    x->vectors = x->tails = x->limited = 0;
+    x->list_bytes = 0;
     memset(x->held, 0, sizeof x->held);
+    memset(x->next, 0, sites * sizeof *x->next);
+    for (unsigned s = 0; s < sites; s++) x->next[s][s / LANES] = UINT64_C(1) << s % LANES * LANE;
 }
 
-/* Answer 1 to what a limited Set lists. */
-static int is_list_unfit(const struct record *r) {
+int is_list_unfit(const struct record *r) {
     unsigned wrong = r->zeros;
     if (r->count > MEMBERS) return 1;
     for (unsigned i = 0; i < r->count; i++) {
@@ -33,109 +29,111 @@ static int is_list_unfit(const struct record *r) {
     return wrong != 0;
 }
 
-/* Answer 1 to a record of its own length. */
-static int is_unfit(unsigned sites, const struct record *r) {
-    const struct edit *e = &r->edit;
-    if (e->kind != CREATE && !is_set(e->kind) && !is_layer(e->kind)) return 1;
-    if (e->site >= sites || e->seq == 0 || e->seq != e->vector[e->site] || e->key >= KEYS) return 1;
-    for (unsigned s = sites; s < SITES; s++)
-        if (e->vector[s] != 0) return 1;
-    if (e->kind == SET) return e->tseq == 0;
-    if (e->kind == LIMITED) return e->tseq == 0 || is_list_unfit(r);
-    if (is_layer(e->kind)) return e->tseq == 0 || e->key != 0 || e->value != 0;
-    return (e->tsite | e->key | e->tseq) != 0 || e->value != 0;
-}
-
-/* Whether v has one of its first n entries above w's. Without a branch inside, so that many are compared at once. */
-static inline int is_first_above(const uint16_t *v, const uint16_t *w, unsigned n) {
-    int above = 0;
-    for (unsigned s = 0; s < n; s++) above |= v[s] > w[s];
-    return above;
-}
-
-/* Whether v has an entry above w's, where the entries of v at or past N are 0: half of them are left out where they
-   can be. */
-static int is_above(const struct index *x, const uint16_t *v, const uint16_t *w) {
-    return x->sites <= SITES / 2 ? is_first_above(v, w, SITES / 2) : is_first_above(v, w, SITES);
-}
-
-/* Answer 4. The edits held have seen what those that they had seen had seen, so the latest edit of each site that e
-   has seen answers for the earlier ones. */
-static int is_torn(const struct index *x, const struct edit *e) {
-    for (unsigned s = 0; s < x->sites; s++) {
-        unsigned seen = e->vector[s] - (s == e->site);
-        if (seen != 0 && is_above(x, x->edits[x->place[s][seen]].vector, e->vector)) return 1;
+/* Whether e has seen what a has seen, an edit that is held. Takes from the new entries of e those that a has as well:
+   a passed, so that they can no more tear e than a does. */
+static inline int meet(uint64_t *news, const struct edit *a, const struct edit *e) {
+    uint64_t least = LANE_TOPS;
+    for (unsigned w = 0; w < WORDS; w++) {
+        uint64_t word = vector_word(e, w), other = word ^ vector_word(a, w);
+        if (other == 0) {
+            news[w] = 0;
+            continue;
+        }
+        least &= lanes_at_least(word, vector_word(a, w));
+        news[w] &= ((((other & ~LANE_TOPS) + ~LANE_TOPS) | other) & LANE_TOPS) / (1 << (LANE - 1)) * 0xFFFF;
     }
-    return 0;
+    return least == LANE_TOPS;
 }
 
-/* Answer 5 to a Set or a layer edit. */
-static int is_astray(const struct index *x, const struct edit *e) {
-    if (e->tsite >= x->sites || e->tseq > e->vector[e->tsite] || e->tseq > x->held[e->tsite]) return 1;
-    return x->edits[x->place[e->tsite][e->tseq]].kind != CREATE;
+/* Whether e has all that its author's latest edit had. */
+static int keeps_own(const struct index *x, const struct edit *e) {
+    uint64_t least = LANE_TOPS;
+    for (unsigned w = 0; w < WORDS; w++) least &= lanes_at_least(vector_word(e, w), x->next[e->site][w]);
+    return least == LANE_TOPS;
 }
 
-unsigned index_judge(struct index *x, const struct record *r) {
-    const struct edit *e = &r->edit;
-    if (is_unfit(x->sites, r)) return SPIRESLATE_MALFORMED;
-    if (e->seq <= x->held[e->site]) return SPIRESLATE_REPEATED;
-    uint16_t next[SITES];
-    memcpy(next, x->held, sizeof next);
-    next[e->site]++;
-    if (is_above(x, e->vector, next)) return SPIRESLATE_EARLY;
-    if (is_torn(x, e)) return SPIRESLATE_TORN;
-    if (e->kind != CREATE && is_astray(x, e)) return SPIRESLATE_ASTRAY;
-    return is_set(e->kind) ? index_context(x, index_target(x, e), r) : SPIRESLATE_DONE;
+/* The answer to a new entry, as a bit; 0 for none. */
+static inline unsigned judge_entry(const struct index *x, const struct edit *e, unsigned s, uint64_t *news) {
+    unsigned seen = e->vector[s];
+    if (s >= x->sites) return 1u << SPIRESLATE_MALFORMED;
+    if (s == e->site || seen == 0) return 0;
+    if (seen > x->held[s]) return 1u << SPIRESLATE_EARLY;
+    return meet(news, edit_at(x, place_of(x, s, seen)), e) ? 0 : 1u << SPIRESLATE_TORN;
 }
 
-/* The first words of a record, so many, added up and wrapped. */
-static inline uint32_t sum_of(const struct record *r, unsigned many) {
-    uint32_t words[SPIRESLATE_PLACE / sizeof(uint32_t)], sum = 0;
-    memcpy(words, r, many * sizeof *words);
-    for (unsigned i = 0; i < many; i++) sum += words[i];
-    return sum;
-}
-
-/* All words of a record; the number of most is known beforehand, and they are added up faster. */
-static uint32_t word_sum(const struct record *r) {
-    enum { WORDS = SPIRESLATE_RECORD / sizeof(uint32_t) };
-    return r->edit.kind == LIMITED ? sum_of(r, WORDS + 1 + r->count) : sum_of(r, WORDS);
-}
-
-void index_add(struct index *x, const struct record *r) {
-    const struct edit *e = &r->edit;
-    unsigned i = x->records++;
-    x->edits[i] = *e;
-    x->bytes += record_bytes(r);
-    x->place[e->site][e->seq] = (uint16_t)i;
-    x->held[e->site]++;
-    x->sum += word_sum(r);
-    if (e->kind == CREATE) {
-        unsigned o = x->objects++;
-        x->object[i] = (uint8_t)o;
-        x->create[o] = (uint16_t)i;
-        x->sets[o] = 0;
-        x->is_limited[o] = 0;
-    } else if (is_set(e->kind)) {
-        unsigned o = index_target(x, e), k = x->sets[o]++;
-        x->set[o][k] = (uint16_t)i;
-        x->number[i] = (uint8_t)k;
-        if (x->is_limited[o]) index_meet(x, o, k);
-    } else if (e->kind == TOP) {
-        x->top[x->tops++] = (uint16_t)i;
+/* The same of all new entries of other sites. */
+static unsigned judge_entries(const struct index *x, const struct edit *e, uint64_t *news) {
+    unsigned found = 0;
+    for (unsigned w = 0; w < WORDS; w++) {
+        while (news[w] != 0) {
+            unsigned lane = lowest(news[w]) / LANE;
+            news[w] &= ~(UINT64_C(0xFFFF) << lane * LANE);
+            found |= judge_entry(x, e, w * LANES + lane, news);
+        }
     }
+    return found;
 }
 
-static int zero_bytes(const uint8_t *p, size_t n) {
-    uint8_t any = 0;
-    for (size_t i = 0; i < n; i++) any |= p[i];
-    return any == 0;
+/* The edits held have seen what those that they had seen had seen, so the latest edit of each site that e has seen
+   answers for the earlier ones; and the record before e, where e has seen that, often for all. */
+unsigned index_judge_news(const struct index *x, const struct edit *e, uint64_t *news) {
+    unsigned found = 0, own = x->held[e->site], kept = own == 0;
+    if (e->seq != own + 1) found |= 1u << (e->seq <= own ? SPIRESLATE_REPEATED : SPIRESLATE_EARLY);
+    if (x->count != 0) {
+        const struct edit *before = edit_at(x, x->count - 1);
+        if (before->site != e->site && has_seen(e, before->site, before->seq)) {
+            if (!meet(news, before, e)) found |= 1u << SPIRESLATE_TORN;
+            kept |= has_seen(before, e->site, own);
+        }
+    }
+    if (!kept && !keeps_own(x, e)) found |= 1u << SPIRESLATE_TORN;
+    found |= judge_entries(x, e, news);
+    return found == 0 ? SPIRESLATE_DONE : lowest(found);
 }
 
-static int zero_groups(const uint64_t *p, size_t n) {
+typedef uint64_t pair __attribute__((vector_size(16), may_alias));
+typedef pair loose_pair __attribute__((aligned(1)));
+
+/* From the first 16 bytes on that are aligned as a processor wants it. */
+static uint64_t gather_blocks(const uint8_t *at, size_t n) {
+    enum { BLOCK = 4 * sizeof(pair) };
+    pair all = *(const loose_pair *)at, more = {0};
+    size_t skipped = -(uintptr_t)at % sizeof(pair);
+    for (at += skipped, n -= skipped; n >= BLOCK; n -= BLOCK, at += BLOCK) {
+        const pair *p = (const pair *)at;
+        all |= p[0] | p[1];
+        more |= p[2] | p[3];
+    }
+    for (; n >= sizeof(pair); n -= sizeof(pair), at += sizeof(pair)) all |= *(const pair *)at;
+    all |= more;
+    uint64_t any = all[0] | all[1];
+    for (; n != 0; n--) any |= *at++;
+    return any;
+}
+
+int are_zero(const void *bytes, size_t n) {
+    const uint8_t *at = bytes;
     uint64_t any = 0;
-    for (size_t i = 0; i < n; i++) any |= p[i];
+    if (n >= sizeof(pair)) return gather_blocks(at, n) == 0;
+    for (; n != 0; n--) any |= *at++;
     return any == 0;
+}
+
+int is_rest_zero(const struct record *r) {
+    enum { BEHIND = SPIRESLATE_RECORD + sizeof(uint32_t) };
+    const uint8_t *place = (const uint8_t *)r;
+    if (r->edit.kind == LIMITED) return are_zero(place + record_bytes(r), SPIRESLATE_PLACE - record_bytes(r));
+    const loose_pair *p = (const loose_pair *)(place + BEHIND);
+    pair rest = (p[0] | p[1]) | (p[2] | p[3]);
+    return (rest[0] | rest[1] | half_at(place, SPIRESLATE_RECORD)) == 0;
+}
+
+int are_tables_zero(const uint8_t *records, const uint16_t *objects, const uint64_t *groups, unsigned held,
+                    unsigned made) {
+    size_t used = held * SPIRESLATE_PLACE, entries = made * ENTRY, rows = made * GROUPS;
+    return are_zero(records + used, SPIRESLATE_RECORDS_LENGTH - used) &&
+           are_zero(objects + entries, (SPIRESLATE_OBJECTS_LENGTH - entries) * sizeof *objects) &&
+           are_zero(groups + rows, (SPIRESLATE_GROUPS_LENGTH - rows) * sizeof *groups);
 }
 
 /* Whether the row of an object with so many Sets and groups is sound. The groups ascend, so that the last one is the
@@ -145,44 +143,32 @@ static int is_row_sound(const uint64_t *row, unsigned sets, unsigned many) {
     if (sets < SETS && row[many - 1] >> sets != 0) return 0;
     for (unsigned i = 1; i < many; i++)
         if (row[i] <= row[i - 1]) return 0;
-    return zero_groups(row + many, GROUPS - many);
+    return is_row_ended(row, many);
 }
 
-int zero_rests(const uint8_t *records, unsigned n) {
-    size_t used = (size_t)n * SPIRESLATE_PLACE;
-    for (const uint8_t *place = records; place < records + used; place += SPIRESLATE_PLACE) {
-        size_t bytes = stored_bytes(place, SPIRESLATE_PLACE);
-        if (bytes == 0 || !zero_bytes(place + bytes, SPIRESLATE_PLACE - bytes)) return 0;
-    }
-    return zero_bytes(records + used, SPIRESLATE_RECORDS_LENGTH - used);
-}
-
-/* Whether the records pass 1 to 5 and 16 in turn, with no object more and no Set more than tables have place for. */
-static int walk(struct index *x, const uint8_t *records, unsigned n, unsigned objects) {
+/* Whether the records pass 1 to 5 and 16 in turn, each in a place that is zero behind it, with the table's objects in
+   the order of their Creates and no Set more than an object may have. */
+static int walk(struct index *x, unsigned n, const uint16_t *objects, unsigned most) {
     for (unsigned i = 0; i < n; i++) {
-        struct record r;
-        if (record_decode(&r, records + i * SPIRESLATE_PLACE, SPIRESLATE_PLACE) == 0) return 0;
-        if (index_judge(x, &r) != SPIRESLATE_DONE) return 0;
-        if (r.edit.kind == CREATE && x->objects == objects) return 0;
-        if (is_set(r.edit.kind) && x->sets[index_target(x, &r.edit)] == SETS) return 0;
-        index_add(x, &r);
+        const struct record *r = record_at(x, i);
+        unsigned o;
+        if (judge(x, r, &o) != SPIRESLATE_DONE || !is_rest_zero(r)) return 0;
+        if (r->edit.kind == CREATE && (o == most || objects[o * ENTRY] != i)) return 0;
+        if (is_set(r->edit.kind) && x->sets[o] == SETS) return 0;
+        index_add(x, r, o);
     }
-    return x->objects == objects;
+    return x->objects == most;
 }
 
 int index_sound(struct index *x, const struct spireslate_counters *c, const uint8_t *records,
                 const uint16_t *objects, const uint64_t *groups) {
     if (c->sites < 1 || c->sites > SITES || c->records > RECORDS || c->objects > OBJECTS) return 0;
-    index_open(x, c->sites);
-    if (!walk(x, records, c->records, c->objects)) return 0;
-    if (memcmp(x->held, c->held, sizeof x->held) != 0 || x->sum != c->sum) return 0;
+    index_open(x, records, c->sites);
+    if (!walk(x, c->records, objects, c->objects)) return 0;
+    if (memcmp(x->held, c->held, sizeof x->held) != 0 || index_sum(x) != c->sum) return 0;
     for (unsigned o = 0; o < x->objects; o++) {
         const uint16_t *entry = objects + o * ENTRY;
-        if (entry[0] != x->create[o] || entry[1] != x->sets[o]) return 0;
-        if (!is_row_sound(groups + o * GROUPS, entry[1], entry[2])) return 0;
+        if (entry[1] != x->sets[o] || !is_row_sound(groups + o * GROUPS, entry[1], entry[2])) return 0;
     }
-    for (unsigned i = x->objects * ENTRY; i < SPIRESLATE_OBJECTS_LENGTH; i++)
-        if (objects[i] != 0) return 0;
-    size_t rows = x->objects * GROUPS;
-    return zero_rests(records, x->records) && zero_groups(groups + rows, SPIRESLATE_GROUPS_LENGTH - rows);
+    return are_tables_zero(records, objects, groups, x->count, x->objects);
 }
