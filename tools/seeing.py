@@ -8,9 +8,11 @@ def joined(vectors):
 
 
 def needed(vectors, e, known):
-    """The names of the edits that e had seen past these counts: the latest of each other site, but for those that
-    another of them had seen. Only names in this table of vectors are looked at."""
-    latest = [(site, count) for site, count in enumerate(e.vector)
-              if site != e.site and count > known[site] and (site, count) in vectors]
-    return [one for one in latest
-            if not any(vectors[other][one[0]] >= one[1] for other in latest if other != one)]
+    """The names of the edits that e had seen past these counts: of the names in this table of vectors the latest of
+    each other site, but for those that another of them had seen."""
+    latest = {}
+    for site, seq in vectors:
+        if site != e.site and site < SITES and known[site] < seq <= e.vector[site]:
+            latest[site] = max(seq, latest.get(site, 0))
+    names = sorted(latest.items())
+    return [one for one in names if not any(vectors[other][one[0]] >= one[1] for other in names if other != one)]
