@@ -69,15 +69,18 @@ def faults(picture):
 
 
 def untrue(drawing, box):
-    """Pairs of edits of which the lines say what is not so. Had seen is the order in a lane, the arrows, and all that
-    follows from these."""
+    """Pairs of edits of which the lines say what is not so, or twice. Had seen is the order in a lane, the arrows, and
+    all that follows from these."""
     plan, reached, last = Plan(drawing, box), {}, {}
     arrows, disputes = {}, {frozenset((one.e, other.e)) for one, other in plan.disputes}
     for one, other in plan.seen:
         arrows.setdefault(other, []).append(one)
     for one in plan.shown.values():
-        had = arrows.get(one, []) + ([last[one.lane]] if one.lane in last else [])
-        reached[one.e] = {other.e for other in had}.union(*(reached[other.e] for other in had))
+        ahead = arrows.get(one, [])
+        had = ahead + ([last[one.lane]] if one.lane in last else [])
+        further = set().union(*(reached[other.e] for other in had))
+        yield from ("not needed: %s %s" % (other.name, one.name) for other in ahead if other.e in further)
+        reached[one.e] = further | {other.e for other in had}
         last[one.lane] = one
     for a, b in combinations(reached, 2):
         if rules.before(a, b) != (a in reached[b]) or rules.before(b, a) != (b in reached[a]):

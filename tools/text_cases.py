@@ -1,5 +1,5 @@
-"""Texts of drawings, by name: those that are none, with the line and what is said of it, and those that are one though
-the rules refuse the drawing, with the number."""
+"""Texts of drawings, by name: those that are none, with the line and what is said of it; those that are one though the
+rules refuse the drawing, with the number; those that can be shorter; and those whose pictures are drawn."""
 
 TWO = "sites 3 long\n0.1 create\n"
 OLD = "sites 3 old\n0.1 create\n"
@@ -75,11 +75,53 @@ REFUSED = {
     "members out of order": (TWO + "1.1 set 0.1 2=1\n2.1 set 0.1 2=2\n0.2 limited 0.1 2.1+1.1 3=1\n", 1),
     "17 members": (TWO + "1.1 limited 0.1 %s 2=1 seen 1 1 0\n" % "+".join("2.%d" % i for i in range(1, 18)), 1),
     "a layer edit in an old block": (OLD + "1.1 to-top 0.1\n", 1),
-    "no kind": (TWO + "raw " + "00" * 44 + "\n", 1),
+    "a count past N": (TWO + "1.1 create seen 1 1 0 1\n", 1),
+    "no kind": (TWO + "raw " + "0a" * 44 + "\n", 1),
+    "a Create with a value": (OLD + "raw " + "01000200" + "0200" + "00" * 21 + "01\n", 1),
     "the same edit twice": (TWO + "0.1 create\n", 2),
     "an edit ahead of one that it has seen": (TWO + "2.1 set 0.1 2=44 seen 1 1 1\n1.1 set 0.1 2=40\n", 3),
     "a torn vector": (TWO + "1.1 set 0.1 2=40\n2.1 set 0.1 2=44 seen 0 1 1\n", 4),
     "a box that was not seen": (TWO + "1.1 set 0.1 2=40 seen 0 1 0\n", 5),
     "a box that is none": (TWO + "0.2 set 0.1 2=40\n0.3 set 0.2 2=40\n", 5),
     "no such version": (TWO + "1.1 set 0.1 2=40\n2.1 set 0.1 2=44\n0.2 limited 0.1 - 3=1 after 1.1 2.1\n", 16),
+}
+
+SIDES = TWO + "1.1 set 0.1 2=40\n2.1 set 0.1 2=44\n"
+# the text, and the shortest one that says the same
+SHORTER = {
+    "counts that are the usual ones": (TWO + "1.1 set 0.1 2=40 seen 1 1 0\n", TWO + "1.1 set 0.1 2=40\n"),
+    "counts that are those of names": (SIDES + "0.2 create seen 2 1 1\n", SIDES + "0.2 create after 1.1 2.1\n"),
+    "the box and the edit before": (SIDES + "1.2 set 0.1 2=9 after 0.1 1.1\n", SIDES + "1.2 set 0.1 2=9\n"),
+    "names in another order": (SIDES + "0.2 create after 2.1 1.1 2.1\n", SIDES + "0.2 create after 1.1 2.1\n"),
+    "a name that another had seen": (SIDES + "2.2 create after 1.1\n0.2 create after 1.1 2.1 2.2\n",
+                                     SIDES + "2.2 create after 1.1\n0.2 create after 2.2\n"),
+    "a member": (SIDES + "0.2 limited 0.1 1.1 3=7 after 1.1 2.1\n", SIDES + "0.2 limited 0.1 1.1 3=7 after 2.1\n"),
+    "raw bytes that are an edit": (TWO + "raw 0101010001000100" + "00" * 36 + "\n", TWO + "1.1 create after 0.1\n"),
+    "capital digits": ("sites 1 long\nraw " + "0A" * 44 + "\n", "sites 1 long\nraw " + "0a" * 44 + "\n"),
+    "bytes in front, in short rows": ("sites 1 long\nfront AB\nfront CD\n", "sites 1 long\nfront abcd\n"),
+}
+
+
+def rounds(sites, times):
+    """Each site, having seen all that came before, sets a key of one box to its own value, so many times."""
+    lines, before = ["sites %d long" % sites, "0.1 create"], "0.1"
+    for i in range(times):
+        name = "%d.%d" % (i % sites, i // sites + 1 + (i % sites == 0))
+        lines.append("%s set 0.1 %d=%d after %s" % (name, i % 16, i, before))
+        before = name
+    return lines
+
+
+# two sites, neither seeing the other, set one key sixteen times each, and a third one limits an edit to one side
+MANY = [TWO] + ["%d.%d set 0.1 2=%d\n" % (site, i, site) for site in (1, 2) for i in range(1, 17)]
+PICTURES = {
+    "no edits": "sites 16 long\n",
+    "a list wider than the lanes": "sites 16 long\n0.1 create\n" + "".join(
+        "%d.1 set 0.1 %d=4294967295\n" % (site, site) for site in range(1, 16)),
+    "long lists of names": "".join(MANY) + "0.2 limited 0.1 %s 3=7 after 2.16\n" % "+".join(
+        "1.%d" % i for i in range(1, 17)),
+    "a dispute of sixteen sites": "sites 16 long\n0.1 create\n0.2 set 0.1 2=0\n" + "".join(
+        "%d.1 set 0.1 2=%d\n" % (site, site) for site in range(1, 16)),
+    "64 Sets that see each other": "\n".join(rounds(4, 64)) + "\n",
+    "256 edits of one site": "sites 1 long\n0.1 create\n" + "".join("0.%d to-top 0.1\n" % i for i in range(2, 257)),
 }
