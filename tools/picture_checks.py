@@ -1,11 +1,11 @@
-"""Whether a picture is clean and true: nothing in it overlaps or is cut off, and its lines say of each two edits
-whether one had seen the other and whether they are in dispute."""
+"""Whether a picture is clean and true: nothing in it overlaps or is cut off, and it says of each two edits whether one
+had seen the other and whether they are in dispute."""
 import xml.etree.ElementTree as tree
 from itertools import combinations
 
 import svg
 from drawing_text import rules
-from picture_sheet import Plan
+from picture_sheet import FEW, Plan
 
 FRAMES, LINES = ("create", "set", "layer", "disputed"), ("seen", "dispute")
 
@@ -68,11 +68,10 @@ def faults(picture):
                 if meet(side, frame) and not within(side, frame))
 
 
-def untrue(drawing, box):
-    """Pairs of edits of which the lines say what is not so, or twice. Had seen is the order in a lane, the arrows, and
+def unseen(plan):
+    """Pairs of edits of which the arrows say what is not so, or twice. Had seen is the order in a lane, the arrows, and
     all that follows from these."""
-    plan, reached, last = Plan(drawing, box), {}, {}
-    arrows, disputes = {}, {frozenset((one.e, other.e)) for one, other in plan.disputes}
+    reached, last, arrows = {}, {}, {}
     for one, other in plan.seen:
         arrows.setdefault(other, []).append(one)
     for one in plan.shown.values():
@@ -85,5 +84,19 @@ def untrue(drawing, box):
     for a, b in combinations(reached, 2):
         if rules.before(a, b) != (a in reached[b]) or rules.before(b, a) != (b in reached[a]):
             yield "seen: %s %s" % (rules.name(a), rules.name(b))
-        if rules.conflict(a, b) != (frozenset((a, b)) in disputes):
-            yield "dispute: %s %s" % (rules.name(a), rules.name(b))
+
+
+def undisputed(plan):
+    """Pairs of edits of which their names or the dashed lines say what is not so. Where there are few, both say it."""
+    lines = {frozenset(pair) for pair in plan.disputes}
+    for one, other in combinations(plan.shown.values(), 2):
+        is_so, few = rules.conflict(one.e, other.e), max(len(one.against), len(other.against)) <= FEW
+        named = {rules.name(other.e) in one.against, rules.name(one.e) in other.against}
+        if named != {is_so} or (is_so and few) != (frozenset((one, other)) in lines):
+            yield "dispute: %s %s" % (one.name, other.name)
+
+
+def untrue(drawing, box):
+    """What is not so in the picture of a drawing, or of one of its boxes."""
+    plan = Plan(drawing, box)
+    return [*unseen(plan), *undisputed(plan)]

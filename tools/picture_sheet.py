@@ -11,8 +11,10 @@ from stored import CREATE, LIMITED, SET, SITES, TOP
 MARGIN, NAMES, GAP = 20, 84, 14
 # the line of a lane below its upper side; an arrow's length and half its width; a dot's radius; a sample of the legend
 AXIS, ARROW, HALF, DOT, SAMPLE = 23, 9, 4, 3, (34, 16)
-# the height of a line in a sample
-LEVEL = SAMPLE[1] // 2
+# the height of a line in a sample, and how wide a row of samples may be
+LEVEL, ROW = SAMPLE[1] // 2, 760
+# an edit that is in dispute with more others than these has no lines to them, which would be a thicket: it names them
+FEW = 4
 
 
 def arrow(x, y):
@@ -41,7 +43,8 @@ class Plan:
             self.shown[rules.name(e)] = last[e.site] = one = Shown(e, self.lanes.index(e.site), column, against)
             self.seen += [(other, one) for other in had]
         ordered = sorted(self.shown.values(), key=lambda one: (one.column, one.lane))
-        self.disputes = [(one, other) for i, one in enumerate(ordered) for other in ordered[i + 1:]
+        few = [one for one in ordered if len(one.against) <= FEW]
+        self.disputes = [(one, other) for i, one in enumerate(few) for other in few[i + 1:]
                          if rules.name(other.e) in one.against]
 
     def routes(self):
@@ -113,8 +116,10 @@ def samples(plan):
             ("a layer edit", TOP, [one for one in edits if one.e.kind in rules.LAYERS])):
         if there:
             yield said, lambda x, y, kind=kind: frame(kind, False, (x, y), SAMPLE)
-    if any(one.against for one in edits):
-        yield "a Set in dispute", lambda x, y: frame(SET, True, (x, y), SAMPLE)
+    most = max((len(one.against) for one in edits), default=0)
+    if most:
+        said = "a Set in dispute" + (", with more than %d others without lines" % FEW if most > FEW else "")
+        yield said, lambda x, y: frame(SET, True, (x, y), SAMPLE)
     if plan.seen:
         yield "seen by the edit at the arrow", lambda x, y: [sample_line(SEEN, x, y), arrow(x + SAMPLE[0], y + LEVEL)]
     if plan.disputes:
@@ -126,7 +131,7 @@ def legend(plan, top):
     parts, x, widest = [], MARGIN, 0
     for said, sample in samples(plan):
         wide = SAMPLE[0] + GAP + svg.width(said)
-        if x > MARGIN and x + wide > 760:
+        if x > MARGIN and x + wide > ROW:
             x, top = MARGIN, top + SAMPLE[1] + GAP
         parts += [*sample(x, top), svg.text(x + SAMPLE[0] + 8, top - 1, said)]
         x += wide + 2 * GAP
