@@ -24,18 +24,20 @@ MEMBER, MOST_MEMBERS = 4, 16
 PLACE = MEMBERS + MEMBER * MOST_MEMBERS
 
 
-def record(kind, site, vector, target=(0, 0), key=0, value=0):
-    """An edit of a site, whose sequence number is its own entry of the vector; entries left out are 0."""
+def record(kind, site, vector, target=(0, 0), key=0, value=0, seq=None):
+    """An edit of a site, whose sequence number is its own entry of the vector unless another is given; entries left
+    out are 0."""
     vector = list(vector) + [0] * (SITES - len(vector))
-    return struct.pack("<BBH%dHBBHI" % SITES, kind, site, vector[site], *vector, target[0], key, target[1], value)
+    seq = vector[site] if seq is None else seq
+    return struct.pack("<BBH%dHBBHI" % SITES, kind, site, seq, *vector, target[0], key, target[1], value)
 
 
-def limited(site, vector, target, key, value, members, count=None):
+def limited(site, vector, target, key, value, members, count=None, seq=None):
     """A Set that is limited to the version that these members name, each a site and a sequence number; the count is
     the right one unless another is given."""
-    listed = b"".join(struct.pack("<BBH", s, 0, seq) for s, seq in members)
+    listed = b"".join(struct.pack("<BBH", s, 0, n) for s, n in members)
     count = len(members) if count is None else count
-    return record(LIMITED, site, vector, target, key, value) + struct.pack("<HH", count, 0) + listed
+    return record(LIMITED, site, vector, target, key, value, seq) + struct.pack("<HH", count, 0) + listed
 
 
 def span(data):
@@ -48,6 +50,11 @@ def span(data):
 def old(record):
     """The old record that is read as this one, where the entries of the further sites are 0 and nothing is listed."""
     return record[:VECTOR + 2 * OLD_SITES] + record[VECTOR + 2 * SITES:RECORD]
+
+
+def long(record):
+    """The long record that an old one is read as, whatever its kind."""
+    return record[:VECTOR + 2 * OLD_SITES] + bytes(EARLIER) + record[VECTOR + 2 * OLD_SITES:]
 
 
 def word_sum(records):
