@@ -191,7 +191,8 @@ pub news-decide :
     (e : Edit) → passesAgainst sites counts rs ps e ≡ passes sites (editsOf rs n) e
 unfolding passesAgainst passes isAstray
 news-decide sites few rs n pass ps ix counts long counted e =
-    first-three (unfit sites e) (repeatedAgainst counts e) (earlyAgainst counts e) (tornByNews rs ps (e .vector) (e .site))
+    first-three (unfit sites e) (repeatedAgainst counts e) (earlyAgainst counts e) (tornByNews rs ps (e .vector) (e
+    .site))
     (isAimed e && not (targetHeld counts rs ps e)) (isRepeated (editsOf rs n) e) (isEarly (editsOf rs n) e)
     (isTorn (editsOf rs n) e) (isAimed e && not (any (isTarget e) (editsOf rs n)))
     (λ fit.

@@ -205,8 +205,8 @@ pub fn is_in_turn(sites: u8, held: &[u16], rec: &[u8]) -> bool
     !(edit_history::is_repeated(held, s, q) | edit_history::is_early(held, v, s, q))
 }
 
-// Whether none of 1 to 5 is given to it, by the counts and the index of the records before it. What costs more is tested
-// where the rest has passed.
+// Whether none of 1 to 5 is given to it, by the counts and the index of the records before it. What costs more is
+// tested where the rest has passed.
 fn is_passing(sites: u8, held: &[u16], recs: &[u8], places: &[u16], rec: &[u8]) -> bool
     requires { ⌜ (recordLength ≤ length (now rec)) × (mostSites ≤ length (now held)) ⌝ }
     ensures { λ r. ⌜ r

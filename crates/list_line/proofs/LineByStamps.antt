@@ -1,5 +1,5 @@
--- The line from the Sets in dispute and the stamps is the version's line: the largest stamp of the members with a key is
--- that of the last one, and it holds its value. Assumes that the Sets have different names, and are not too many.
+-- The line from the Sets in dispute and the stamps is the version's line: the largest stamp of the members with a key
+-- is that of the last one, and it holds its value. Assumes that the Sets have different names, and are not too many.
 use mathlib.Core.Path.{_≡_, refl, ap₂}
 use mathlib.Core.List.{List, [], _∷_, _++_}
 use Prim.Native.Nat.{ℕ, zero, suc, _-_, _%_, _≤_}

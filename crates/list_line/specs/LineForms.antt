@@ -1,5 +1,5 @@
--- The line of a version from the Sets in dispute and the stamps, as the code makes it. No one need believe it: `line-by` of
--- proofs/LineByStamps.antt ties it to `Line`. Assumes nothing.
+-- The line of a version from the Sets in dispute and the stamps, as the code makes it. No one need believe it:
+-- `line-by` of proofs/LineByStamps.antt ties it to `Line`. Assumes nothing.
 use mathlib.Core.Bool.{cond}
 use mathlib.Core.List.{List, [], _∷_, _++_}
 use Prim.Native.Nat.{ℕ, zero, suc, _-_, _%_}

@@ -121,8 +121,8 @@ fn put_settings(out: &mut [u8], n: usize, stamps: &[u64], t: usize, g: u64) -> u
     w
 }
 
-// Puts at the front the line of the version g of the object whose Create is site.seq, by the d Sets in dispute and the t
-// stamps of the object's Sets; says how many bytes it has.
+// Puts at the front the line of the version g of the object whose Create is site.seq, by the d Sets in dispute and the
+// t stamps of the object's Sets; says how many bytes it has.
 pub fn put_line(
     out: &mut [u8],
     site: u8,

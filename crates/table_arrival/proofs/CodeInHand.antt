@@ -1,5 +1,5 @@
--- What the code of an arrival at sound tables has in hand: the first of 1 to 3, the survey of the records, and the first
--- of 1 to 6. Assumes nothing.
+-- What the code of an arrival at sound tables has in hand: the first of 1 to 3, the survey of the records, and the
+-- first of 1 to 6. Assumes nothing.
 use mathlib.Core.Path.{_≡_, _∙_}
 use mathlib.Core.Bool.{Bool, true, false}
 use mathlib.Core.List.{List}

@@ -31,7 +31,8 @@ ghost use Rattle.table_arrival.specs.ArrivalForms.{threeBy};
 // 2 or 3, if one of them applies to a record that is there whole, by the counts of the edits held.
 fn two_or_three(held: &[u16], rec: &[u8]) -> Answer
     requires { ⌜ (recordLength ≤ length (now rec)) × (mostSites ≤ length (now held)) ⌝ }
-    ensures { λ r. ⌜ numberOf r ≡ firstOf inTurn (false ∷ repeatedAgainst (now (held .entry)) (decodeOf (now (rec .entry)))
+    ensures { λ r. ⌜ numberOf r ≡ firstOf inTurn (false
+        ∷ repeatedAgainst (now (held .entry)) (decodeOf (now (rec .entry)))
         ∷ earlyAgainst (now (held .entry)) (decodeOf (now (rec .entry))) ∷ []) ⌝ }
 {
     let v = edit_record::vector_of(rec);

@@ -264,9 +264,9 @@ fn take_layer(c: Counters, records: &mut [u8], rec: &[u8], s: Site) -> Counters
     counted_with(c, s, rec, 0)
 }
 
-// What is judged of an arriving record with its survey v, where the first n records are held. Where no Set of its object
-// is limited, and it is not, document 01's conflicts are all that there are; else the places of those Sets are looked
-// for.
+// What is judged of an arriving record with its survey v, where the first n records are held. Where no Set of its
+// object is limited, and it is not, document 01's conflicts are all that there are; else the places of those Sets are
+// looked for.
 pub fn judge(recs: &[u8], n: usize, rec: &[u8], v: Surveyed) -> Judged
     requires { ⌜ (n ≤ mostRecords)
         × (length (setsOn (decodeOf (now rec) .tsite) (decodeOf (now rec) .tseq) (editsOf (now recs) n)) ≤ mostSets)
@@ -289,8 +289,8 @@ pub fn judge(recs: &[u8], n: usize, rec: &[u8], v: Surveyed) -> Judged
     group_limited::judge(recs, &places, k, e)
 }
 
-// An arrival, at tables that are known to be sound, as those that an arrival left are, of a record to which none of 1 to
-// 3 is given, with its survey v and what is judged of it, j. Where the rows are known to be apart, as those of true
+// An arrival, at tables that are known to be sound, as those that an arrival left are, of a record to which none of 1
+// to 3 is given, with its survey v and what is judged of it, j. Where the rows are known to be apart, as those of true
 // tables are, a Set without conflict is taken faster.
 pub fn accept(
     c: Counters,

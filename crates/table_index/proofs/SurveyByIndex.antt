@@ -1,5 +1,5 @@
--- The survey by the index is the survey of the edits held, for an edit to which none of 1 to 3 applies: one whose target
--- is held has it where the index says. Assumes that the records pass and are within the limits.
+-- The survey by the index is the survey of the edits held, for an edit to which none of 1 to 3 applies: one whose
+-- target is held has it where the index says. Assumes that the records pass and are within the limits.
 use mathlib.Core.Path.{_≡_, refl, sym, ap, ap₂, _∙_}
 use mathlib.Core.Logic.{_⊎_, inl, inr}
 use mathlib.Core.Bool.{Bool, true, false, not, _&&_, _||_, cond}

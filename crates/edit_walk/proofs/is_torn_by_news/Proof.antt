@@ -47,7 +47,9 @@ unfolding some
 loop-holds c = (
   omega arith,
   c .is-larger-somewhere .ensures
-      ∙ sym (or-false (largerSomewhere (c .before .vector-by .result) (c .before .before .before .before .before .before .args .w))),
+      ∙ sym (or-false
+      (largerSomewhere (c .before .vector-by .result) (c .before .before .before .before .before .before .args
+      .w))),
 )
 
 cast-loop : tie.Need-cast-loop Inv-loop μ-loop

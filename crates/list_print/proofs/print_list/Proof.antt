@@ -48,10 +48,13 @@ same-length c = search needs
 
 returns-3 : tie.Need-returns-3
 returns-3 c =
-    let a = c .before .before .before .before .before .before .before .before .before .before .before .before .before .before .before .args in
+    let a = c .before .before .before .before .before .before .before .before .before .before .before .before
+    .before .before .before .args in
     list-put (tablesOf (a .c) (now (a .records)) (now (a .objects)) (now (a .groups))) (now (a .out)) (a .start) _
-    (sym (c .before .before .before .before .before .before .before .before .before .is-sound-with .ensures .0) ∙ not-false _ (c .before .before .before .before .before .before .before .if1 .left))
-    (sym (c .before .before .before .before .before .before .has-room .ensures) ∙ not-false _ (c .before .before .before .before .before .if2 .left))
+    (sym (c .before .before .before .before .before .before .before .before .before .is-sound-with .ensures .0) ∙
+    not-false _ (c .before .before .before .before .before .before .before .if1 .left))
+    (sym (c .before .before .before .before .before .before .has-room .ensures) ∙ not-false _ (c .before .before
+    .before .before .before .if2 .left))
     (c .before .before .put-list-by .ensures)
 
 pub print-list-spec : {M : Type 1} → statement M

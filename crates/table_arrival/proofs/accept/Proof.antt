@@ -22,7 +22,8 @@ start-of c = c .before .before .before .before .before .before
 first-of :
     (c : tie.After-number) →
     let a = start-of c .args in
-    c .number .result ≡ firstToSix (tablesOf (a .c) (now (a .records)) (now (a .objects)) (now (a .groups))) (now (a .rec))
+    c .number .result ≡ firstToSix (tablesOf (a .c) (now (a .records)) (now (a .objects)) (now (a .groups))) (now (a
+    .rec))
 first-of c =
     let s = start-of c in
     let a = s .args in

@@ -83,8 +83,18 @@ cast-store-set-2 c =
 
 store-set-requires : tie.Need-store-set-requires
 store-set-requires c κs =
-    let p = facts (c .before .before .before .before .before .before .before .before .before .before .before .before .before) in
-    (p .room, p .few-objects, p .object, p .records-long, p .objects-long, p .whole, p .short, rw (c .before .before .byte-at .ensures) (p .count))
+    let p = facts (c .before .before .before .before .before .before .before .before .before .before .before .before
+    .before) in (
+      p .room,
+      p .few-objects,
+      p .object,
+      p .records-long,
+      p .objects-long,
+      p .whole,
+      p .short,
+      rw (c .before .before
+          .byte-at .ensures) (p .count),
+    )
 
 same-length-2 : tie.Need-same-length-2
 same-length-2 c = search needs

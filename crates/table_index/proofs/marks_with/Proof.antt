@@ -16,7 +16,8 @@ use Rattle.table_index.proofs.marks_with.Statement.{statement}
 use Rattle.table_index.proofs.marks_with.Tie as tie
 
 abbrev Inv-loop : tie.InvT-loop
-Inv-loop recs places k rec marks₀ i₀ marks i = (i ≤ k) × (marks ≡ plainMarks (decodeOf rec) (map (recordAt recs) (take i places)))
+Inv-loop recs places k rec marks₀ i₀ marks i = (i ≤ k) × (marks ≡ plainMarks (decodeOf rec) (map (recordAt recs)
+    (take i places)))
 
 abbrev μ-loop : tie.MeasureT-loop
 μ-loop recs places k rec marks₀ i₀ marks i = k - i
@@ -38,7 +39,10 @@ marked-if-requires c κs =
     let s = c .before .before .before .before .before .before .before in
     let a = s .args in
     let l = c .before .before .before .loop in (
-      rw (l .inv .1) (marks-below (decodeOf (now (a .rec))) (now (a .recs)) (now (a .places)) (l .i) (omega (arith, s .pre .0))),
+      rw (l .inv .1) (marks-below (decodeOf (now (a .rec))) (now (a .recs)) (now (a .places)) (l .i) (omega (
+        arith,
+        s .pre .0,
+      ))),
       λ y. omega (arith, s .pre .1),
     )
 
@@ -55,7 +59,11 @@ loop-again c =
     let l = c .before .before .before .before .loop in (
       omega arith,
       rw (c .marked-if .ensures, l .inv .1, c .before .is-conflict-with .ensures)
-          (sym (marks-more (decodeOf (now (a .rec))) (now (a .recs)) (now (a .places)) (l .i) (omega (arith, s .pre .0)))),
+          (sym (marks-more (decodeOf (now (a .rec))) (now (a .recs)) (now (a .places)) (l .i) (omega (
+            arith,
+            s .pre
+                .0,
+          )))),
     )
 
 returns : tie.Need-returns Inv-loop μ-loop

@@ -115,7 +115,8 @@ returns c torn =
     let es = editsOf rs (a .c .records) in
     let m = aimed (a .c) rs h ps ns cs ms x e held in
     let at = c .before .before .before .at16 .result * mostSets in
-    let k : c .before .before .at162 .result ≡ getD cs (objectOf e es) 0 = t .count ∙ ap (λ (i : ℕ). getD cs i 0) (t .object) in
+    let k : c .before .before .at162 .result ≡ getD cs (objectOf e es) 0 = t .count ∙ ap (λ (i : ℕ). getD cs i 0) (t
+    .object) in
     let marks : c .mates-in .result ≡ matesOf e (setsOn (e .tsite) (e .tseq) es)
     = c .mates-in .ensures
     ∙ ap (λ (l : List ℕ). matesOf e (map (recordAt rs) l))

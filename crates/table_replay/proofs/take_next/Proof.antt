@@ -94,7 +94,8 @@ add-requires c κs =
     let s6 = c .before .before .before .before .before .before in
     let s7 = s6 .before in
     let s14 = s7 .before .before .before .before .before .before .before in
-    let s = start-of (s14 .before .before .before .before .before .before .before .before .before .before .before .before .before .before) in
+    let s = start-of (s14 .before .before .before .before .before .before .before .before .before .before .before
+    .before .before .before) in
     let a = s .args in
     let t = tablesOf (a .c) (now (a .records)) (now (a .objects)) (now (a .groups)) in
     let b = now (a .rec) in
@@ -141,7 +142,8 @@ returns-2 c =
     let s15 = s8 .before .before .before .before .before .before .before in
     let s16 = s15 .before in
     let s23 = s16 .before .before .before .before .before .before .before in
-    let s = start-of (s23 .before .before .before .before .before .before .before .before .before .before .before .before .before .before) in
+    let s = start-of (s23 .before .before .before .before .before .before .before .before .before .before .before
+    .before .before .before) in
     let a = s .args in
     let t = tablesOf (a .c) (now (a .records)) (now (a .objects)) (now (a .groups)) in
     let b = now (a .rec) in

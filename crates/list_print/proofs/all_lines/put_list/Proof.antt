@@ -34,7 +34,14 @@ slice-aggregate-put-list-by : tie.Need-slice-aggregate-put-list-by
 slice-aggregate-put-list-by c = search needs
 
 put-list-by-requires : tie.Need-put-list-by-requires
-put-list-by-requires c κs = (c .before .before .before .before .before .before .before .before .before .before .before .before .before .before .before .before .pre .0, c .before .before .before .before .before .before .build .ensures .indexed, c .before .before .before .before .before .before .before .before .before .before .before .before .before .before .before .before .pre .1)
+put-list-by-requires c κs = (
+  c .before .before .before .before .before .before .before .before .before .before
+      .before .before .before .before .before .before .pre .0,
+  c .before .before .before .before .before .before
+      .build .ensures .indexed,
+  c .before .before .before .before .before .before .before .before .before .before
+      .before .before .before .before .before .before .pre .1,
+)
 
 same-length : tie.Need-same-length
 same-length c = search needs

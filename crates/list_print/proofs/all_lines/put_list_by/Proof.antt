@@ -29,7 +29,8 @@ slice-aggregate-chain-sets c = search needs
 
 chain-sets-requires : tie.Need-chain-sets-requires
 chain-sets-requires c κs =
-    let start = c .before .before .before .before .before .before .before .before .before .before .before .before .before in
+    let start = c .before .before .before .before .before .before .before .before .before .before .before .before
+    .before in
     let a = start .args in
     let t = tablesOf (a .c) (now (a .records)) (now (a .objects)) (now (a .groups)) in
     let s = sound-at t (start .pre .0) in (
@@ -47,7 +48,8 @@ slice-aggregate-put-objects-2 c = search needs
 
 put-objects-requires : tie.Need-put-objects-requires
 put-objects-requires c κs =
-    let start = c .before .before .before .before .before .before .before .before .before .before .before .before .before .before .before .before .before .before in
+    let start = c .before .before .before .before .before .before .before .before .before .before .before .before
+    .before .before .before .before .before .before in
     let h = c .before .before .before .before .before .before .before .before .before .before .put-head in (
       start .pre .0,
       c .before .before .before .before .chain-sets .ensures,
@@ -60,10 +62,12 @@ same-length c = search needs
 
 returns : tie.Need-returns
 returns c =
-    let start = c .before .before .before .before .before .before .before .before .before .before .before .before .before .before .before .before .before .before .before .before .before .before in
+    let start = c .before .before .before .before .before .before .before .before .before .before .before .before
+    .before .before .before .before .before .before .before .before .before .before in
     let a = start .args in
     let t = tablesOf (a .c) (now (a .records)) (now (a .objects)) (now (a .groups)) in
-    let h = c .before .before .before .before .before .before .before .before .before .before .before .before .before .before .put-head in
+    let h = c .before .before .before .before .before .before .before .before .before .before .before .before
+    .before .before .put-head in
     rw (list-split t)
     (fewer-behind (now (a .out)) (a .n) (omega arith)
     (more-behind (now (a .out)) (a .n) (omega (arith, start .pre .2, h .ensures .few)) (h .ensures)

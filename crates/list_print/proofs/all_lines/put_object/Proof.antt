@@ -27,12 +27,15 @@ slice-aggregate-gather c = search needs
 
 gather-requires : tie.Need-gather-requires
 gather-requires c κs =
-    let p = c .before .before .before .before .before .before .before .before .before .before .before .before .before .before .before .before .pre in
+    let p = c .before .before .before .before .before .before .before .before .before .before .before .before
+    .before .before .before .before .pre in
     (p .0, p .2, c .before .before .before .before .before .put-chained .ensures, p .5, p .6, p .7)
 
 put-versions-requires : tie.Need-put-versions-requires
 put-versions-requires c κs =
-    let start = c .before .before .before .before .before .before .before .before .before .before .before .before .before .before .before .before .before .before .before .before .before .before .before .before .before .before .before .before in
+    let start = c .before .before .before .before .before .before .before .before .before .before .before .before
+    .before .before .before .before .before .before .before .before .before .before .before .before .before .before
+    .before .before in
     let a = start .args in
     let t = tablesOf (a .c) (now (a .records)) (now (a .objects)) (now (a .groups)) in
     let g = c .before .before .before .before .before .before .before .before .before .before .before .gather in
@@ -62,17 +65,21 @@ same-length-5 c = search needs
 
 returns : tie.Need-returns
 returns c =
-    let start = c .before .before .before .before .before .before .before .before .before .before .before .before .before .before .before .before .before .before .before .before .before .before .before .before .before .before .before .before .before .before .before .before .before in
+    let start = c .before .before .before .before .before .before .before .before .before .before .before .before
+    .before .before .before .before .before .before .before .before .before .before .before .before .before .before
+    .before .before .before .before .before .before .before in
     let a = start .args in
     let t = tablesOf (a .c) (now (a .records)) (now (a .objects)) (now (a .groups)) in
-    let g = c .before .before .before .before .before .before .before .before .before .before .before .before .before .before .before .before .gather in
+    let g = c .before .before .before .before .before .before .before .before .before .before .before .before
+    .before .before .before .before .gather in
     let wide : mostSets ≤ length (g .last .0) = omega (arith, g .kept .0, start .pre .5) in
     let tall : mostSets ≤ length (g .last .1 .0) = omega (arith, g .kept .1 .0, start .pre .6) in
     let long : mostGroups ≤ length (g .last .1 .1 .0) = omega (arith, g .kept .1 .1 .0, start .pre .7) in
     let lines = gathered-lines t (sound-at t (start .pre .0)) (a .o) (start .pre .2) _ _ _ _ (g .ensures) wide tall long
     in
     rw (← lines)
-    (fewer-behind (now (a .out)) (a .n) (omega (arith, g .ensures .few-groups)) (c .before .before .before .before .put-versions .ensures))
+    (fewer-behind (now (a .out)) (a .n) (omega (arith, g .ensures .few-groups)) (c .before .before .before .before
+    .put-versions .ensures))
 
 pub put-object-spec : {M : Type 1} → statement M
 put-object-spec =

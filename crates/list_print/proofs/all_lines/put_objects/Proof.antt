@@ -68,7 +68,8 @@ mul-o c = search needs
 
 array-read-o : tie.Need-array-read-o Inv-loop μ-loop
 array-read-o c =
-    let start = c .before .before .before .before .before .before .before .before .before .before .before .before .before in
+    let start = c .before .before .before .before .before .before .before .before .before .before .before .before
+    .before in
     let a = start .args in
     let t = tablesOf (a .c) (now (a .records)) (now (a .objects)) (now (a .groups)) in
     let few = sound-at t (start .pre .0) .few-objects in
@@ -76,11 +77,13 @@ array-read-o c =
 
 cast-o : tie.Need-cast-o Inv-loop μ-loop
 cast-o c =
-    let start = c .before .before .before .before .before .before .before .before .before .before .before .before .before in
+    let start = c .before .before .before .before .before .before .before .before .before .before .before .before
+    .before in
     let a = start .args in
     let t = tablesOf (a .c) (now (a .records)) (now (a .objects)) (now (a .groups)) in
     let f = sound-at t (start .pre .0) in
-    let low = sorted-low t f _ (c .before .before .before .sort-objects .ensures ∙ in-order t f) (c .before .loop .i) (omega arith) in
+    let low = sorted-low t f _ (c .before .before .before .sort-objects .ensures ∙ in-order t f) (c .before .loop
+    .i) (omega arith) in
     search (needs, low)
 
 slice-aggregate-put-object : tie.Need-slice-aggregate-put-object Inv-loop μ-loop
@@ -94,14 +97,16 @@ slice-aggregate-put-object-3 c = search needs
 
 put-object-requires : tie.Need-put-object-requires Inv-loop μ-loop
 put-object-requires c κs =
-    let start = c .before .before .before .before .before .before .before .before .before .before .before .before .before .before .before .before .before .before in
+    let start = c .before .before .before .before .before .before .before .before .before .before .before .before
+    .before .before .before .before .before .before in
     let a = start .args in
     let t = tablesOf (a .c) (now (a .records)) (now (a .objects)) (now (a .groups)) in
     let l = c .before .before .before .before .before .before .loop in
     let f = sound-at t (start .pre .0) in (
       start .pre .0,
       start .pre .1,
-      sorted-low t f _ (c .before .before .before .before .before .before .before .before .sort-objects .ensures ∙ in-order t f) (l .i) (omega arith),
+      sorted-low t f _ (c .before .before .before .before .before .before .before .before .sort-objects .ensures ∙
+          in-order t f) (l .i) (omega arith),
       omega (arith, f .few-objects, start .pre .2, l .inv .1, l .inv .6 .end, l .inv .6 .few),
       omega (arith, start .pre .3, l .inv .2),
       omega (arith, l .inv .3),
@@ -117,12 +122,15 @@ loop-less c = omega arith
 
 loop-again : tie.Need-loop-again Inv-loop μ-loop
 loop-again c =
-    let start = c .before .before .before .before .before .before .before .before .before .before .before .before .before .before .before .before .before .before .before .before .before .before .before .before .before .before in
+    let start = c .before .before .before .before .before .before .before .before .before .before .before .before
+    .before .before .before .before .before .before .before .before .before .before .before .before .before .before in
     let a = start .args in
     let t = tablesOf (a .c) (now (a .records)) (now (a .objects)) (now (a .groups)) in
     let p = c .before .before .before .before .before .before .before .put-object in
-    let l = c .before .before .before .before .before .before .before .before .before .before .before .before .before .before .loop in
-    let more = c .before .before .before .before .before .before .before .before .before .before .before .before .before .loop-test .taken in
+    let l = c .before .before .before .before .before .before .before .before .before .before .before .before
+    .before .before .loop in
+    let more = c .before .before .before .before .before .before .before .before .before .before .before .before
+    .before .loop-test .taken in
     let few = sound-at t (start .pre .0) .few-objects in (
       omega (arith, more),
       p .kept .0 ∙ l .inv .1,
@@ -131,7 +139,18 @@ loop-again c =
       p .kept .1 .1 .1 .0 ∙ l .inv .4,
       p .kept .1 .1 .1 .1 .0 ∙ l .inv .5,
       piece-behind (λ o. joined (linesFor t o)) (mostGroups * lineLength) (now (a .out)) _ (a .n) (l .i)
-          (omega (arith, few, more, c .before .before .before .before .before .before .before .before .before .before .before .before .before .before .before .before .sort-objects .kept .0)) (omega (arith, few, more, start .pre .2)) (l .inv .6)
+          (omega (
+            arith,
+            few,
+            more,
+            c .before .before .before .before .before .before .before .before .before
+                .before .before .before .before .before .before .before .sort-objects .kept .0,
+          )) (omega (
+            arith,
+            few,
+            more,
+            start .pre .2,
+          )) (l .inv .6)
           (p .ensures),
     )
 
@@ -143,7 +162,8 @@ same-length-2 c = c .before .loop .inv .2
 
 returns : tie.Need-returns Inv-loop μ-loop
 returns c =
-    let start = c .before .before .before .before .before .before .before .before .before .before .before .before .before in
+    let start = c .before .before .before .before .before .before .before .before .before .before .before .before
+    .before in
     let a = start .args in
     let t = tablesOf (a .c) (now (a .records)) (now (a .objects)) (now (a .groups)) in
     let l = c .before .loop in

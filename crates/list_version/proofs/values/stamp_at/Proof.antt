@@ -57,7 +57,8 @@ returns c =
     let value = c .before .four-at .ensures ∙ sym (value-in-place rs (a .p)) in (
       rw (le-ltb (recordAt rs (a .p) .key) keys (omega (arith, key))) refl,
       (
-        subst (λ (l : List ℕ). vectorSum l ≤ mostSites * (twoBytes - 1)) (c .before .before .before .before .before .vector-at .ensures) low,
+        subst (λ (l : List ℕ). vectorSum l ≤ mostSites * (twoBytes - 1)) (c .before .before .before .before .before
+            .vector-at .ensures) low,
         omega (arith, site),
         omega (arith, value),
       ),
@@ -82,12 +83,15 @@ returns-2 c =
     let site = c .before .before .before .before .byte-at .ensures ∙ sym (site-in-place rs (a .p)) in
     let value = c .before .before .four-at .ensures ∙ sym (value-in-place rs (a .p)) in
     let sum : c .before .before .before .before .before .vector-sum .result ≡ vectorSum (e .vector)
-    = subst (λ (l : List ℕ). c .before .before .before .before .before .vector-sum .result ≡ vectorSum l) (c .before .before .before .before .before .before .vector-at .ensures) (c .before .before .before .before .before .vector-sum .ensures)
+    = subst (λ (l : List ℕ). c .before .before .before .before .before .vector-sum .result ≡ vectorSum l) (c .before
+    .before .before .before .before .before .vector-at .ensures) (c .before .before .before .before .before
+    .vector-sum .ensures)
     in (
       rw (lt-ltb (e .key) keys (omega (arith, key)))
           (c .stamped .ensures ∙ stamp-is e _ _ _ _ key sum site value),
       (
-        subst (λ (l : List ℕ). vectorSum l ≤ mostSites * (twoBytes - 1)) (c .before .before .before .before .before .before .vector-at .ensures) low,
+        subst (λ (l : List ℕ). vectorSum l ≤ mostSites * (twoBytes - 1)) (c .before .before .before .before .before
+            .before .vector-at .ensures) low,
         omega (arith, site),
         omega (arith, value),
       ),

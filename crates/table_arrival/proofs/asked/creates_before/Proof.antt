@@ -59,8 +59,12 @@ loop-again c =
     (sym (eq-eqb (recordAt rs (l .i) .kind) createKind (sym (k .ensures) ∙ w .0 .taken))))
     (λ w. w .1 ∙ omega arith
     ∙ ap (λ (b : Bool). l .count + cond b 1 0)
-    (sym (ne-eqb (recordAt rs (l .i) .kind) createKind (λ y. w .0 .left (k .ensures ∙ y))))) (c .if1 .came) in
-    (omega arith, at-most (isCreate (recordAt rs (l .i))) e (l .inv .1), rw (add-one, e, l .inv .2) (sym (one-more rs (l .i))))
+    (sym (ne-eqb (recordAt rs (l .i) .kind) createKind (λ y. w .0 .left (k .ensures ∙ y))))) (c .if1 .came) in (
+      omega arith,
+      at-most (isCreate (recordAt rs (l .i))) e (l .inv .1),
+      rw (add-one, e, l .inv .2) (sym (one-more
+          rs (l .i))),
+    )
 
 returns : tie.Need-returns Inv-loop μ-loop
 returns c =
