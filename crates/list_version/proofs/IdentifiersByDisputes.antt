@@ -1,6 +1,5 @@
 -- Identifiers and the order of versions from the Sets in dispute, put in the order of their names once, are those of
--- the definitions. Assumes that different Sets have different names, and that there are no more than an object may
--- have.
+-- the definitions. Assumes that different Sets have different names, and are no more than an object may have.
 use mathlib.Core.Path.{_≡_, refl, sym, ap, _∙_}
 use mathlib.Core.Bool.{Bool, true, false, _&&_, cond}
 use mathlib.Core.List.{List, [], _∷_, _++_, map, map-append, append-nil, Memᴰ·of-map}

@@ -45,8 +45,9 @@ slice-aggregate-put-version-3 c = search needs
 
 put-version-requires : tie.Need-put-version-requires
 put-version-requires c κs =
-    let start = c .before .before .before .before .before .before .before .before .before .before .before .before
-    .before .before .before .before .before .before .before in
+    let s8 = c .before .before .before .before .before .before .before .before in
+    let s16 = s8 .before .before .before .before .before .before .before .before in
+    let start = s16 .before .before .before in
     let a = start .args in
     let t = tablesOf (a .c) (now (a .records)) (now (a .objects)) (now (a .groups)) in
     let s = sound-at t (start .pre .0) in
@@ -69,12 +70,13 @@ same-length c = search needs
 
 returns : tie.Need-returns
 returns c =
-    let start = c .before .before .before .before .before .before .before .before .before .before .before .before
-    .before .before .before .before .before .before .before .before .before .before in
+    let s8 = c .before .before .before .before .before .before .before .before in
+    let s16 = s8 .before .before .before .before .before .before .before .before in
+    let start = s16 .before .before .before .before .before .before in
     let a = start .args in
     let t = tablesOf (a .c) (now (a .records)) (now (a .objects)) (now (a .groups)) in
     let s = sound-at t (start .pre .0) in
-    let g = c .before .before .before .before .before .before .before .before .before .before .gather in
+    let g = s8 .before .before .gather in
     let e = c .before .before .put-version .ensures in (
       e .0
           ∙ gathered-line t s (a .o) (start .pre .1) _ _ _ _ (g .ensures) (omega (arith, g .kept .0))

@@ -1,5 +1,5 @@
 -- `list_print::print_list` meets its contract: each of its three ends is that outcome. Assumes nothing.
-use mathlib.Core.Path.{refl, sym, _∙_}
+use mathlib.Core.Path.{sym, _∙_}
 use native.Mathlib.Omega.{arith}
 use denote.Ref.{now}
 use borrow.Author.Tests.{leb-true, not-true, not-false}
@@ -48,14 +48,14 @@ same-length c = search needs
 
 returns-3 : tie.Need-returns-3
 returns-3 c =
-    let a = c .before .before .before .before .before .before .before .before .before .before .before .before
-    .before .before .before .args in
+    let put = c .before .before in
+    let tested = put .before .before .before .before .before in
+    let sound = tested .before .before .is-sound-with .ensures .0 in
+    let room = put .before .before .before .before .has-room .ensures in
+    let a = tested .before .before .before .before .before .before .before .before .args in
     list-put (tablesOf (a .c) (now (a .records)) (now (a .objects)) (now (a .groups))) (now (a .out)) (a .start) _
-    (sym (c .before .before .before .before .before .before .before .before .before .is-sound-with .ensures .0) ∙
-    not-false _ (c .before .before .before .before .before .before .before .if1 .left))
-    (sym (c .before .before .before .before .before .before .has-room .ensures) ∙ not-false _ (c .before .before
-    .before .before .before .if2 .left))
-    (c .before .before .put-list-by .ensures)
+    (sym sound ∙ not-false _ (tested .if1 .left)) (sym room ∙ not-false _ (put .before .before .before .if2 .left))
+    (put .put-list-by .ensures)
 
 pub print-list-spec : {M : Type 1} → statement M
 print-list-spec =

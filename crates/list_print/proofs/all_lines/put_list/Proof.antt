@@ -34,14 +34,10 @@ slice-aggregate-put-list-by : tie.Need-slice-aggregate-put-list-by
 slice-aggregate-put-list-by c = search needs
 
 put-list-by-requires : tie.Need-put-list-by-requires
-put-list-by-requires c κs = (
-  c .before .before .before .before .before .before .before .before .before .before
-      .before .before .before .before .before .before .pre .0,
-  c .before .before .before .before .before .before
-      .build .ensures .indexed,
-  c .before .before .before .before .before .before .before .before .before .before
-      .before .before .before .before .before .before .pre .1,
-)
+put-list-by-requires c κs =
+    let s8 = c .before .before .before .before .before .before .before .before in
+    let s16 = s8 .before .before .before .before .before .before .before .before in
+    (s16 .pre .0, c .before .before .before .before .before .before .build .ensures .indexed, s16 .pre .1)
 
 same-length : tie.Need-same-length
 same-length c = search needs

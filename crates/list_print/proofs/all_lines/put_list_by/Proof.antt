@@ -29,8 +29,8 @@ slice-aggregate-chain-sets c = search needs
 
 chain-sets-requires : tie.Need-chain-sets-requires
 chain-sets-requires c κs =
-    let start = c .before .before .before .before .before .before .before .before .before .before .before .before
-    .before in
+    let s8 = c .before .before .before .before .before .before .before .before in
+    let start = s8 .before .before .before .before .before in
     let a = start .args in
     let t = tablesOf (a .c) (now (a .records)) (now (a .objects)) (now (a .groups)) in
     let s = sound-at t (start .pre .0) in (
@@ -48,9 +48,10 @@ slice-aggregate-put-objects-2 c = search needs
 
 put-objects-requires : tie.Need-put-objects-requires
 put-objects-requires c κs =
-    let start = c .before .before .before .before .before .before .before .before .before .before .before .before
-    .before .before .before .before .before .before in
-    let h = c .before .before .before .before .before .before .before .before .before .before .put-head in (
+    let s8 = c .before .before .before .before .before .before .before .before in
+    let s16 = s8 .before .before .before .before .before .before .before .before in
+    let start = s16 .before .before in
+    let h = s8 .before .before .put-head in (
       start .pre .0,
       c .before .before .before .before .chain-sets .ensures,
       omega (arith, start .pre .2, h .kept .0, h .ensures .end, h .ensures .few),
@@ -62,12 +63,12 @@ same-length c = search needs
 
 returns : tie.Need-returns
 returns c =
-    let start = c .before .before .before .before .before .before .before .before .before .before .before .before
-    .before .before .before .before .before .before .before .before .before .before in
+    let s8 = c .before .before .before .before .before .before .before .before in
+    let s16 = s8 .before .before .before .before .before .before .before .before in
+    let start = s16 .before .before .before .before .before .before in
     let a = start .args in
     let t = tablesOf (a .c) (now (a .records)) (now (a .objects)) (now (a .groups)) in
-    let h = c .before .before .before .before .before .before .before .before .before .before .before .before
-    .before .before .put-head in
+    let h = s8 .before .before .before .before .before .before .put-head in
     rw (list-split t)
     (fewer-behind (now (a .out)) (a .n) (omega arith)
     (more-behind (now (a .out)) (a .n) (omega (arith, start .pre .2, h .ensures .few)) (h .ensures)

@@ -27,18 +27,20 @@ slice-aggregate-gather c = search needs
 
 gather-requires : tie.Need-gather-requires
 gather-requires c κs =
-    let p = c .before .before .before .before .before .before .before .before .before .before .before .before
-    .before .before .before .before .pre in
+    let s8 = c .before .before .before .before .before .before .before .before in
+    let s16 = s8 .before .before .before .before .before .before .before .before in
+    let p = s16 .pre in
     (p .0, p .2, c .before .before .before .before .before .put-chained .ensures, p .5, p .6, p .7)
 
 put-versions-requires : tie.Need-put-versions-requires
 put-versions-requires c κs =
-    let start = c .before .before .before .before .before .before .before .before .before .before .before .before
-    .before .before .before .before .before .before .before .before .before .before .before .before .before .before
-    .before .before in
+    let s8 = c .before .before .before .before .before .before .before .before in
+    let s16 = s8 .before .before .before .before .before .before .before .before in
+    let s24 = s16 .before .before .before .before .before .before .before .before in
+    let start = s24 .before .before .before .before in
     let a = start .args in
     let t = tablesOf (a .c) (now (a .records)) (now (a .objects)) (now (a .groups)) in
-    let g = c .before .before .before .before .before .before .before .before .before .before .before .gather in
+    let g = s8 .before .before .before .gather in
     let wide : mostSets ≤ length (g .last .0) = omega (arith, g .kept .0, start .pre .5) in
     let tall : mostSets ≤ length (g .last .1 .0) = omega (arith, g .kept .1 .0, start .pre .6) in
     let long : mostGroups ≤ length (g .last .1 .1 .0) = omega (arith, g .kept .1 .1 .0, start .pre .7) in (
@@ -65,21 +67,22 @@ same-length-5 c = search needs
 
 returns : tie.Need-returns
 returns c =
-    let start = c .before .before .before .before .before .before .before .before .before .before .before .before
-    .before .before .before .before .before .before .before .before .before .before .before .before .before .before
-    .before .before .before .before .before .before .before in
+    let s8 = c .before .before .before .before .before .before .before .before in
+    let s16 = s8 .before .before .before .before .before .before .before .before in
+    let s24 = s16 .before .before .before .before .before .before .before .before in
+    let s32 = s24 .before .before .before .before .before .before .before .before in
+    let start = s32 .before in
     let a = start .args in
     let t = tablesOf (a .c) (now (a .records)) (now (a .objects)) (now (a .groups)) in
-    let g = c .before .before .before .before .before .before .before .before .before .before .before .before
-    .before .before .before .before .gather in
+    let g = s16 .gather in
     let wide : mostSets ≤ length (g .last .0) = omega (arith, g .kept .0, start .pre .5) in
     let tall : mostSets ≤ length (g .last .1 .0) = omega (arith, g .kept .1 .0, start .pre .6) in
     let long : mostGroups ≤ length (g .last .1 .1 .0) = omega (arith, g .kept .1 .1 .0, start .pre .7) in
     let lines = gathered-lines t (sound-at t (start .pre .0)) (a .o) (start .pre .2) _ _ _ _ (g .ensures) wide tall long
     in
     rw (← lines)
-    (fewer-behind (now (a .out)) (a .n) (omega (arith, g .ensures .few-groups)) (c .before .before .before .before
-    .put-versions .ensures))
+    (fewer-behind (now (a .out)) (a .n) (omega (arith, g .ensures .few-groups))
+    (c .before .before .before .before .put-versions .ensures))
 
 pub put-object-spec : {M : Type 1} → statement M
 put-object-spec =

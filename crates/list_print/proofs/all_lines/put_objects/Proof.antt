@@ -68,8 +68,8 @@ mul-o c = search needs
 
 array-read-o : tie.Need-array-read-o Inv-loop μ-loop
 array-read-o c =
-    let start = c .before .before .before .before .before .before .before .before .before .before .before .before
-    .before in
+    let s8 = c .before .before .before .before .before .before .before .before in
+    let start = s8 .before .before .before .before .before in
     let a = start .args in
     let t = tablesOf (a .c) (now (a .records)) (now (a .objects)) (now (a .groups)) in
     let few = sound-at t (start .pre .0) .few-objects in
@@ -77,13 +77,13 @@ array-read-o c =
 
 cast-o : tie.Need-cast-o Inv-loop μ-loop
 cast-o c =
-    let start = c .before .before .before .before .before .before .before .before .before .before .before .before
-    .before in
+    let s8 = c .before .before .before .before .before .before .before .before in
+    let start = s8 .before .before .before .before .before in
     let a = start .args in
     let t = tablesOf (a .c) (now (a .records)) (now (a .objects)) (now (a .groups)) in
     let f = sound-at t (start .pre .0) in
-    let low = sorted-low t f _ (c .before .before .before .sort-objects .ensures ∙ in-order t f) (c .before .loop
-    .i) (omega arith) in
+    let ordered = c .before .before .before .sort-objects .ensures ∙ in-order t f in
+    let low = sorted-low t f _ ordered (c .before .loop .i) (omega arith) in
     search (needs, low)
 
 slice-aggregate-put-object : tie.Need-slice-aggregate-put-object Inv-loop μ-loop
@@ -97,17 +97,18 @@ slice-aggregate-put-object-3 c = search needs
 
 put-object-requires : tie.Need-put-object-requires Inv-loop μ-loop
 put-object-requires c κs =
-    let start = c .before .before .before .before .before .before .before .before .before .before .before .before
-    .before .before .before .before .before .before in
+    let turn = c .before .before .before .before .before in
+    let l = turn .before .loop in
+    let sorted = turn .before .before .before in
+    let start = sorted .before .before .before .before .before .before .before .before .before .before in
     let a = start .args in
     let t = tablesOf (a .c) (now (a .records)) (now (a .objects)) (now (a .groups)) in
-    let l = c .before .before .before .before .before .before .loop in
-    let f = sound-at t (start .pre .0) in (
+    let f = sound-at t (start .pre .0) in
+    let more = turn .loop-test .taken in (
       start .pre .0,
       start .pre .1,
-      sorted-low t f _ (c .before .before .before .before .before .before .before .before .sort-objects .ensures ∙
-          in-order t f) (l .i) (omega arith),
-      omega (arith, f .few-objects, start .pre .2, l .inv .1, l .inv .6 .end, l .inv .6 .few),
+      sorted-low t f _ (sorted .sort-objects .ensures ∙ in-order t f) (l .i) (omega (arith, more)),
+      omega (arith, more, f .few-objects, start .pre .2, l .inv .1, l .inv .6 .end, l .inv .6 .few),
       omega (arith, start .pre .3, l .inv .2),
       omega (arith, l .inv .3),
       omega (arith, l .inv .4),
@@ -122,15 +123,15 @@ loop-less c = omega arith
 
 loop-again : tie.Need-loop-again Inv-loop μ-loop
 loop-again c =
-    let start = c .before .before .before .before .before .before .before .before .before .before .before .before
-    .before .before .before .before .before .before .before .before .before .before .before .before .before .before in
+    let s8 = c .before .before .before .before .before .before .before .before in
+    let s16 = s8 .before .before .before .before .before .before .before .before in
+    let s24 = s16 .before .before .before .before .before .before .before .before in
+    let start = s24 .before .before in
     let a = start .args in
     let t = tablesOf (a .c) (now (a .records)) (now (a .objects)) (now (a .groups)) in
     let p = c .before .before .before .before .before .before .before .put-object in
-    let l = c .before .before .before .before .before .before .before .before .before .before .before .before
-    .before .before .loop in
-    let more = c .before .before .before .before .before .before .before .before .before .before .before .before
-    .before .loop-test .taken in
+    let l = s8 .before .before .before .before .before .before .loop in
+    let more = s8 .before .before .before .before .before .loop-test .taken in
     let few = sound-at t (start .pre .0) .few-objects in (
       omega (arith, more),
       p .kept .0 ∙ l .inv .1,
@@ -139,18 +140,7 @@ loop-again c =
       p .kept .1 .1 .1 .0 ∙ l .inv .4,
       p .kept .1 .1 .1 .1 .0 ∙ l .inv .5,
       piece-behind (λ o. joined (linesFor t o)) (mostGroups * lineLength) (now (a .out)) _ (a .n) (l .i)
-          (omega (
-            arith,
-            few,
-            more,
-            c .before .before .before .before .before .before .before .before .before
-                .before .before .before .before .before .before .before .sort-objects .kept .0,
-          )) (omega (
-            arith,
-            few,
-            more,
-            start .pre .2,
-          )) (l .inv .6)
+          (omega (arith, few, more, s16 .sort-objects .kept .0)) (omega (arith, few, more, start .pre .2)) (l .inv .6)
           (p .ensures),
     )
 
@@ -162,8 +152,8 @@ same-length-2 c = c .before .loop .inv .2
 
 returns : tie.Need-returns Inv-loop μ-loop
 returns c =
-    let start = c .before .before .before .before .before .before .before .before .before .before .before .before
-    .before in
+    let s8 = c .before .before .before .before .before .before .before .before in
+    let start = s8 .before .before .before .before .before in
     let a = start .args in
     let t = tablesOf (a .c) (now (a .records)) (now (a .objects)) (now (a .groups)) in
     let l = c .before .loop in

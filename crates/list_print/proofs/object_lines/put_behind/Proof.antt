@@ -34,8 +34,8 @@ same-length-2 c = search needs
 
 returns : tie.Need-returns
 returns c =
-    let start = c .before .before .before .before .before .before .before .before .before .before .before .before
-    .before in
+    let s8 = c .before .before .before .before .before .before .before .before in
+    let start = s8 .before .before .before .before .before in
     let a = start .args in
     let p = c .before .before .before .before .before .before .before .put-line in
     let text = lineIn (a .g) (now (a .disputes)) (now (a .stamps)) (a .v) in

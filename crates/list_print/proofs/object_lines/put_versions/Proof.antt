@@ -33,13 +33,9 @@ mul-put-behind : tie.Need-mul-put-behind Inv-loop μ-loop
 mul-put-behind c = search needs
 
 shared-slice-read-put-behind : tie.Need-shared-slice-read-put-behind Inv-loop μ-loop
-shared-slice-read-put-behind c = omega (
-  arith,
-  c .before .before .before .before .before .before .before .before
-      .before .before .before .pre .1,
-  c .before .before .before .before .before .before .before .before .before
-      .before .before .pre .0 .versions-long,
-)
+shared-slice-read-put-behind c =
+    let s8 = c .before .before .before .before .before .before .before .before in
+    omega (arith, s8 .before .before .before .pre .1, s8 .before .before .before .pre .0 .versions-long)
 
 put-behind-requires : tie.Need-put-behind-requires Inv-loop μ-loop
 put-behind-requires c κs =
@@ -62,10 +58,11 @@ loop-less c = omega arith
 
 loop-again : tie.Need-loop-again Inv-loop μ-loop
 loop-again c =
+    let s8 = c .before .before .before .before .before .before .before .before in
+    let s16 = s8 .before .before .before .before .before .before .before .before in
     let p = c .before .before .before .before .put-behind in
-    let l = c .before .before .before .before .before .before .before .before .before .before .loop in
-    let start = c .before .before .before .before .before .before .before .before .before .before .before .before
-    .before .before .before .before in
+    let l = s8 .before .before .loop in
+    let start = s16 in
     let a = start .args in
     let text = lineIn (a .g) (now (a .disputes)) (now (a .stamps)) in (
       omega arith,

@@ -50,6 +50,7 @@ returns c =
     let a = c .before .before .before .before .before .before .before .args in
     let rs = a .recs .now in
     let v = c .before .before .before .before .before .vector-at .result in
+    let vector = c .before .before .before .before .before .vector-at .ensures in
     let low : vectorSum v ≤ mostSites * (twoBytes - 1)
     = sum-low v (λ i. let h : Fits w16 (getD v i 0) = search needs in omega arith) in
     let key = c .before .before .byte-at2 .ensures ∙ sym (key-in-place rs (a .p)) in
@@ -57,8 +58,7 @@ returns c =
     let value = c .before .four-at .ensures ∙ sym (value-in-place rs (a .p)) in (
       rw (le-ltb (recordAt rs (a .p) .key) keys (omega (arith, key))) refl,
       (
-        subst (λ (l : List ℕ). vectorSum l ≤ mostSites * (twoBytes - 1)) (c .before .before .before .before .before
-            .vector-at .ensures) low,
+        subst (λ (l : List ℕ). vectorSum l ≤ mostSites * (twoBytes - 1)) vector low,
         omega (arith, site),
         omega (arith, value),
       ),
@@ -73,25 +73,24 @@ stamped-requires c κs =
 
 returns-2 : tie.Need-returns-2
 returns-2 c =
-    let a = c .before .before .before .before .before .before .before .before .args in
+    let s8 = c .before .before .before .before .before .before .before .before in
+    let a = s8 .args in
     let rs = a .recs .now in
     let e = recordAt rs (a .p) in
     let v = c .before .before .before .before .before .before .vector-at .result in
+    let vector = c .before .before .before .before .before .before .vector-at .ensures in
     let low : vectorSum v ≤ mostSites * (twoBytes - 1)
     = sum-low v (λ i. let h : Fits w16 (getD v i 0) = search needs in omega arith) in
     let key = c .before .before .before .byte-at2 .ensures ∙ sym (key-in-place rs (a .p)) in
     let site = c .before .before .before .before .byte-at .ensures ∙ sym (site-in-place rs (a .p)) in
     let value = c .before .before .four-at .ensures ∙ sym (value-in-place rs (a .p)) in
-    let sum : c .before .before .before .before .before .vector-sum .result ≡ vectorSum (e .vector)
-    = subst (λ (l : List ℕ). c .before .before .before .before .before .vector-sum .result ≡ vectorSum l) (c .before
-    .before .before .before .before .before .vector-at .ensures) (c .before .before .before .before .before
-    .vector-sum .ensures)
-    in (
+    let added = c .before .before .before .before .before .vector-sum in
+    let sum : added .result ≡ vectorSum (e .vector)
+    = subst (λ (l : List ℕ). added .result ≡ vectorSum l) vector (added .ensures) in (
       rw (lt-ltb (e .key) keys (omega (arith, key)))
           (c .stamped .ensures ∙ stamp-is e _ _ _ _ key sum site value),
       (
-        subst (λ (l : List ℕ). vectorSum l ≤ mostSites * (twoBytes - 1)) (c .before .before .before .before .before
-            .before .vector-at .ensures) low,
+        subst (λ (l : List ℕ). vectorSum l ≤ mostSites * (twoBytes - 1)) vector low,
         omega (arith, site),
         omega (arith, value),
       ),
