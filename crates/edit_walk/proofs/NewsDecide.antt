@@ -91,6 +91,20 @@ module _
       (and-on (hasSeen (f .vector) (a .site) (a .seq)) (largerSomewhere (a .vector) (f .vector)) seen y))
       (passed-at sites rs n pass p lp .whole))))
 
+  -- an edit that the one in place p had seen, or that one itself, tears w only where that one does
+  pub seen-through :
+      (p t q : ℕ) → p < n → t < mostSites → 0 < q → q ≡ getD (recordAt rs p .vector) t 0 → (w : List ℕ) →
+      largerSomewhere (recordAt rs (placeOf ps t q) .vector) w ≡ true →
+      largerSomewhere (recordAt rs p .vector) w ≡ true
+  seen-through p t q lp lt one is w larger = elim (ℕ-discrete t (recordAt rs p .site .0)) [
+    | yes y ↦
+        let own : q ≡ recordAt rs p .seq .0 = is ∙ rw y (sym (passed-at sites rs n pass p lp .inTurn .formed .own)) in
+        rw (y, own, ix p lp) at larger
+    | no y ↦
+        larger-through (recordAt rs (placeOf ps t q) .vector) (recordAt rs p .vector) w
+        (seen-below p t q lp lt y one is) larger
+  ]
+
   module _ (e : Edit) (turn : InTurn sites (editsOf rs n) e) where
     abbrev own : ℕ
     own = e .site .0
@@ -143,16 +157,8 @@ module _
             let late = latest sites (editsOf rs n) e turn own own-low in
             let (p, lp, es, eq, at)
             = found sites few rs n pass ps ix own (latestSeen e own) (omega arith) (late .held) in
-            let f = recordAt rs p in
-            elim (ℕ-discrete t own) [
-              | yes y ↦ rw is (rw y at (parts .1))
-              | no y ↦
-                  rw (is, at)
-                  (larger-through (recordAt rs (placeOf ps t q) .vector) (f .vector) (e .vector)
-                  (seen-below p t q lp low (λ z. y (z ∙ es)) (omega (arith, some-q))
-                  (same ∙ rw (is, at)))
-                  (parts .1))
-            ]
+            rw (is, at)
+            (seen-through p t q lp low (omega (arith, some-q)) (same ∙ rw (is, at)) (e .vector) (parts .1))
 
     latest-news : tornByLatest rs ps e ≡ true → tornByNews rs ps (e .vector) (e .site) ≡ true
     unfolding tornByNews tornByLatest latestSeen
