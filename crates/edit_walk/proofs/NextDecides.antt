@@ -109,12 +109,9 @@ module _
             getD-set-other w s t _ 0 (λ z. d (sym z)) ∙ other v w s grown t l (λ z. d (sym z))
       ]
 
-      next-whole : tornByNews rs ps w (e .site) ≡ false
+      pub next-whole : isTorn (editsOf rs n) e ≡ false
       unfolding tornBy tornByLatest
-      next-whole =
-          news-same sites few rs n pass ps ix e turn
-          ∙ sym (torn-same sites few rs n pass ps ix e turn)
-          ∙ none
+      next-whole = sym (torn-same sites few rs n pass ps ix e turn) ∙ none
         where
           at : (t : ℕ) → t < mostSites → tornAt rs ps e t ≡ true → ⊥
           at t l h =
@@ -161,6 +158,7 @@ next-decides sites few rs n pass ps ix counts counted e x lx grown next = go (de
           u,
           lt-leb (e .seq .0) (getD counts (e .site .0) 0) (omega arith),
           early,
+          news-same sites few rs n pass ps ix e turn,
           next-whole sites few rs n pass e x lx grown ps ix turn,
         )
       where

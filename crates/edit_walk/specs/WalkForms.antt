@@ -106,12 +106,20 @@ sameBut v w s = all mostSites (λ t. eqb t s || eqb (getD v t 0) (getD w t 0))
 unfoldable pub isNext : List ℕ → List ℕ → ℕ → Bool
 isNext v w s = eqb (getD w s 0) (getD v s 0 + 1) && sameBut v w s
 
--- the record in place p is its author's next, and its vector is that of one before it with one edit more of its own
-pub record Told (counts rs : List ℕ) (p : ℕ) : Type 0 where
-  pub next : recordAt rs p .seq .0 ≡ getD counts (recordAt rs p .site .0) 0 + 1
+-- e is the next of its author after the first n records, and its vector is that of one of them with one edit more of
+-- its own
+pub record Told (counts rs : List ℕ) (n : ℕ) (e : Edit) : Type 0 where
+  pub next : e .seq .0 ≡ getD counts (e .site .0) 0 + 1
   pub last : ℕ
-  pub before : last < p
-  pub grown : isNext (recordAt rs last .vector) (recordAt rs p .vector) (recordAt rs p .site .0) ≡ true
+  pub before : last < n
+  pub grown : isNext (recordAt rs last .vector) (e .vector) (e .site .0) ≡ true
+
+-- the first n records pass, and the counts and the index are theirs
+pub record Passing (sites : ℕ) (counts rs : List ℕ) (n : ℕ) (ps : List ℕ) : Type 0 where
+  pub few : sites ≤ mostSites
+  pub pass : recordsPass sites rs n ≡ true
+  pub counted : Counted counts (editsOf rs n)
+  pub indexed : Indexed rs n ps
 
 -- ---- the walk over the first n records: whether they pass, and then the counts and the index that they give
 

@@ -13,11 +13,20 @@ use Rattle.edit_walk.proofs.NextDecides.{next-not-past, next-decides}
 use Rattle.edit_walk.proofs.next.is_passing_next.Statement.{statement}
 use Rattle.edit_walk.proofs.next.is_passing_next.Tie as tie
 
-is-told-requires : tie.Need-is-told-requires
-is-told-requires c κs = search needs
-
 mul-at : tie.Need-mul-at
 mul-at c = search needs
+
+sub-is-told : tie.Need-sub-is-told
+sub-is-told c = search needs
+
+part-is-told-start : tie.Need-part-is-told-start
+part-is-told-start c = search needs
+
+part-is-told-end : tie.Need-part-is-told-end
+part-is-told-end c = search needs
+
+is-told-requires : tie.Need-is-told-requires
+is-told-requires c κs = search needs
 
 sub-is-told-passing : tie.Need-sub-is-told-passing
 sub-is-told-passing c = search needs
@@ -33,20 +42,20 @@ is-told-passing-requires c κs = search needs
 
 returns : tie.Need-returns
 returns c =
-    let z = c .before .before .before .before .before .before .before in
+    let z = c .before .before .before .before .before .before .before .before in
     let a = z .args in
-    let (few, _, _, _, pass, counted, indexed) = z .pre in
+    let ok = z .pre .3 in
     let rs = now (a .recs) in
     let at = a .p * placeLength in
     let rest : _≡_ {A = List ℕ} (take (length rs - at) (drop at rs)) (drop at rs)
     = take-all (length rs - at) (drop at rs) (simp length-drop (omega arith)) in
     let e = recordAt rs (a .p) in
-    let t = c .before .before .before .is-told .ensures (c .before .before .if1 .taken) in
-    let past = next-not-past (a .sites) few rs (a .p) pass e (t .last) (t .before) (t .grown) in
+    let t = rw rest at (c .before .before .before .is-told .ensures (c .before .before .if1 .taken)) in
+    let past = next-not-past (a .sites) (ok .few) rs (a .p) (ok .pass) e (t .last) (t .before) (t .grown) in
     (rw rest at (c .is-told-passing .ensures)) past
     ∙ sym
-    (next-decides (a .sites) few rs (a .p) pass (now (a .places)) indexed (now (a .held)) counted e (t .last)
-    (t .before) (t .grown) (t .next))
+    (next-decides (a .sites) (ok .few) rs (a .p) (ok .pass) (now (a .places)) (ok .indexed) (now (a .held))
+    (ok .counted) e (t .last) (t .before) (t .grown) (t .next))
 
 is-passing-at-requires : tie.Need-is-passing-at-requires
 is-passing-at-requires c κs = search needs
@@ -58,8 +67,11 @@ pub is-passing-next-spec : {M : Type 1} → statement M
 is-passing-next-spec =
     tie.close
     (tie.spec
-    is-told-requires
     mul-at
+    sub-is-told
+    part-is-told-start
+    part-is-told-end
+    is-told-requires
     sub-is-told-passing
     part-is-told-passing-start
     part-is-told-passing-end

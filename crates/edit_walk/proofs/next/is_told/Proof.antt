@@ -1,7 +1,7 @@
 -- `edit_walk::next::is_told` meets its contract: what it finds is before the place, so that it is told. Assumes nothing.
-use mathlib.Core.Path.{_≡_, refl, sym, ap, _∙_}
+use mathlib.Core.Path.{_≡_, refl}
 use mathlib.Core.List.{List}
-use Prim.Native.Nat.{ℕ, _*_, _-_, _≤_}
+use Prim.Native.Nat.{ℕ, _*_, _-_}
 use native.Mathlib.Omega.{arith}
 use lib.Seq.{take-all}
 use lib.ListN.{length, take, drop, length-drop}
@@ -9,29 +9,17 @@ use denote.Ref.{now}
 use borrow.Author.Needs.{needs}
 use Rattle.math_lists.proofs.Booleans.{clash}
 use Rattle.edit_record.specs.Layout.{placeLength}
-use Rattle.edit_record.specs.RecordBytes.{decodeOf}
-use Rattle.edit_history.proofs.FieldsInPlace.{site-in-place, seq-in-place}
-use Rattle.edit_walk.specs.WalkForms.{isNext}
 use Rattle.edit_walk.proofs.next.is_told.Statement.{statement}
 use Rattle.edit_walk.proofs.next.is_told.Tie as tie
 
 returns : tie.Need-returns
 returns c h = clash h refl
 
-mul-at : tie.Need-mul-at
-mul-at c = search needs
-
-add-s : tie.Need-add-s
-add-s c = search needs
-
 shared-slice-read-s : tie.Need-shared-slice-read-s
 shared-slice-read-s c = search needs
 
 held-from-requires : tie.Need-held-from-requires
 held-from-requires c κs = search needs
-
-add-pair-at : tie.Need-add-pair-at
-add-pair-at c = search needs
 
 pair-at-requires : tie.Need-pair-at-requires
 pair-at-requires c κs = search needs
@@ -66,37 +54,23 @@ part-is-next-to-start c = search needs
 part-is-next-to-end : tie.Need-part-is-next-to-end
 part-is-next-to-end c = search needs
 
-sub-is-next-to-2 : tie.Need-sub-is-next-to-2
-sub-is-next-to-2 c = search needs
-
-part-is-next-to-start-2 : tie.Need-part-is-next-to-start-2
-part-is-next-to-start-2 c = search needs
-
-part-is-next-to-end-2 : tie.Need-part-is-next-to-end-2
-part-is-next-to-end-2 c = search needs
-
 is-next-to-requires : tie.Need-is-next-to-requires
 is-next-to-requires c κs = search needs
 
 returns-4 : tie.Need-returns-4
 returns-4 c h =
-    let z = c .before .before .before .before .before in
-    let a = z .before .before .before .before .before .before .before .before .args in
+    let z = c .before .before .before .before in
+    let a = z .before .before .before .before .before .before .before .before .before .args in
     let rs = now (a .recs) in
-    let r = c .before .before .before .before .likely-before .result in
+    let r = c .before .before .before .likely-before .result in
     let from = r * placeLength in
-    let at = a .p * placeLength in
-    let rest : (i : ℕ) → i ≤ length rs → _≡_ {A = List ℕ} (take (length rs - i) (drop i rs)) (drop i rs)
-    = λ i l. take-all (length rs - i) (drop i rs) (simp length-drop (omega arith)) in
+    let rest : _≡_ {A = List ℕ} (take (length rs - from) (drop from rs)) (drop from rs)
+    = take-all (length rs - from) (drop from rs) (simp length-drop (omega arith)) in
     record {
-      next =
-          rw (seq-in-place rs (a .p), site-in-place rs (a .p), ← z .before .pair-at .ensures,
-          ← z .before .before .held-from .ensures)
-          (z .if2 .left);
+      next = rw (← z .before .pair-at .ensures, ← z .before .before .held-from .ensures) (z .if2 .left);
       last = r;
       before = omega arith;
-      grown =
-          rw (site-in-place rs (a .p), ← rest from (omega arith), ← rest at (omega arith), ← c .is-next-to .ensures) h;
+      grown = rw (← rest, ← c .is-next-to .ensures) h;
     }
 
 pub is-told-spec : {M : Type 1} → statement M
@@ -104,11 +78,8 @@ is-told-spec =
     tie.close
     (tie.spec
     returns
-    mul-at
-    add-s
     shared-slice-read-s
     held-from-requires
-    add-pair-at
     pair-at-requires
     cast-if2
     cast-if2-2
@@ -120,8 +91,5 @@ is-told-spec =
     sub-is-next-to
     part-is-next-to-start
     part-is-next-to-end
-    sub-is-next-to-2
-    part-is-next-to-start-2
-    part-is-next-to-end-2
     is-next-to-requires
     returns-4)
