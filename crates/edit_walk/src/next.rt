@@ -74,10 +74,13 @@ fn likely_before(recs: &[u8], places: &[u16], p: usize, rec: &[u8], s: u8, have:
 // Whether rec, which is there whole, is the next of its author after the first p records, and is found to have the
 // vector of one of them with one edit more of its own.
 fn is_told(held: &[u16], recs: &[u8], places: &[u16], p: usize, rec: &[u8]) -> bool
-    requires { ⌜ (p ≤ mostRecords) × (p * placeLength ≤ length (now recs)) × (recordLength ≤ length (now rec)) ⌝ }
+    requires { ⌜ (p ≤ mostRecords) × (recordLength ≤ length (now rec)) ⌝ }
     ensures { λ r. ⌜ (r ≡ true → Told (now (held .entry)) (now (recs .entry)) p (decodeOf (now (rec .entry)))) ⌝ }
 {
     if p == 0 {
+        return false;
+    }
+    if recs.len() < p * PLACE {
         return false;
     }
     let s = rec[AT_SITE];
@@ -97,7 +100,6 @@ fn is_told(held: &[u16], recs: &[u8], places: &[u16], p: usize, rec: &[u8]) -> b
 // records pass and the counts and the index are theirs.
 pub fn is_torn_next(held: &[u16], recs: &[u8], places: &[u16], p: usize, rec: &[u8]) -> bool
     requires { ⌜ (p ≤ mostRecords)
-        × (p * placeLength ≤ length (now recs))
         × (recordLength ≤ length (now rec))
         × ((sites : ℕ) × Passing sites (now held) (now recs) p (now places)
         × (inTurnAgainst sites (now held) (decodeOf (now rec)) ≡ true)) ⌝ }

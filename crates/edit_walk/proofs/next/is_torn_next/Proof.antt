@@ -20,7 +20,7 @@ returns : tie.Need-returns
 returns c =
     let z = c .before .before .before .before .before .before in
     let a = z .args in
-    let (sites, ok, y) = z .pre .3 in
+    let (sites, ok, y) = z .pre .2 in
     let rs = now (a .recs) in
     let e = decodeOf (now (a .rec)) in
     let t = c .before .is-told .ensures (c .if1 .taken) in
@@ -41,7 +41,7 @@ returns-2 : tie.Need-returns-2
 returns-2 c =
     let z = c .before .before .before .before .before .before .before .before .before in
     let a = z .args in
-    let (sites, ok, y) = z .pre .3 in
+    let (sites, ok, y) = z .pre .2 in
     let rs = now (a .recs) in
     let ps = now (a .places) in
     let e = decodeOf (now (a .rec)) in
