@@ -2,7 +2,6 @@
 // many Sets it has and where they stand. By it an arriving edit is surveyed without being held against every record.
 use edit_history::Surveyed;
 use edit_record::AT_KEY;
-use edit_record::AT_SITE;
 use edit_record::AT_TARGET;
 use edit_record::AT_TARGET_SEQ;
 use edit_record::CREATE;
@@ -252,8 +251,7 @@ pub fn aim_of(c: Counters, recs: &[u8], places: &[u16], rec: &[u8]) -> Aim
         ≡ any (isTarget (decodeOf (now (rec .entry)))) (editsOf (now (recs .entry)) (c .records))) ⌝ }
 {
     let counts = c.held;
-    let v = edit_record::vector_of(rec);
-    let torn = edit_walk::is_torn_by_news(recs, places, v, Site(rec[AT_SITE]));
+    let torn = edit_walk::next::is_torn_next(&counts, recs, places, c.records as usize, rec);
     let held = edit_walk::is_target_held(&counts, recs, places, rec);
     Aim { torn, held }
 }
