@@ -109,7 +109,7 @@ add-requires c κs =
             (arith, counted-on t (s .pre .isSound) (s .pre .wide) b _ ok),
       ),
       index-on t (s .pre .isSound) (s .pre .wide) b _ ok (now (a .places)) (now (a .numbers)) (now (a .counts))
-          (now (a .members))
+          (now (a .chains))
           (s .pre .index),
       numbered-on t (s .pre .isSound) (s .pre .wide) b _ ok,
       room-on t (s .pre .isSound) (s .pre .wide) b _ ok (now (a .places)) (s .pre .room),
