@@ -11,7 +11,7 @@ use list_objects::gather;
 use list_objects::order::sort_objects;
 use list_objects::put_chained;
 use table_drawing::Counters;
-use table_index::CHAINS;
+use table_index::chain::CHAINS;
 use table_output::copy_in;
 ghost use mathlib.Core.Path.{_≡_};
 ghost use mathlib.Core.Bool.{true};

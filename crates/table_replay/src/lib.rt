@@ -8,7 +8,7 @@ use table_arrival::Arrived;
 use table_arrival::asked;
 use table_drawing::Answer;
 use table_drawing::Counters;
-use table_index::CHAINS;
+use table_index::chain::CHAINS;
 ghost use mathlib.Core.Path.{_≡_};
 ghost use mathlib.Core.Bool.{true};
 ghost use Prim.Native.Nat.{_≤_};

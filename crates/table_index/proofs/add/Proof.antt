@@ -239,8 +239,7 @@ add-set-requires c κs =
     (c5 .before .before .if2 .left) in
     let t = aim s is (f .result) (rw (c11 .spot .ensures) at (f .ensures)) in
     let key = key-low d rs h (a .p) l (now (a .places)) (now (a .numbers)) (now (a .counts)) (now (a .chains)) x
-    (room-of s) (f .result) (t .before) (t .create) (t .on) in
-    (
+    (room-of s) (f .result) (t .before) (t .create) (t .on) in (
       omega (arith, h .few-records, l),
       rw (t .number) (t .few),
       rw (c .before .before .before .byte-at .ensures, ← key-in-place rs (a .p)) key,

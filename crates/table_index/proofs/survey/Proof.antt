@@ -30,8 +30,7 @@ survey-held-requires : tie.Need-survey-held-requires
 survey-held-requires c κs =
     let a = c .before .before .aim-of in
     let z = c .before .before .before in
-    let s = z .before .before .before .before .before .before in
-    (
+    let s = z .before .before .before .before .before .before in (
       s .pre .0,
       s .pre .1,
       s .pre .2,

@@ -85,8 +85,7 @@ marks-for-requires c κs =
     let c3 = c .before .before .before in
     let s = start-of c3 in
     let t = target c3 in
-    let a = s .args in
-    (
+    let a = s .args in (
       (a .c, s .pre .0, refl, record { in-turn = s .pre .4; place = t .low; target = t .target }),
       s .pre .1,
       s .pre .2 .chained,

@@ -57,8 +57,7 @@ survey-requires c κs =
     let b = now (a .rec) in
     let (whole, timely)
     = none-of-three (a .c) b (sym (three n) ∙ c .before .before .before .before .before .if1 .left) in
-    let long : recordLength ≤ length b = omega (arith, whole, span-least b) in
-    (
+    let long : recordLength ≤ length b = omega (arith, whole, span-least b) in (
       holds t (s .pre .isSound),
       omega (arith, sound-at t (s .pre .isSound) .records-long),
       s .pre .index,

@@ -1,4 +1,4 @@
--- `table_index::is_unseen_at` meets its contract. Assumes nothing.
+-- `table_index::chain::is_unseen_at` meets its contract. Assumes nothing.
 use mathlib.Core.Path.{_≡_, ap, _∙_}
 use mathlib.Core.List.{List}
 use Prim.Native.Nat.{ℕ, _*_, _-_}
@@ -10,8 +10,8 @@ use borrow.Author.Needs.{needs}
 use Rattle.edit_record.specs.Layout.{placeLength}
 use Rattle.edit_record.specs.RecordBytes.{decodeOf}
 use Rattle.table_index.specs.IndexForms.{unseenOther}
-use Rattle.table_index.proofs.is_unseen_at.Statement.{statement}
-use Rattle.table_index.proofs.is_unseen_at.Tie as tie
+use Rattle.table_index.proofs.chain.is_unseen_at.Statement.{statement}
+use Rattle.table_index.proofs.chain.is_unseen_at.Tie as tie
 
 mul-at : tie.Need-mul-at
 mul-at c = search needs

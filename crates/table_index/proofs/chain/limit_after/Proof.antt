@@ -1,8 +1,8 @@
--- `table_index::limit_after` meets its contract. Assumes nothing.
+-- `table_index::chain::limit_after` meets its contract. Assumes nothing.
 use borrow.Author.Tests.{eq-eqb, ne-eqb}
 use Rattle.edit_record.specs.Layout.{limitedKind}
-use Rattle.table_index.proofs.limit_after.Statement.{statement}
-use Rattle.table_index.proofs.limit_after.Tie as tie
+use Rattle.table_index.proofs.chain.limit_after.Statement.{statement}
+use Rattle.table_index.proofs.chain.limit_after.Tie as tie
 
 returns : tie.Need-returns
 returns c = rw (eq-eqb (c .before .args .kind) limitedKind (c .if1 .taken))

@@ -1,12 +1,12 @@
--- `table_index::marks_for` meets its contract. Assumes nothing.
+-- `table_index::chain::marks_for` meets its contract. Assumes nothing.
 use mathlib.Core.Path.{_≡_, sym, _∙_}
 use denote.Ref.{now}
 use borrow.Author.Tests.{not-true, not-false}
 use borrow.Author.Needs.{needs}
 use Rattle.edit_record.specs.RecordBytes.{decodeOf}
 use Rattle.table_index.proofs.ChainsOfSets.{marks-unset}
-use Rattle.table_index.proofs.marks_for.Statement.{statement}
-use Rattle.table_index.proofs.marks_for.Tie as tie
+use Rattle.table_index.proofs.chain.marks_for.Statement.{statement}
+use Rattle.table_index.proofs.chain.marks_for.Tie as tie
 
 shared-slice-read-is-set-kind : tie.Need-shared-slice-read-is-set-kind
 shared-slice-read-is-set-kind c = search needs
@@ -25,8 +25,7 @@ returns c =
 marks-along-requires : tie.Need-marks-along-requires
 marks-along-requires c κs =
     let is = c .before .is-set-kind in
-    let s = c .before .before .before .before .before .before .before in
-    (
+    let s = c .before .before .before .before .before .before .before in (
       s .pre .0,
       s .pre .1,
       s .pre .2,

@@ -1,9 +1,9 @@
--- `table_index::link_set` meets its contract. Assumes nothing.
+-- `table_index::chain::link_set` meets its contract. Assumes nothing.
 use native.Mathlib.Omega.{arith}
 use lib.ListN.{length-set}
 use borrow.Author.Needs.{needs}
-use Rattle.table_index.proofs.link_set.Statement.{statement}
-use Rattle.table_index.proofs.link_set.Tie as tie
+use Rattle.table_index.proofs.chain.link_set.Statement.{statement}
+use Rattle.table_index.proofs.chain.link_set.Tie as tie
 
 cast-at : tie.Need-cast-at
 cast-at c = search needs

@@ -1,12 +1,12 @@
--- `table_index::marked_with` meets its contract: a bit that no mark has yet is added. Assumes nothing.
+-- `table_index::chain::marked_with` meets its contract: a bit that no mark has yet is added. Assumes nothing.
 use mathlib.Core.Path.{_≡_, _∙_}
 use mathlib.Core.Bool.{Bool, cond}
 use Prim.Native.Nat.{ℕ, _+_, _*_, _%_, _^_, _≤_, _<_}
 use native.Mathlib.Nat.{one-mul}
 use native.Mathlib.Omega.{arith}
 use lib.Pow.{shl-exact}
-use Rattle.table_index.proofs.marked_with.Statement.{statement}
-use Rattle.table_index.proofs.marked_with.Tie as tie
+use Rattle.table_index.proofs.chain.marked_with.Statement.{statement}
+use Rattle.table_index.proofs.chain.marked_with.Tie as tie
 
 shifted-one : (k : ℕ) → k < 64 → (1 * 2 ^ k) % 2 ^ 64 ≡ 2 ^ k
 shifted-one k h = shl-exact {a = 1} 1 k 64 (omega arith) (omega arith) ∙ one-mul (2 ^ k)

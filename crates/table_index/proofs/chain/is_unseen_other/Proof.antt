@@ -1,7 +1,7 @@
--- `table_index::is_unseen_other` meets its contract. Assumes nothing.
+-- `table_index::chain::is_unseen_other` meets its contract. Assumes nothing.
 use borrow.Author.Needs.{needs}
-use Rattle.table_index.proofs.is_unseen_other.Statement.{statement}
-use Rattle.table_index.proofs.is_unseen_other.Tie as tie
+use Rattle.table_index.proofs.chain.is_unseen_other.Statement.{statement}
+use Rattle.table_index.proofs.chain.is_unseen_other.Tie as tie
 
 shared-slice-read-shown : tie.Need-shared-slice-read-shown
 shared-slice-read-shown c = search needs

@@ -1,4 +1,4 @@
--- `table_index::marks_along` meets its contract: the Sets from the place m on are marked, and the chain goes on below it.
+-- `table_index::chain::marks_along` meets its contract: the Sets from the place m on are marked, and the chain goes on below it.
 -- Assumes nothing.
 use mathlib.Core.Path.{_≡_, sym, ap, ap₂, subst, _∙_}
 use mathlib.Core.Bool.{Bool, true, false, cond}
@@ -23,8 +23,8 @@ use Rattle.table_index.specs.IndexForms.{numberAt, isOn, placesOn, headA
 use Rattle.table_index.proofs.ChainsOfSets.{latest-low, Down, marks-down, marks-none}
 use Rattle.table_index.proofs.PlacesOfSets.{places-added, places-grow, places-length}
 use Rattle.table_index.proofs.ArrivingSet.{in-turn, conflict-unseen}
-use Rattle.table_index.proofs.marks_along.Statement.{statement}
-use Rattle.table_index.proofs.marks_along.Tie as tie
+use Rattle.table_index.proofs.chain.marks_along.Statement.{statement}
+use Rattle.table_index.proofs.chain.marks_along.Tie as tie
 
 abbrev Inv-loop : tie.InvT-loop
 Inv-loop recs n numbers chains q rec key x marks₀ o p₀ marks p =
@@ -137,8 +137,7 @@ loop-holds c =
     let a = s .args in
     let (d, h, is, arriving) = s .pre .0 in
     let e = decodeOf (now (a .rec)) in
-    let o : c .before .byte-at2 .result ≡ numberAt (now (a .recs)) (a .q) = c .before .byte-at2 .ensures ∙ s .pre .4 in
-    (
+    let o : c .before .byte-at2 .result ≡ numberAt (now (a .recs)) (a .q) = c .before .byte-at2 .ensures ∙ s .pre .4 in (
       a .n,
       omega arith,
       c .byte-at3 .ensures
@@ -246,8 +245,10 @@ returns c =
     let (d, h, all, arriving) = s .pre .0 in
     let done : l .p ≡ 0 = omega arith in
     let first : isOn rs (a .q) 0 ≡ false
-    = off (isOn rs (a .q) 0) (λ on. omega (arith,
-    set-after (d .sites) rs (d .records) (h .pass) (a .q) 0 (arriving .place) (omega (arith, arriving .place)) on)) in
+    = off (isOn rs (a .q) 0) (λ on. omega (
+      arith,
+      set-after (d .sites) rs (d .records) (h .pass) (a .q) 0 (arriving .place) (omega (arith, arriving .place)) on,
+    )) in
     let none = marks-none rs (a .q) e m first (sym is ∙ done) in
     omega (arith, marks, none)
 
