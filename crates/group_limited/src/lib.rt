@@ -105,6 +105,18 @@ fn mark_in_rows(plain: &mut [u64], n: usize, row: u64)
     }
 }
 
+pub fn put_row(plain: &mut [u64], n: usize, row: u64)
+{
+    let own = group_step::only(n);
+    let mut left = row;
+    while left != 0 {
+        let j = u64::trailing_zeros(left) as usize;
+        plain[j] = plain[j] | own;
+        left = left & (left - 1);
+    }
+    plain[n] = row;
+}
+
 // Puts down what is told of Set n: those before it that conflict with it by document 01's rule, and its context.
 pub fn put_told(plain: &mut [u64], ctx: &mut [u64], n: usize, row: u64, own: u64)
     requires { ⌜ (n < mostSets) × (n < length (now plain)) × (n < length (now ctx)) ⌝ }
