@@ -1,39 +1,14 @@
--- The first and the last member of a number, as the counts of its zeros at either end give them. Assumes nothing.
-use mathlib.Core.Path.{_≡_, refl, sym, ap, _∙_}
+-- A number without its first member, and its last one, as the count of the zeros behind that gives it. Assumes nothing.
+use mathlib.Core.Path.{_≡_, sym, ap, _∙_}
 use mathlib.Core.Bool.{true}
-use Prim.Native.Nat.{ℕ, zero, suc, _+_, _-_, _/_, _%_, _^_, _≤_, _<_}
+use Prim.Native.Nat.{ℕ, suc, _+_, _-_, _^_, _<_}
 use native.Mathlib.Omega.{arith}
-use native.Mathlib.Nat.{div-one}
-use native.Mathlib.Numerals.{one-add}
 use lib.Bits.{bitAnd, and-comm, and-le-l}
-use lib.Count.{leadingZeros, trailingZeros, under, leading-top}
-use lib.Pow.{shr-shr}
-use borrow.Author.Tests.{eq-eqb}
+use lib.Count.{leadingZeros, leading-top}
 use Rattle.math_lists.proofs.Booleans.{both, or-right, eqb-self}
 use Rattle.math_maximal.specs.Groups.{bit}
 use Rattle.math_maximal.proofs.Bits.{bit-high, bit-and}
 use Rattle.group_engine.proofs.BitsFrom.{bit-add}
-
--- ---- the first
-
-bit-half : (g i : ℕ) → bit g (suc i) ≡ bit (g / 2) i
-unfolding bit
-bit-half g i = rw (← one-add i, ← shr-shr g 1 i)
-
-bit-odd : (g : ℕ) → g % 2 ≡ 1 → bit g 0 ≡ true
-unfolding bit
-bit-odd g e = rw (div-one g) (eq-eqb (g % 2) 1 e)
-
-pub first-member : (k m : ℕ) → 0 < m → m < 2 ^ k → bit m (trailingZeros k m) ≡ true
-unfolding trailingZeros
-first-member zero m l h = absurd (omega arith)
-first-member (suc k) m l h = go (m % 2) refl (λ q. first-member k (m / 2) q (omega arith))
-  where
-    go :
-        (d : ℕ) → m % 2 ≡ d → (0 < m / 2 → bit (m / 2) (trailingZeros k (m / 2)) ≡ true) →
-        bit m (under d (trailingZeros k (m / 2))) ≡ true
-    go zero e rest = bit-half m (trailingZeros k (m / 2)) ∙ rest (omega arith)
-    go (suc d) e rest = bit-odd m (omega arith)
 
 -- ---- without the first
 
