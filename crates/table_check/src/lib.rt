@@ -110,8 +110,7 @@ fn step_limited(
     let mut n: usize = 1;
     let mut i: usize = 0;
     while i < k {
-        let e = edit_history::decode_at(recs, places[i] as usize);
-        let t = group_limited::told_of(recs, places, i, plain, ctx, e);
+        let t = group_limited::told_at(recs, places, i, plain, ctx, places[i]);
         n = group_step::step_apart(gs, n, t.conflicts, i);
         if GROUPS < n {
             return n;
