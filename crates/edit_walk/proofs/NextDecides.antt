@@ -1,6 +1,6 @@
--- Where the records held pass 1 to 5, an edit whose vector is that of one of them with one edit more of its own has seen
--- nothing that is missing and nothing torn: whatever it has seen that one had seen, and that one passed. So 1 and 5
--- decide, but for its entries past the sites. Assumes no more sites than entries.
+-- Where the records held pass 1 to 5, an edit whose vector is that of one of them with one edit more of its own has
+-- seen nothing that is missing and nothing torn: whatever it has seen that one had seen, and that one passed. So 1 and
+-- 5 decide, but for its entries past the sites. Assumes no more sites than entries.
 use mathlib.Core.Path.{_≡_, refl, sym, _∙_}
 use mathlib.Core.Logic.{_⊎_, inl, inr}
 use mathlib.Core.Bool.{Bool, true, false, not, _&&_, _||_}
@@ -150,7 +150,8 @@ next-decides sites few rs n pass ps ix counts counted e x lx grown next = go (de
         let held = counted (e .site .0) low in
         let others : (t : ℕ) → t < mostSites → (t ≡ e .site .0 → ⊥) → getD (e .vector) t 0 ≤ countFrom t (editsOf rs n)
         = λ t l d.
-        rw (other (recordAt rs x .vector) (e .vector) (e .site .0) grown t l d) (seen-held sites few rs n pass x t lx l) in
+        rw (other (recordAt rs x .vector) (e .vector) (e .site .0) grown t l d)
+        (seen-held sites few rs n pass x t lx l) in
         let turn : InTurn sites (editsOf rs n) e
         = record { formed = well-formed sites e u; next = rw (← held) next; others = others } in
         let early : earlyAgainst counts e ≡ false = none-early turn in

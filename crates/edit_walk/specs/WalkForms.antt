@@ -108,7 +108,7 @@ isNext v w s = eqb (getD w s 0) (getD v s 0 + 1) && sameBut v w s
 
 -- e is the next of its author after the first n records, and its vector is that of one of them with one edit more of
 -- its own
-pub record Told (counts rs : List ℕ) (n : ℕ) (e : Edit) : Type 0 where
+pub record Following (counts rs : List ℕ) (n : ℕ) (e : Edit) : Type 0 where
   pub next : e .seq .0 ≡ getD counts (e .site .0) 0 + 1
   pub last : ℕ
   pub before : last < n

@@ -23,7 +23,7 @@ ghost use Rattle.edit_record.specs.Answer1.{isAimed, nonzeroPast, unfit};
 ghost use Rattle.edit_history.specs.EditsHeld.{mostRecords, recordAt, editsOf};
 ghost use Rattle.edit_history.specs.Answers2to5.{isTorn};
 ghost use Rattle.edit_walk.specs.WalkForms.{targetHeld, inTurnAgainst, passesAgainst};
-ghost use Rattle.edit_walk.specs.WalkForms.{sameBut, isNext, Told, Passing};
+ghost use Rattle.edit_walk.specs.WalkForms.{sameBut, isNext, Following, Passing};
 
 // Whether rec has in every entry but that of the site s what x has; both are there whole.
 fn is_same_but(x: &[u8], rec: &[u8], s: u8) -> bool
@@ -73,9 +73,9 @@ fn likely_before(recs: &[u8], places: &[u16], p: usize, rec: &[u8], s: u8, have:
 
 // Whether rec, which is there whole, is the next of its author after the first p records, and is found to have the
 // vector of one of them with one edit more of its own.
-fn is_told(held: &[u16], recs: &[u8], places: &[u16], p: usize, rec: &[u8]) -> bool
+fn is_following(held: &[u16], recs: &[u8], places: &[u16], p: usize, rec: &[u8]) -> bool
     requires { ⌜ (p ≤ mostRecords) × (recordLength ≤ length (now rec)) ⌝ }
-    ensures { λ r. ⌜ (r ≡ true → Told (now (held .entry)) (now (recs .entry)) p (decodeOf (now (rec .entry)))) ⌝ }
+    ensures { λ r. ⌜ (r ≡ true → Following (now (held .entry)) (now (recs .entry)) p (decodeOf (now (rec .entry)))) ⌝ }
 {
     if p == 0 {
         return false;
@@ -105,16 +105,16 @@ pub fn is_torn_next(held: &[u16], recs: &[u8], places: &[u16], p: usize, rec: &[
         × (inTurnAgainst sites (now held) (decodeOf (now rec)) ≡ true)) ⌝ }
     ensures { λ r. ⌜ r ≡ isTorn (editsOf (now (recs .entry)) p) (decodeOf (now (rec .entry))) ⌝ }
 {
-    if is_told(held, recs, places, p, rec) {
+    if is_following(held, recs, places, p, rec) {
         return false;
     }
     let v = edit_record::vector_of(rec);
     is_torn_by_news(recs, places, v, Site(rec[AT_SITE]))
 }
 
-// Whether none of 1 to 5 is given to a record that is there whole and is told, by the counts and the index of the
-// records before it.
-fn is_told_passing(sites: u8, held: &[u16], recs: &[u8], places: &[u16], rec: &[u8]) -> bool
+// Whether none of 1 to 5 is given to a record that is there whole and follows one of those before it, by the counts
+// and the index of these.
+fn is_fit_and_aimed(sites: u8, held: &[u16], recs: &[u8], places: &[u16], rec: &[u8]) -> bool
     requires { ⌜ recordLength ≤ length (now rec) ⌝ }
     ensures { λ r.
         ⌜ ((leb sites (decodeOf (now (rec .entry)) .site .0) ≡ false →
@@ -145,8 +145,8 @@ pub fn is_passing_next(sites: u8, held: &[u16], recs: &[u8], places: &[u16], p: 
         (recordAt (now (recs .entry)) p) ⌝ }
 {
     let at = p * PLACE;
-    if is_told(held, recs, places, p, &recs[at..]) {
-        return is_told_passing(sites, held, recs, places, &recs[at..]);
+    if is_following(held, recs, places, p, &recs[at..]) {
+        return is_fit_and_aimed(sites, held, recs, places, &recs[at..]);
     }
     is_passing_at(sites, held, recs, places, p)
 }

@@ -46,4 +46,5 @@ pub row-small :
     (rs ps : List ℕ) (i : ℕ) → i < length ps → (e : Edit) (s : Sight) → SightOf (setsIn rs ps i) e s → s .plain < 2 ^ i
 row-small rs ps i l e s sight =
     let ms = setsIn rs ps i in
-    rw (sight .plain) (subst (λ (n : ℕ). plainMarks e ms < 2 ^ n) (sets-length rs ps i (omega arith)) (marked-below e ms))
+    rw (sight .plain)
+    (subst (λ (n : ℕ). plainMarks e ms < 2 ^ n) (sets-length rs ps i (omega arith)) (marked-below e ms))

@@ -1,5 +1,5 @@
--- A Set that arrives, against one that is held, of its object and its key: the one that is held has not seen it, so that
--- they are in conflict exactly if it has not seen that one and is shown otherwise. Assumes that the records pass.
+-- A Set that arrives, against one that is held, of its object and its key: the one that is held has not seen it, so
+-- that they are in conflict exactly if it has not seen that one and is shown otherwise. Assumes that the records pass.
 use mathlib.Core.Path.{_≡_, refl, sym, ap, _∙_}
 use mathlib.Core.Bool.{Bool, true, false, not, _&&_, cond, and-true, and-false}
 use mathlib.Core.List.{List, map}
@@ -80,7 +80,8 @@ module _ (c : Counters) (rs : List ℕ) (h : Holds c rs) (q : ℕ) (e : Edit) (a
         (eq-eqb (a .tseq .0) (e .tseq .0) (eqb-true (a .tseq .0) (g .seq .0) k ∙ parts .seq)) in
         let seen = hasSeen (e .vector) (a .site) (a .seq) in
         let together : areConcurrent a e ≡ not seen
-        = rw (not-same, not-seen, and-false (not (sameEdit (e .site) (e .seq) (a .site) (a .seq)))) (and-true (not seen))
+        = rw (not-same, not-seen, and-false (not (sameEdit (e .site) (e .seq) (a .site) (a .seq))))
+        (and-true (not seen))
         in
         let other = not (eqb (shownValue (a .key) (a .value)) (shownValue (e .key) (e .value))) in
         ap (λ (b : Bool). b && other) (sym together)

@@ -1,5 +1,5 @@
--- The chain of an object's Sets of one key: its latest place, and whether one of the object's Sets is limited, after one
--- record more; and the marks of those in conflict with an edit, found along the chain from its head back. Assumes
+-- The chain of an object's Sets of one key: its latest place, and whether one of the object's Sets is limited, after
+-- one record more; and the marks of those in conflict with an edit, found along the chain from its head back. Assumes
 -- nothing.
 use mathlib.Core.Path.{_≡_, refl, sym, ap, _∙_}
 use mathlib.Core.Logic.{inl, inr}

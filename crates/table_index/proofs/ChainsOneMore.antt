@@ -1,5 +1,5 @@
--- The chains after one record more: a record that is no Set leaves them as they are, and a Set stands at the head of its
--- chain. Assumes what is said of the record and of the numbers of objects.
+-- The chains after one record more: a record that is no Set leaves them as they are, and a Set stands at the head of
+-- its chain. Assumes what is said of the record and of the numbers of objects.
 use mathlib.Core.Path.{_≡_, refl, sym, ap, _∙_}
 use mathlib.Core.Logic.{inl, inr}
 use mathlib.Core.Bool.{Bool, true, false, _&&_, _||_, cond}

@@ -194,7 +194,15 @@ module _ (c : Counters) (rs : List ℕ) (h : Holds c rs) (n : ℕ) (l : n < c .r
             chained =
                 chains-stay rs n ns hs (x .chained) numbers-grow (set ns n (numberAt rs n))
                 (λ p k. getD-set-other ns n p (numberAt rs n) 0 (λ e. absurd (omega arith))) (not-on no-set)
-                (λ y. (none-named, omega (arith, create-less rs n (suc n) (omega arith) create, numbers-few (suc n) l)));
+                (λ y. (
+                  none-named,
+                  omega (
+                    arith,
+                    create-less rs n (suc n)
+                        (omega arith) create,
+                    numbers-few (suc n) l,
+                  ),
+                ));
           }
 
     -- ---- a Set

@@ -1,4 +1,5 @@
--- `edit_walk::next::is_passing_next` meets its contract: where the record is told, 1 and 5 decide. Assumes nothing.
+-- `edit_walk::next::is_passing_next` meets its contract: where the record follows one before it, 1 and 5
+-- decide. Assumes nothing.
 use mathlib.Core.Path.{_≡_, sym, _∙_}
 use mathlib.Core.List.{List}
 use Prim.Native.Nat.{ℕ, _*_, _-_}
@@ -16,29 +17,29 @@ use Rattle.edit_walk.proofs.next.is_passing_next.Tie as tie
 mul-at : tie.Need-mul-at
 mul-at c = search needs
 
-sub-is-told : tie.Need-sub-is-told
-sub-is-told c = search needs
+sub-is-following : tie.Need-sub-is-following
+sub-is-following c = search needs
 
-part-is-told-start : tie.Need-part-is-told-start
-part-is-told-start c = search needs
+part-is-following-start : tie.Need-part-is-following-start
+part-is-following-start c = search needs
 
-part-is-told-end : tie.Need-part-is-told-end
-part-is-told-end c = search needs
+part-is-following-end : tie.Need-part-is-following-end
+part-is-following-end c = search needs
 
-is-told-requires : tie.Need-is-told-requires
-is-told-requires c κs = search needs
+is-following-requires : tie.Need-is-following-requires
+is-following-requires c κs = search needs
 
-sub-is-told-passing : tie.Need-sub-is-told-passing
-sub-is-told-passing c = search needs
+sub-is-fit-and-aimed : tie.Need-sub-is-fit-and-aimed
+sub-is-fit-and-aimed c = search needs
 
-part-is-told-passing-start : tie.Need-part-is-told-passing-start
-part-is-told-passing-start c = search needs
+part-is-fit-and-aimed-start : tie.Need-part-is-fit-and-aimed-start
+part-is-fit-and-aimed-start c = search needs
 
-part-is-told-passing-end : tie.Need-part-is-told-passing-end
-part-is-told-passing-end c = search needs
+part-is-fit-and-aimed-end : tie.Need-part-is-fit-and-aimed-end
+part-is-fit-and-aimed-end c = search needs
 
-is-told-passing-requires : tie.Need-is-told-passing-requires
-is-told-passing-requires c κs = search needs
+is-fit-and-aimed-requires : tie.Need-is-fit-and-aimed-requires
+is-fit-and-aimed-requires c κs = search needs
 
 returns : tie.Need-returns
 returns c =
@@ -50,9 +51,9 @@ returns c =
     let rest : _≡_ {A = List ℕ} (take (length rs - at) (drop at rs)) (drop at rs)
     = take-all (length rs - at) (drop at rs) (simp length-drop (omega arith)) in
     let e = recordAt rs (a .p) in
-    let t = rw rest at (c .before .before .before .is-told .ensures (c .before .before .if1 .taken)) in
+    let t = rw rest at (c .before .before .before .is-following .ensures (c .before .before .if1 .taken)) in
     let past = next-not-past (a .sites) (ok .few) rs (a .p) (ok .pass) e (t .last) (t .before) (t .grown) in
-    (rw rest at (c .is-told-passing .ensures)) past
+    (rw rest at (c .is-fit-and-aimed .ensures)) past
     ∙ sym
     (next-decides (a .sites) (ok .few) rs (a .p) (ok .pass) (now (a .places)) (ok .indexed) (now (a .held))
     (ok .counted) e (t .last) (t .before) (t .grown) (t .next))
@@ -68,14 +69,14 @@ is-passing-next-spec =
     tie.close
     (tie.spec
     mul-at
-    sub-is-told
-    part-is-told-start
-    part-is-told-end
-    is-told-requires
-    sub-is-told-passing
-    part-is-told-passing-start
-    part-is-told-passing-end
-    is-told-passing-requires
+    sub-is-following
+    part-is-following-start
+    part-is-following-end
+    is-following-requires
+    sub-is-fit-and-aimed
+    part-is-fit-and-aimed-start
+    part-is-fit-and-aimed-end
+    is-fit-and-aimed-requires
     returns
     is-passing-at-requires
     returns-2)

@@ -1,5 +1,5 @@
--- `edit_walk::next::is_torn_next` meets its contract: what is told is whole, and news decides of the rest. Assumes
--- nothing.
+-- `edit_walk::next::is_torn_next` meets its contract: what follows a record held is whole, and news
+-- decides of the rest. Assumes nothing.
 use mathlib.Core.Path.{_≡_, sym, ap, _∙_}
 use mathlib.Core.List.{List}
 use Prim.Native.Nat.{ℕ}
@@ -13,8 +13,8 @@ use Rattle.edit_walk.proofs.NextDecides.{next-whole}
 use Rattle.edit_walk.proofs.next.is_torn_next.Statement.{statement}
 use Rattle.edit_walk.proofs.next.is_torn_next.Tie as tie
 
-is-told-requires : tie.Need-is-told-requires
-is-told-requires c κs = search needs
+is-following-requires : tie.Need-is-following-requires
+is-following-requires c κs = search needs
 
 returns : tie.Need-returns
 returns c =
@@ -23,7 +23,7 @@ returns c =
     let (sites, ok, y) = z .pre .2 in
     let rs = now (a .recs) in
     let e = decodeOf (now (a .rec)) in
-    let t = c .before .is-told .ensures (c .if1 .taken) in
+    let t = c .before .is-following .ensures (c .if1 .taken) in
     sym
     (next-whole sites (ok .few) rs (a .p) (ok .pass) e (t .last) (t .before) (t .grown) (now (a .places)) (ok .indexed)
     (turn-against sites (ok .few) (now (a .held)) (editsOf rs (a .p)) (ok .counted) e y))
@@ -54,7 +54,7 @@ pub is-torn-next-spec : {M : Type 1} → statement M
 is-torn-next-spec =
     tie.close
     (tie.spec
-    is-told-requires
+    is-following-requires
     returns
     vector-of-requires
     shared-slice-read-t9

@@ -1,5 +1,5 @@
--- `group_step::covered::put_wholes` meets its contract: what those give that gain the Set, of those passed, stands at the
--- front of out. Assumes nothing.
+-- `group_step::covered::put_wholes` meets its contract: what those give that gain the Set, of those passed, stands at
+-- the front of out. Assumes nothing.
 use mathlib.Core.Path.{_≡_, refl, sym, ap, _∙_}
 use mathlib.Core.List.{_++_, map}
 use mathlib.Core.Logic.{⊎-elim}

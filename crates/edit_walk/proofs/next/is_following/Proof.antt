@@ -1,4 +1,4 @@
--- `edit_walk::next::is_told` meets its contract: what it finds is before the place, so that it is told. Assumes nothing.
+-- `edit_walk::next::is_following` meets its contract: what it finds is one of the records before. Assumes nothing.
 use mathlib.Core.Path.{_≡_, refl}
 use mathlib.Core.List.{List}
 use Prim.Native.Nat.{ℕ, _*_, _-_}
@@ -9,8 +9,8 @@ use denote.Ref.{now}
 use borrow.Author.Needs.{needs}
 use Rattle.math_lists.proofs.Booleans.{clash}
 use Rattle.edit_record.specs.Layout.{placeLength}
-use Rattle.edit_walk.proofs.next.is_told.Statement.{statement}
-use Rattle.edit_walk.proofs.next.is_told.Tie as tie
+use Rattle.edit_walk.proofs.next.is_following.Statement.{statement}
+use Rattle.edit_walk.proofs.next.is_following.Tie as tie
 
 returns : tie.Need-returns
 returns c h = clash h refl
@@ -79,8 +79,8 @@ returns-5 c h =
       grown = rw (← rest, ← c .is-next-to .ensures) h;
     }
 
-pub is-told-spec : {M : Type 1} → statement M
-is-told-spec =
+pub is-following-spec : {M : Type 1} → statement M
+is-following-spec =
     tie.close
     (tie.spec
     returns

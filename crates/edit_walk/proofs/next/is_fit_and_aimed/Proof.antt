@@ -1,9 +1,9 @@
--- `edit_walk::next::is_told_passing` meets its contract. Assumes nothing.
+-- `edit_walk::next::is_fit_and_aimed` meets its contract. Assumes nothing.
 use mathlib.Core.Path.{_≡_, refl, sym, _∙_}
 use mathlib.Core.Bool.{Bool, true, false, not}
 use borrow.Author.Needs.{needs}
-use Rattle.edit_walk.proofs.next.is_told_passing.Statement.{statement}
-use Rattle.edit_walk.proofs.next.is_told_passing.Tie as tie
+use Rattle.edit_walk.proofs.next.is_fit_and_aimed.Statement.{statement}
+use Rattle.edit_walk.proofs.next.is_fit_and_aimed.Tie as tie
 
 twice : (b : Bool) → b ≡ not (not b)
 twice true = refl
@@ -28,7 +28,8 @@ is-target-held-requires c κs = search needs
 
 returns-2 : tie.Need-returns-2
 returns-2 c h =
-    let u = sym (c .before .before .before .before .before .is-body-unfit .ensures h) ∙ c .before .before .before .before .if1 .left in
+    let y = c .before .before .before .before in
+    let u = sym (y .before .is-body-unfit .ensures h) ∙ y .if1 .left in
     let t = sym (c .before .before .is-aimed-kind .ensures) ∙ c .before .if2 .taken in
     rw (u, t, c .is-target-held .ensures) (twice _)
 
@@ -38,8 +39,8 @@ returns-3 c h =
     let t = sym (c .before .is-aimed-kind .ensures) ∙ c .if2 .left in
     rw (u, t)
 
-pub is-told-passing-spec : {M : Type 1} → statement M
-is-told-passing-spec =
+pub is-fit-and-aimed-spec : {M : Type 1} → statement M
+is-fit-and-aimed-spec =
     tie.close
     (tie.spec
     is-body-unfit-requires
