@@ -30,5 +30,5 @@ last-member m r l h e =
     rw same (
       rw next at high,
       ap (λ (x : ℕ). bit x j) (sym whole) ∙ bit-add j j (m - 2 ^ j) rest (bit-high j (m - 2 ^ j) rest j (omega arith)) j
-      ∙ or-right (bit (m - 2 ^ j) j) _ (eqb-self j),
+          ∙ or-right (bit (m - 2 ^ j) j) _ (eqb-self j),
     )

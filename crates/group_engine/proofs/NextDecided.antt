@@ -158,7 +158,8 @@ module _ {ms : List ℕ} {n u t may lone k b rest : ℕ} (d : Deciding ms n u t 
     out-found f = rw (q, e, d .its-number) f
 
     -- one of those asked about is stuck: nothing more
-    pub out-stuck : (x : ℕ) → Stuck ms (bitOr (bitAnd lone x) b) rest → Found ms n t r out → Found ms n (t + b) next after
+    pub out-stuck :
+        (x : ℕ) → Stuck ms (bitOr (bitAnd lone x) b) rest → Found ms n t r out → Found ms n (t + b) next after
     out-stuck x (i, h, c) f =
         let w = waits-out in
         let m = asked-out x i h in
@@ -180,7 +181,7 @@ module _ {ms : List ℕ} {n u t may lone k b rest : ℕ} (d : Deciding ms n u t 
     in-member : (i : ℕ) → bit left i ≡ true → (bit lone i ≡ true) × (conflict ms k i ≡ false)
     in-member i h =
         let (x, y) = both (bit lone i) (not (bit (getD ms k 0) i))
-          (sym (ap (λ (z : ℕ). bit z i) e ∙ bit-minus lone (getD ms k 0) i) ∙ h) in
+        (sym (ap (λ (z : ℕ). bit z i) e ∙ bit-minus lone (getD ms k 0) i) ∙ h) in
         (x, not-true (bit (getD ms k 0) i) y)
 
     pub waits-in : Waiting ms n k (t + b) left

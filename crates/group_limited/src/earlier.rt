@@ -1,6 +1,7 @@
-// One Set against those before it, by the places of their records: which of them conflict with it by document 01's rule,
-// which its author had seen and which it lists, and whether it lists a name that is that of none which he had seen. The
-// records are read where they stand; an edit is decoded only for its list, and where a record is not there whole.
+// One Set against those before it, by the places of their records: which of them conflict with it by document 01's
+// rule, which its author had seen and which it lists, and whether it lists a name that is that of none which he had
+// seen. The records are read where they stand; an edit is decoded only for its list, and where a record is not there
+// whole.
 use super::Listed;
 use super::Marks;
 use edit_causal::is_before;

@@ -92,7 +92,8 @@ module _ (rs ps : List ℕ) (k : ℕ) (fits : k ≤ length ps) where
     -- one mask more, marked in those before it
     module _ (i : ℕ) (l : i < k) (row : ℕ) (its : row ≡ plainMarks (recordAt rs (getD ps i 0)) (setsIn rs ps i))
         (before after : List ℕ) (h : MaskedFirst i xs before)
-        (marks : (j : ℕ) → j < i → getD after j 0 ≡ withMark i row j (getD before j 0)) (own : getD after i 0 ≡ row) where
+        (marks : (j : ℕ) → j < i → getD after j 0 ≡ withMark i row j (getD before j 0))
+        (own : getD after i 0 ≡ row) where
       pub masked-more : MaskedFirst (i + 1) xs after
       masked-more j m = elim (last {i = j} {n = i} (omega arith)) [
         | inl q ↦ rw (add-one i)

@@ -31,7 +31,8 @@ returns c =
     let s = c .before .before .before .before .before .before .before .before .before .before .before .before in
     let a = s .args in
     let told = c .told-by .ensures _ _ (sets-length (now (a .recs)) (now (a .places)) (a .k) (s .pre .1))
-    (c .before .before .before .before .before .before .put-rows .ensures) (c .before .before .before .sight-of .ensures) in
+    (c .before .before .before .before .before .before .put-rows .ensures)
+    (c .before .before .before .sight-of .ensures) in
     record {
       nameless = λ p law. told .nameless law (p .named);
       conflicts = λ p law h. told .conflicts law (p .named) h;
