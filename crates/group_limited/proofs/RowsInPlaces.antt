@@ -43,8 +43,9 @@ rows-more rs ps i l s own plains cs plains′ cs′ tell sight its put =
 
 -- its row is a number of i bits
 pub row-small :
-    (rs ps : List ℕ) (i : ℕ) → i < length ps → (e : Edit) (s : Sight) → SightOf (setsIn rs ps i) e s → s .plain < 2 ^ i
+    (rs ps : List ℕ) (i : ℕ) → i < length ps → (e : Edit) (s : Sight) → SightOf (setsIn rs ps i) e s →
+    s .plain < 2 ^ i
 row-small rs ps i l e s sight =
     let ms = setsIn rs ps i in
-    rw (sight .plain)
-    (subst (λ (n : ℕ). plainMarks e ms < 2 ^ n) (sets-length rs ps i (omega arith)) (marked-below e ms))
+    let size = sets-length rs ps i (omega arith) in
+    rw (sight .plain) (subst (λ (n : ℕ). plainMarks e ms < 2 ^ n) size (marked-below e ms))

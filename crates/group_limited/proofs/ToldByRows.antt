@@ -91,8 +91,8 @@ module _ (ms : List Edit) (e : Edit) where
       module _ (c : ℕ) (own : c ≡ context b n) where
         pub nameless-by-sight :
             (names : Bool) →
-            ((b : Box) → NextOf b n plains cs (s .seen) (s .named) (s .limited) →
-            c ≡ context b n → names ≡ maskNames b n) →
+            ((b : Box) → NextOf b n plains cs (s .seen) (s .named) (s .limited) → c ≡ context b n →
+            names ≡ maskNames b n) →
             Lawful b (suc k) → AllNamed (boxOn ms) k → (s .limited && (s .strange || not names)) ≡ namelessAmong ms e
         nameless-by-sight names h law all = go (isLimited e) refl
           where
@@ -113,7 +113,7 @@ module _ (ms : List Edit) (e : Edit) where
           context = rw size own;
           nameless = its-answer;
           conflicts = λ law all free.
-              rw (← size) at (h b (s .seen) (s .named) (s .limited) next-by-sight
-              (rw (sight .plain, ← size) its-row) own)
+              rw (← size) at
+              (h b (s .seen) (s .named) (s .limited) next-by-sight (rw (sight .plain, ← size) its-row) own)
               ∙ conflicts-told law all (sym (its-answer law all) ∙ free);
         }

@@ -51,7 +51,8 @@ sub-left c = let some = c .before .before .loop-test .taken in omega arith
 
 loop-less : tie.Need-loop-less Inv-loop μ-loop
 loop-less c =
-    fewer (c .before .before .before .loop .left) (let some = c .before .before .loop-test .taken in omega arith)
+    let some = c .before .before .loop-test .taken in
+    fewer (c .before .before .before .loop .left) (omega arith)
 
 loop-again : tie.Need-loop-again Inv-loop μ-loop
 loop-again c =

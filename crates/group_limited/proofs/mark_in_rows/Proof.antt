@@ -74,17 +74,16 @@ loop-less : tie.Need-loop-less Inv-loop μ-loop
 loop-less c =
     let l = c .before .before .before .before .loop in
     let s = c .before .before .before .before .before .before .before in
-    let (b, few) = first-left (c .before .before .before .loop-test .taken)
-    (l .inv .0) (s .pre .2) (s .fits .row .fits) in
-    rw (c .without .ensures, c .before .only2 .ensures)
-    (less-left (l .left) _ (c .before .before .before .loop-test .taken) b)
+    let some = c .before .before .before .loop-test .taken in
+    let (b, few) = first-left some (l .inv .0) (s .pre .2) (s .fits .row .fits) in
+    rw (c .without .ensures, c .before .only2 .ensures) (less-left (l .left) _ some b)
 
 loop-again : tie.Need-loop-again Inv-loop μ-loop
 loop-again c =
     let l = c .before .before .before .before .loop in
     let s = c .before .before .before .before .before .before .before in
-    let (b, few) = first-left (c .before .before .before .loop-test .taken)
-    (l .inv .0) (s .pre .2) (s .fits .row .fits) in
+    let some = c .before .before .before .loop-test .taken in
+    let (b, few) = first-left some (l .inv .0) (s .pre .2) (s .fits .row .fits) in
     let own = c .before .before .before .before .before .only in
     rw (c .without .ensures, c .before .only2 .ensures) (
       omega (arith, l .inv .0),

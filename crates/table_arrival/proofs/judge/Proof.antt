@@ -57,8 +57,8 @@ returns-2 c =
     = subst (λ (ms : List Edit). JudgedOf ms own (c .judge .result))
     (c .before .before .before .put-places .ensures .0)
     (c .judge .ensures) in
-    let judged = subst (λ (x : Edit). JudgedOf (setsOn (x .tsite) (x .tseq) es) own (c .judge .result))
-    (e .ensures) of in
+    let judged = subst (λ (x : Edit). JudgedOf (setsOn (x .tsite) (x .tseq) es) own (c .judge .result)) (e .ensures)
+    of in
     record { nameless = judged .nameless; conflicts = λ found. judged .conflicts }
 
 pub judge-spec : {M : Type 1} → statement M

@@ -59,8 +59,8 @@ loop-again c =
       omega arith,
       p .kept .0 ∙ l .inv .1,
       masked-more (now (a .recs)) (now (a .places)) (a .k) (s .pre .0) (s .pre .3) (l .i) (omega arith) _
-          (c .before .before .before .before .marks-at .ensures) (l .masks)
-          (p .last .0) (l .inv .2) (p .ensures .0) (p .ensures .1),
+          (c .before .before .before .before .marks-at .ensures) (l .masks) (p .last .0) (l .inv .2) (p .ensures .0)
+          (p .ensures .1),
     )
 
 same-length : tie.Need-same-length Inv-loop μ-loop
