@@ -1,5 +1,5 @@
--- `group_step::covered::are_covered` meets its contract: what remains of each group passed is part of one of s, so those
--- left decide. Assumes nothing.
+-- `group_step::covered::are_covered` meets its contract: what remains of each group passed is part of one of s, so
+-- those left decide. Assumes nothing.
 use mathlib.Core.Path.{_≡_, refl, sym, ap, _∙_}
 use mathlib.Core.Bool.{not}
 use Prim.Native.Nat.{_-_, _≤_}

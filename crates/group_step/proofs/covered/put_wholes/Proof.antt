@@ -1,12 +1,12 @@
--- `group_step::covered::put_wholes` meets its contract: what those give that gain the Set, of those passed, stands at the
--- front of out. Assumes nothing.
+-- `group_step::covered::put_wholes` meets its contract: what those give that gain the Set, of those passed, stands at
+-- the front of out. Assumes nothing.
 use mathlib.Core.Path.{_≡_, refl, sym, ap, _∙_}
 use mathlib.Core.List.{_++_, map}
 use mathlib.Core.Logic.{⊎-elim}
 use Prim.Native.Nat.{ℕ, _+_, _-_, _≤_}
 use native.Mathlib.Omega.{arith}
 use borrow.Author.Needs.{needs}
-use lib.ListN.{length, getD, take, set, length-set}
+use lib.ListN.{length, take, set, length-set}
 use lib.Seq.{slice}
 use Rattle.math_lists.specs.SortedLists.{filter}
 use Rattle.math_maximal.specs.Step.{compatible, candidate}

@@ -1,5 +1,5 @@
--- `group_step::covered::seek` meets its contract: x is part of none of the numbers passed, so those left decide. Assumes
--- nothing.
+-- `group_step::covered::seek` meets its contract: x is part of none of the numbers passed, so those left decide.
+-- Assumes nothing.
 use mathlib.Core.Path.{_≡_, refl, sym, _∙_}
 use Prim.Native.Nat.{_-_, _≤_}
 use native.Mathlib.Omega.{arith}
