@@ -3,7 +3,7 @@
 -- other thing happens. Assumes nothing.
 use mathlib.Core.Path.{_≡_, refl, sym, ap, ap₂, _∙_}
 use mathlib.Core.Logic.{inl, inr}
-use mathlib.Core.Bool.{Bool, true, false, not, _&&_, cond}
+use mathlib.Core.Bool.{Bool, true, false, not, cond}
 use mathlib.Core.List.{List, [], _∷_, _++_, map}
 use Prim.Native.Nat.{ℕ, suc, _+_, _^_, _<_}
 use native.Mathlib.Nat.{le-refl}
@@ -17,7 +17,6 @@ use Rattle.math_lists.specs.SortedLists.{any, elem, filter, Ascending}
 use Rattle.math_lists.proofs.Booleans.{clash, decide, off, either, or-left, or-right, and-on}
 use Rattle.math_lists.proofs.Elements.{any-append, any-map, any-on, any-at, filter-at, filter-on}
 use Rattle.math_lists.proofs.SortedLists.{ascending-unique}
-use Rattle.math_maximal.specs.Groups.{bit}
 use Rattle.math_maximal.specs.Step.{compatible, candidate, partOfLarger, dropped, step}
 use Rattle.math_maximal.proofs.MaximalSets.{same-set}
 use Rattle.math_maximal.proofs.Bits.{bit-high, same-bits, part-and, candidate-new, candidate-below, gains}

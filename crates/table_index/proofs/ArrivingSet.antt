@@ -1,20 +1,19 @@
 -- A Set that arrives, against one that is held, of its object and its key: the one that is held has not seen it, so
 -- that they are in conflict exactly if it has not seen that one and is shown otherwise. Assumes that the records pass.
-use mathlib.Core.Path.{_≡_, refl, sym, ap, _∙_}
-use mathlib.Core.Bool.{Bool, true, false, not, _&&_, cond, and-true, and-false}
-use mathlib.Core.List.{List, map}
+use mathlib.Core.Path.{_≡_, sym, ap, _∙_}
+use mathlib.Core.Bool.{Bool, true, false, not, _&&_, and-true, and-false}
+use mathlib.Core.List.{List}
 use Prim.Native.Nat.{ℕ, _≤_, _<_}
 use native.Mathlib.Omega.{arith}
 use native.Mathlib.Decide.{ℕ-discrete}
-use lib.Dec.{eqb, leb}
-use lib.ListN.{length, getD}
+use lib.Dec.{eqb}
+use lib.ListN.{getD}
 use borrow.Author.Tests.{eqb-true, eq-eqb, leb-true}
-use Rattle.math_lists.specs.NumbersBelow.{mask}
-use Rattle.math_lists.proofs.Booleans.{clash, off, both, and-on}
+use Rattle.math_lists.proofs.Booleans.{off, both, and-on}
 use Rattle.edit_record.specs.declared.Edit.{Edit}
 use Rattle.edit_record.specs.Answer1.{isSet}
 use Rattle.edit_record.specs.Layout.{mostSites}
-use Rattle.edit_causal.specs.Causal.{sameEdit, hasSeen, comesBefore, areConcurrent}
+use Rattle.edit_causal.specs.Causal.{sameEdit, hasSeen, areConcurrent}
 use Rattle.edit_causal.specs.Conflict.{doConflict}
 use Rattle.edit_causal.specs.ShownValue.{shownValue}
 use Rattle.edit_history.specs.EditsHeld.{recordAt, editsOf, countFrom}
@@ -81,8 +80,7 @@ module _ (c : Counters) (rs : List ℕ) (h : Holds c rs) (q : ℕ) (e : Edit) (a
         let seen = hasSeen (e .vector) (a .site) (a .seq) in
         let together : areConcurrent a e ≡ not seen
         = rw (not-same, not-seen, and-false (not (sameEdit (e .site) (e .seq) (a .site) (a .seq))))
-        (and-true (not seen))
-        in
+        (and-true (not seen)) in
         let other = not (eqb (shownValue (a .key) (a .value)) (shownValue (e .key) (e .value))) in
         ap (λ (b : Bool). b && other) (sym together)
         ∙ rest (isSet a) (isSet e) (areConcurrent a e) (sameEdit (a .tsite) (a .tseq) (e .tsite) (e .tseq))

@@ -2,9 +2,9 @@
 -- its chain. Assumes what is said of the record and of the numbers of objects.
 use mathlib.Core.Path.{_≡_, refl, sym, ap, _∙_}
 use mathlib.Core.Logic.{inl, inr}
-use mathlib.Core.Bool.{Bool, true, false, _&&_, _||_, cond}
+use mathlib.Core.Bool.{Bool, true, false, _||_, cond}
 use mathlib.Core.List.{List}
-use Prim.Native.Nat.{ℕ, suc, _+_, _*_, _≤_, _<_}
+use Prim.Native.Nat.{ℕ, suc, _≤_, _<_}
 use native.Mathlib.Omega.{arith}
 use native.Mathlib.Decide.{ℕ-discrete}
 use lib.Dec.{eqb}
@@ -14,11 +14,11 @@ use borrow.Author.Tests.{eq-eqb, ne-eqb}
 use Rattle.math_lists.proofs.Booleans.{clash, and-on}
 use Rattle.math_lists.proofs.LastBelow.{last}
 use Rattle.edit_record.specs.Layout.{keys, limitedKind}
-use Rattle.edit_record.specs.Answer1.{isCreate, isLimited}
+use Rattle.edit_record.specs.Answer1.{isCreate}
 use Rattle.edit_history.specs.EditsHeld.{mostRecords, recordAt}
 use Rattle.group_step.specs.GroupRows.{mostObjects}
-use Rattle.table_index.specs.IndexForms.{numberAt, isOn, placesOn, isKeyed, latestOn, limitedOn}
-use Rattle.table_index.specs.IndexForms.{headAt, linkAt, limitAt, chainsLength, headed, linkedIn, ChainsOf}
+use Rattle.table_index.specs.IndexForms.{numberAt, isOn, placesOn, latestOn, limitedOn}
+use Rattle.table_index.specs.IndexForms.{headAt, linkAt, limitAt, headed, linkedIn, ChainsOf}
 use Rattle.table_index.proofs.ChainsOfSets.{latest-here, latest-before, latest-stays, latest-none}
 use Rattle.table_index.proofs.ChainsOfSets.{limited-added, limited-stays, limited-none}
 

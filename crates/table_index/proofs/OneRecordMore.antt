@@ -4,7 +4,7 @@ use mathlib.Core.Path.{_≡_, refl, sym, ap, _∙_}
 use mathlib.Core.Logic.{inl, inr}
 use mathlib.Core.Bool.{true, false, cond}
 use mathlib.Core.List.{List, [], _∷_, _++_}
-use Prim.Native.Nat.{ℕ, suc, _+_, _*_, _≤_, _<_}
+use Prim.Native.Nat.{ℕ, suc, _+_, _≤_, _<_}
 use native.Mathlib.Omega.{arith}
 use native.Mathlib.Decide.{ℕ-discrete}
 use lib.Dec.{eqb}
@@ -196,12 +196,7 @@ module _ (c : Counters) (rs : List ℕ) (h : Holds c rs) (n : ℕ) (l : n < c .r
                 (λ p k. getD-set-other ns n p (numberAt rs n) 0 (λ e. absurd (omega arith))) (not-on no-set)
                 (λ y. (
                   none-named,
-                  omega (
-                    arith,
-                    create-less rs n (suc n)
-                        (omega arith) create,
-                    numbers-few (suc n) l,
-                  ),
+                  omega (arith, create-less rs n (suc n) (omega arith) create, numbers-few (suc n) l),
                 ));
           }
 

@@ -3,31 +3,28 @@
 use mathlib.Core.Path.{_≡_, refl, sym, ap, ap₂, _∙_}
 use mathlib.Core.Logic.{_⊎_, inl, inr}
 use mathlib.Core.Bool.{Bool, true, false, not, _&&_, _||_, cond}
-use mathlib.Core.List.{List, [], _∷_, map}
-use Prim.Native.Nat.{ℕ, zero, suc, _+_, _*_, _≤_, _<_}
+use mathlib.Core.List.{List, map}
+use Prim.Native.Nat.{ℕ, zero, suc, _+_, _≤_, _<_}
 use native.Mathlib.Omega.{arith}
-use lib.Dec.{eqb}
 use lib.ListN.{length, getD}
-use borrow.Author.Tests.{eqb-true, not-true}
+use borrow.Author.Tests.{not-true}
 use Rattle.math_lists.specs.SortedLists.{any, filter}
-use Rattle.math_lists.proofs.Booleans.{clash, off, both, neither}
+use Rattle.math_lists.proofs.Booleans.{clash, off, neither}
 use Rattle.math_lists.proofs.LastBelow.{last}
 use Rattle.edit_record.specs.declared.Site.{Site}
 use Rattle.edit_record.specs.declared.Seq.{Seq}
 use Rattle.edit_record.specs.declared.Edit.{Edit}
 use Rattle.edit_record.specs.Layout.{mostSites}
-use Rattle.edit_record.specs.Answer1.{isCreate, isSet, isLimited, unfit}
-use Rattle.edit_record.proofs.WellFormed.{well-formed, create-aims-nowhere, set-aimed}
-use Rattle.edit_causal.specs.Causal.{sameEdit}
+use Rattle.edit_record.specs.Answer1.{isCreate, isLimited, unfit}
+use Rattle.edit_record.proofs.WellFormed.{well-formed}
 use Rattle.edit_causal.proofs.Identities.{same-site, same-seq}
-use Rattle.edit_causal.proofs.PlainMarks.{none-marked}
-use Rattle.edit_history.specs.EditsHeld.{recordAt, editsOf, creates, isSetOn, setsOn, isTarget, indexOf, objectOf}
+use Rattle.edit_history.specs.EditsHeld.{recordAt, editsOf, creates, setsOn, isTarget, indexOf, objectOf}
 use Rattle.edit_history.specs.Answers2to5.{isTorn}
 use Rattle.edit_history.specs.SurveyForms.{repeatedAgainst, earlyAgainst, surveyOf}
 use Rattle.edit_walk.specs.WalkForms.{placeOf, Indexed, tornByNews, targetHeld, inTurnAgainst}
-use Rattle.edit_history.proofs.EditsHeld.{target-parts, any-edit-on, any-edit-at, chosen-more, create-less, object-snoc}
+use Rattle.edit_history.proofs.EditsHeld.{target-parts, any-edit-on, any-edit-at, chosen-more, object-snoc}
 use Rattle.edit_history.proofs.ByCounts.{repeated-against, early-against}
-use Rattle.edit_history.proofs.RecordsPassed.{InTurn, in-turn, formed-at, one-place, target-before}
+use Rattle.edit_history.proofs.RecordsPassed.{InTurn, in-turn, one-place}
 use Rattle.edit_walk.proofs.LatestDecides.{target-same}
 use Rattle.edit_walk.proofs.NewsDecide.{news-same}
 use Rattle.table_drawing.specs.declared.Counters.{Counters}

@@ -14,7 +14,7 @@ use Rattle.edit_record.specs.declared.Site.{Site}
 use Rattle.edit_record.specs.declared.Seq.{Seq}
 use Rattle.edit_record.specs.Layout.{mostSites, keys, limitedKind}
 use Rattle.edit_record.specs.declared.Edit.{Edit}
-use Rattle.edit_record.specs.Answer1.{isCreate, isSet, isLimited}
+use Rattle.edit_record.specs.Answer1.{isCreate, isLimited}
 use Rattle.edit_causal.specs.Causal.{hasSeen}
 use Rattle.edit_causal.specs.ConflictForms.{plainMarks}
 use Rattle.edit_causal.specs.ShownValue.{shownValue}

@@ -1,5 +1,5 @@
-// The index of a drawing's records: where each edit stands, the number of each Create's object, and for each object
-// how many Sets it has and a chain of those of each key. By it an arriving edit is surveyed without being held against
+// The index of a drawing's records: where each edit stands, the number of each Create's object, and for each object how
+// many Sets it has and a chain of those of each key. By it an arriving edit is surveyed without being held against
 // every record: a Set is held against those of its own key alone, from the latest one back.
 pub mod chain;
 

@@ -1,9 +1,7 @@
 -- `table_index::survey_held` meets its contract. Assumes nothing.
 use mathlib.Core.Path.{_≡_, refl, sym, ap, ap₂, subst, _∙_}
 use mathlib.Core.Bool.{Bool, true, false, not, cond}
-use mathlib.Core.List.{List}
-use Prim.Native.Nat.{ℕ, _<_}
-use native.Mathlib.Omega.{arith}
+use Prim.Native.Nat.{ℕ}
 use lib.Dec.{eqb}
 use lib.ListN.{getD}
 use denote.Ref.{now}
@@ -15,7 +13,7 @@ use Rattle.edit_record.specs.declared.Edit.{Edit}
 use Rattle.edit_causal.specs.ConflictForms.{plainMarks}
 use Rattle.edit_history.specs.EditsHeld.{editsOf, setsOn}
 use Rattle.edit_walk.specs.WalkForms.{placeOf}
-use Rattle.table_index.specs.IndexForms.{numberAt, limitAt, matesOf}
+use Rattle.table_index.specs.IndexForms.{numberAt, limitAt}
 use Rattle.table_index.specs.declared.Mates.{Mates}
 use Rattle.table_index.proofs.SurveyByIndex.{survey-found, Aimed, aimed}
 use Rattle.table_index.proofs.survey_held.Statement.{statement}

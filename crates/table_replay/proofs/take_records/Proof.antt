@@ -278,8 +278,8 @@ same-length-13 : tie.Need-same-length-13 Inv-loop μ-loop
 same-length-13 c = c .before .loop .inv .3 .counts-long ∙ sym (start-of (c .before) .pre .1 .counts-long)
 
 same-length-14 : tie.Need-same-length-14 Inv-loop μ-loop
-same-length-14 c = c .before .loop .inv .3 .chained .chains-long
-    ∙ sym (start-of (c .before) .pre .1 .chained .chains-long)
+same-length-14 c =
+    c .before .loop .inv .3 .chained .chains-long ∙ sym (start-of (c .before) .pre .1 .chained .chains-long)
 
 returns-2 : tie.Need-returns-2 Inv-loop μ-loop
 returns-2 c =

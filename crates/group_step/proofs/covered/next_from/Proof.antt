@@ -1,7 +1,7 @@
 -- `group_step::covered::next_from` meets its contract. Assumes nothing.
 use mathlib.Core.Path.{_≡_, sym, ap, _∙_}
-use mathlib.Core.Bool.{Bool, true, false, not, _&&_}
-use Prim.Native.Nat.{ℕ, _+_, _≤_, _<_}
+use mathlib.Core.Bool.{Bool, false, not, _&&_}
+use Prim.Native.Nat.{ℕ, _+_, _<_}
 use native.Mathlib.Omega.{arith}
 use native.Mathlib.Decide.{decLt}
 use lib.Dec.{ltb}
@@ -10,7 +10,7 @@ use borrow.Author.Needs.{needs}
 use borrow.Author.Tests.{lt-ltb, le-ltb}
 use Rattle.math_lists.specs.SortedLists.{any}
 use Rattle.math_maximal.specs.Step.{compatible, candidate}
-use Rattle.group_step.specs.StepForms.{partOf, uncovered}
+use Rattle.group_step.specs.StepForms.{partOf}
 use Rattle.group_step.proofs.covered.next_from.Statement.{statement}
 use Rattle.group_step.proofs.covered.next_from.Tie as tie
 
