@@ -7,26 +7,23 @@ use mathlib.Core.List.{List, map}
 use Prim.Native.Nat.{ℕ, zero, suc, _+_, _≤_, _<_}
 use native.Mathlib.Omega.{arith}
 use lib.ListN.{length, getD}
-use borrow.Author.Tests.{not-true}
 use Rattle.math_lists.specs.SortedLists.{any, filter}
-use Rattle.math_lists.proofs.Booleans.{clash, off, neither}
+use Rattle.math_lists.proofs.Booleans.{clash, off}
 use Rattle.math_lists.proofs.LastBelow.{last}
 use Rattle.edit_record.specs.declared.Site.{Site}
 use Rattle.edit_record.specs.declared.Seq.{Seq}
 use Rattle.edit_record.specs.declared.Edit.{Edit}
 use Rattle.edit_record.specs.Layout.{mostSites}
-use Rattle.edit_record.specs.Answer1.{isCreate, isLimited, unfit}
-use Rattle.edit_record.proofs.WellFormed.{well-formed}
+use Rattle.edit_record.specs.Answer1.{isCreate, isLimited}
 use Rattle.edit_causal.proofs.Identities.{same-site, same-seq}
 use Rattle.edit_history.specs.EditsHeld.{recordAt, editsOf, creates, setsOn, isTarget, indexOf, objectOf}
 use Rattle.edit_history.specs.Answers2to5.{isTorn}
-use Rattle.edit_history.specs.SurveyForms.{repeatedAgainst, earlyAgainst, surveyOf}
-use Rattle.edit_walk.specs.WalkForms.{placeOf, Indexed, tornByNews, targetHeld, inTurnAgainst}
+use Rattle.edit_history.specs.SurveyForms.{surveyOf}
+use Rattle.edit_walk.specs.WalkForms.{placeOf, Indexed, targetHeld, inTurnAgainst}
 use Rattle.edit_history.proofs.EditsHeld.{target-parts, any-edit-on, any-edit-at, chosen-more, object-snoc}
-use Rattle.edit_history.proofs.ByCounts.{repeated-against, early-against}
-use Rattle.edit_history.proofs.RecordsPassed.{InTurn, in-turn, one-place}
+use Rattle.edit_history.proofs.RecordsPassed.{InTurn, one-place}
 use Rattle.edit_walk.proofs.LatestDecides.{target-same}
-use Rattle.edit_walk.proofs.NewsDecide.{news-same}
+use Rattle.edit_walk.proofs.NewsDecide.{turn-against}
 use Rattle.table_drawing.specs.declared.Counters.{Counters}
 use Rattle.table_index.specs.IndexForms.{numberAt, placesOn, limitAt, limitedOn, IndexOf, Holds, matesOf}
 use Rattle.table_index.specs.declared.Mates.{Mates}
@@ -117,21 +114,9 @@ module _ (c : Counters) (rs : List ℕ) (h : Holds c rs) where
   -- ---- an edit to which none of 1 to 3 applies
 
   pub turn : (e : Edit) → inTurnAgainst (c .sites) (c .held) e ≡ true → InTurn (c .sites) es e
-  unfolding inTurnAgainst
-  turn e y =
-      let u = unfit (c .sites) e in
-      let r = repeatedAgainst (c .held) e in
-      let a = earlyAgainst (c .held) e in
-      let (ur, early) = neither (u || r) a (not-true (u || r || a) y) in
-      let (fit, repeated) = neither u r ur in
-      let low : e .site .0 < mostSites = omega (arith, well-formed (c .sites) e fit .site, h .few-sites) in
-      in-turn (c .sites) es e fit (sym (repeated-against (c .held) es (h .held) e low) ∙ repeated)
-      (sym (early-against (c .held) es (h .held) e low) ∙ early)
+  turn e y = turn-against (c .sites) (h .few-sites) (c .held) es (h .held) e y
 
   module _ (ps : List ℕ) (ix : Indexed rs n ps) where
-    pub torn-is : (e : Edit) → InTurn (c .sites) es e → tornByNews rs ps (e .vector) (e .site) ≡ isTorn es e
-    torn-is e t = news-same (c .sites) (h .few-sites) rs n (h .pass) ps ix e t
-
     pub held-is :
         (e : Edit) → length (c .held) ≡ mostSites → targetHeld (c .held) rs ps e ≡ any (isTarget e) es
     held-is e long = target-same (c .sites) (h .few-sites) rs n (h .pass) ps ix (c .held) long (h .held) e
