@@ -130,6 +130,18 @@ create-aims-nowhere n e h create =
     let (_, zero) = both front seq three in
     eqb-true (e .tseq .0) 0 zero
 
+-- what tells by itself that an edit is unfit: a site that the drawing has not, or an entry of such a site
+pub outside-unfit : (n : ℕ) (e : Edit) → n ≤ e .site .0 → unfit n e ≡ true
+outside-unfit n e h =
+    elim (decide (unfit n e)) [ inl y ↦ y | inr y ↦ absurd (omega (arith, well-formed n e y .site)) ]
+
+pub past-unfit : (n : ℕ) (e : Edit) → nonzeroPast n (e .vector) ≡ true → unfit n e ≡ true
+unfolding unfit
+past-unfit n e h =
+    let first = not (isCreate e || isAimed e) || leb n (e .site .0) in
+    or-left _ _ (or-left _ _ (or-left _ _ (or-left _ _ (or-left _ _ (or-left _ _ (or-left _ _
+    (or-right first (nonzeroPast n (e .vector)) h)))))))
+
 -- ---- the list of a limited Set
 
 -- there are as many members as a list may have, each with its zero byte, and their names ascend

@@ -10,8 +10,8 @@ use writing::with_list;
 ghost use mathlib.Core.Path.{_≡_};
 ghost use Prim.Native.Nat.{ℕ, _+_, _*_, _≤_, _<_, _^_};
 ghost use lib.ListN.{length, getD, drop};
-ghost use mathlib.Core.Bool.{_||_};
-ghost use lib.Dec.{eqb};
+ghost use mathlib.Core.Bool.{false, _||_};
+ghost use lib.Dec.{eqb, leb};
 ghost use Rattle.edit_record.specs.Layout.{mostSites, vectorAt, valueAt, recordLength};
 ghost use Rattle.edit_record.specs.Layout.{setKind, limitedKind, topKind, bottomKind};
 ghost use Rattle.edit_record.specs.RecordBytes.{two, four, counts, decodeOf, placed, spanOf};
@@ -285,27 +285,34 @@ pub fn value_of(rec: &[u8]) -> u32
     low as u32 + high as u32 * 65536
 }
 
-// Whether answer 1 is given, in a drawing of n sites, to the edit of a record that is there whole. The fields are read
-// where they stand: an edit is longer than all that is asked of most.
-pub fn is_unfit(n: u8, rec: &[u8]) -> bool
+// Whether answer 1 is given, in a drawing of n sites, to the edit of a record that is there whole, but that the entries
+// at or past n are not looked at. The fields are read where they stand: an edit is longer than all that is asked of
+// most. Most are plain Sets, of which less is asked.
+pub fn is_body_unfit(n: u8, rec: &[u8]) -> bool
     requires { ⌜ recordLength ≤ length (now rec) ⌝ }
-    ensures { λ r. ⌜ r ≡ unfit n (decodeOf (now (rec .entry))) ⌝ }
+    ensures { λ r.
+        ⌜ ((leb n (decodeOf (now (rec .entry)) .site .0) ≡ false →
+        nonzeroPast n (decodeOf (now (rec .entry)) .vector) ≡ false) →
+        r ≡ unfit n (decodeOf (now (rec .entry)))) ⌝ }
 {
     let kind = rec[AT_KIND];
     let site = rec[AT_SITE];
-    let tsite = rec[AT_TARGET];
+    if n <= site {
+        return true;
+    }
     let key = rec[AT_KEY];
     let seq = pair_at(rec, AT_SEQ);
     let tseq = pair_at(rec, AT_TARGET_SEQ);
-    let value = value_of(rec);
     let own = own_entry(rec, site);
-    let past = is_nonzero_past(n, rec);
+    if kind == SET {
+        return (seq == 0) | (seq != own) | (KEYS <= key) | (tseq == 0);
+    }
+    let tsite = rec[AT_TARGET];
+    let value = value_of(rec);
     let layer = is_layer_kind(kind);
     let aimed = is_aimed_kind(kind);
     let list = is_list_unfit_in(rec);
     !((kind == CREATE) | aimed)
-        | (n <= site)
-        | past
         | (seq == 0)
         | (seq != own)
         | (KEYS <= key)
@@ -313,6 +320,17 @@ pub fn is_unfit(n: u8, rec: &[u8]) -> bool
         | ((kind == CREATE) & !((tsite == 0) & (key == 0) & (tseq == 0) & (value == 0)))
         | (layer & !((key == 0) & (value == 0)))
         | list
+}
+
+// Whether answer 1 is given, in a drawing of n sites, to the edit of a record that is there whole.
+pub fn is_unfit(n: u8, rec: &[u8]) -> bool
+    requires { ⌜ recordLength ≤ length (now rec) ⌝ }
+    ensures { λ r. ⌜ r ≡ unfit n (decodeOf (now (rec .entry))) ⌝ }
+{
+    if is_nonzero_past(n, rec) {
+        return true;
+    }
+    is_body_unfit(n, rec)
 }
 
 // Whether answer 1 is given to these bytes, of any length, in a drawing of n sites.

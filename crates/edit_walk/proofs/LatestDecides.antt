@@ -60,7 +60,7 @@ pub record Latest (es : List Edit) (e : Edit) (s : ℕ) : Type 0 where
   pub seen : latestSeen e s ≤ getD (e .vector) s 0
   pub most : (q : ℕ) → q ≤ getD (e .vector) s 0 → q ≤ countFrom s es → q ≤ latestSeen e s
 
-one-before :
+pub one-before :
     (v : List ℕ) (i s n : ℕ) → i ≡ s → getD v s 0 ≡ n + 1 → getD (set v i (getD v i 0 - 1)) s 0 ≡ n
 one-before v i s n y h = elim (decLt s (length v)) [
   | yes l ↦ rw y (getD-set-same v s (getD v s 0 - 1) 0 l ∙ omega arith)

@@ -13,7 +13,7 @@ use lib.ListN.{length, getD, replicate}
 use borrow.Author.Tests.{eqb-false, eq-eqb, ne-eqb, le-leb, ltb-true, not-true}
 use Rattle.math_lists.specs.NumbersBelow.{some}
 use Rattle.math_lists.specs.SortedLists.{any}
-use Rattle.math_lists.proofs.Booleans.{clash, off, same-test, both, and-on, either, or-left, or-right}
+use Rattle.math_lists.proofs.Booleans.{clash, off, same-test, both, and-on, either, neither, or-left, or-right}
 use Rattle.math_lists.proofs.ByPlaces.{zero-anywhere}
 use Rattle.math_lists.proofs.NumbersBelow.{some-on, some-at}
 use Rattle.edit_record.specs.declared.Edit.{Edit}
@@ -30,7 +30,7 @@ use Rattle.edit_history.proofs.EditsHeld.{any-edit-on}
 use Rattle.edit_history.proofs.ByCounts.{repeated-against, early-against}
 use Rattle.edit_history.proofs.RecordsPassed.{InTurn, in-turn, passed-at, place-of}
 use Rattle.edit_walk.specs.WalkForms.{placeOf, Indexed, seenBefore, tornBy, vectorBy, seenByLast, tornByNews}
-use Rattle.edit_walk.specs.WalkForms.{targetHeld, passesAgainst}
+use Rattle.edit_walk.specs.WalkForms.{targetHeld, inTurnAgainst, passesAgainst}
 use Rattle.edit_walk.proofs.LatestDecides.{latestSeen, tornAt, tornByLatest, latest, nowhere-above}
 use Rattle.edit_walk.proofs.LatestDecides.{larger-through, found, torn-same, target-same}
 
@@ -58,6 +58,23 @@ module _ (rs ps : List ℕ) (s q : ℕ) where
       go : Dec (q ≡ 0) → (not (eqb q 0) && largerSomewhere (recordAt rs (placeOf ps s q) .vector) w) ≡ true
       go (yes e) = absurd (zeros-not-larger w (rw (none-there e) at h))
       go (no d) = rw (ne-eqb q 0 d) (rw (there d) at h)
+
+-- ---- 1 to 3
+
+-- an edit to which none of them applies by the counts
+pub turn-against :
+    (sites : ℕ) → sites ≤ mostSites → (counts : List ℕ) (es : List Edit) → Counted counts es → (e : Edit) →
+    inTurnAgainst sites counts e ≡ true → InTurn sites es e
+unfolding inTurnAgainst
+turn-against sites few counts es counted e y =
+    let u = unfit sites e in
+    let r = repeatedAgainst counts e in
+    let a = earlyAgainst counts e in
+    let (ur, early) = neither (u || r) a (not-true (u || r || a) y) in
+    let (fit, repeated) = neither u r ur in
+    let low : e .site .0 < mostSites = omega (arith, well-formed sites e fit .site, few) in
+    in-turn sites es e fit (sym (repeated-against counts es counted e low) ∙ repeated)
+    (sym (early-against counts es counted e low) ∙ early)
 
 -- ---- 4
 
@@ -90,6 +107,20 @@ module _
       (any-edit-on (tears f) rs p i li
       (and-on (hasSeen (f .vector) (a .site) (a .seq)) (largerSomewhere (a .vector) (f .vector)) seen y))
       (passed-at sites rs n pass p lp .whole))))
+
+  -- an edit that the one in place p had seen, or that one itself, tears w only where that one does
+  pub seen-through :
+      (p t q : ℕ) → p < n → t < mostSites → 0 < q → q ≡ getD (recordAt rs p .vector) t 0 → (w : List ℕ) →
+      largerSomewhere (recordAt rs (placeOf ps t q) .vector) w ≡ true →
+      largerSomewhere (recordAt rs p .vector) w ≡ true
+  seen-through p t q lp lt one is w larger = elim (ℕ-discrete t (recordAt rs p .site .0)) [
+    | yes y ↦
+        let own : q ≡ recordAt rs p .seq .0 = is ∙ rw y (sym (passed-at sites rs n pass p lp .inTurn .formed .own)) in
+        rw (y, own, ix p lp) at larger
+    | no y ↦
+        larger-through (recordAt rs (placeOf ps t q) .vector) (recordAt rs p .vector) w
+        (seen-below p t q lp lt y one is) larger
+  ]
 
   module _ (e : Edit) (turn : InTurn sites (editsOf rs n) e) where
     abbrev own : ℕ
@@ -143,16 +174,8 @@ module _
             let late = latest sites (editsOf rs n) e turn own own-low in
             let (p, lp, es, eq, at)
             = found sites few rs n pass ps ix own (latestSeen e own) (omega arith) (late .held) in
-            let f = recordAt rs p in
-            elim (ℕ-discrete t own) [
-              | yes y ↦ rw is (rw y at (parts .1))
-              | no y ↦
-                  rw (is, at)
-                  (larger-through (recordAt rs (placeOf ps t q) .vector) (f .vector) (e .vector)
-                  (seen-below p t q lp low (λ z. y (z ∙ es)) (omega (arith, some-q))
-                  (same ∙ rw (is, at)))
-                  (parts .1))
-            ]
+            rw (is, at)
+            (seen-through p t q lp low (omega (arith, some-q)) (same ∙ rw (is, at)) (e .vector) (parts .1))
 
     latest-news : tornByLatest rs ps e ≡ true → tornByNews rs ps (e .vector) (e .site) ≡ true
     unfolding tornByNews tornByLatest latestSeen

@@ -6,7 +6,7 @@ use mathlib.Core.List.{List}
 use mathlib.Core.Bool.{Bool, true, not, _&&_, _||_, cond}
 use lib.ListN.{getD, set, length, replicate}
 use lib.Dec.{eqb, leb, ltb}
-use Rattle.math_lists.specs.NumbersBelow.{some}
+use Rattle.math_lists.specs.NumbersBelow.{all, some}
 use Rattle.edit_record.specs.declared.Site.{Site}
 use Rattle.edit_record.specs.declared.Edit.{Edit}
 use Rattle.edit_record.specs.Layout.{mostSites}
@@ -95,6 +95,31 @@ passesAgainst sites counts rs ps e =
     || earlyAgainst counts e
     || tornByNews rs ps (e .vector) (e .site)
     || isAimed e && not (targetHeld counts rs ps e))
+
+-- ---- 1 to 4 by a record before
+
+-- w has in every entry but that of site s what v has
+unfoldable pub sameBut : List ℕ → List ℕ → ℕ → Bool
+sameBut v w s = all mostSites (λ t. eqb t s || eqb (getD v t 0) (getD w t 0))
+
+-- and there one edit more
+unfoldable pub isNext : List ℕ → List ℕ → ℕ → Bool
+isNext v w s = eqb (getD w s 0) (getD v s 0 + 1) && sameBut v w s
+
+-- e is the next of its author after the first n records, and its vector is that of one of them with one edit more of
+-- its own
+pub record Following (counts rs : List ℕ) (n : ℕ) (e : Edit) : Type 0 where
+  pub next : e .seq .0 ≡ getD counts (e .site .0) 0 + 1
+  pub last : ℕ
+  pub before : last < n
+  pub grown : isNext (recordAt rs last .vector) (e .vector) (e .site .0) ≡ true
+
+-- the first n records pass, and the counts and the index are theirs
+pub record Passing (sites : ℕ) (counts rs : List ℕ) (n : ℕ) (ps : List ℕ) : Type 0 where
+  pub few : sites ≤ mostSites
+  pub pass : recordsPass sites rs n ≡ true
+  pub counted : Counted counts (editsOf rs n)
+  pub indexed : Indexed rs n ps
 
 -- ---- the walk over the first n records: whether they pass, and then the counts and the index that they give
 

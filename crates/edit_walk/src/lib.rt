@@ -1,5 +1,7 @@
 // One walk that tests the records of a table: whether each passes answers 1 to 5 of document 01 after those before it,
 // with the counts of the edits and the index of their places that it keeps.
+pub mod next;
+
 use edit_history::RECORDS;
 use edit_record::AT_KIND;
 use edit_record::AT_SEQ;
@@ -251,7 +253,7 @@ pub fn walk(sites: u8, recs: &[u8], n: usize, places: &mut [u16]) -> Walked
     let mut held = [0u16; SITES];
     let mut i: usize = 0;
     while i < n {
-        if !is_passing_at(sites, &held, recs, places, i) {
+        if !next::is_passing_next(sites, &held, recs, places, i) {
             return Walked { ok: false, held };
         }
         let at = spot(recs, places, i);

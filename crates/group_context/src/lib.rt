@@ -4,6 +4,7 @@
 // its own numbers: bit j of `seen` says that its author had seen j, bit j of `named` that it lists j, and `limited`
 // that it is of kind 3. It may come after as many Sets as an object has at most.
 ghost use mathlib.Core.Path.{_≡_};
+ghost use mathlib.Core.Bool.{Bool};
 ghost use Prim.Native.Nat.{ℕ, _≤_, _<_};
 ghost use lib.ListN.{length, take, getD};
 ghost use Rattle.math_lists.specs.NumbersBelow.{mask};
@@ -83,22 +84,13 @@ fn conflicts_by(plain: &[u64], ctx: &[u64], n: usize, row: u64, c: u64) -> u64
 }
 
 // The Sets before Set n that conflict with it: the number that the step takes. The bits of `row` are those before it
-// that it conflicts with by document 01's rule.
-pub fn conflicts_of(
-    plain: &[u64],
-    ctx: &[u64],
-    n: usize,
-    row: u64,
-    seen: u64,
-    named: u64,
-    limited: bool,
-) -> u64
+// that it conflicts with by document 01's rule, and c is its context.
+pub fn conflicts_of(plain: &[u64], ctx: &[u64], n: usize, row: u64, c: u64) -> u64
     requires { ⌜ (n ≤ mostSets) × (n ≤ length (now plain)) × (n ≤ length (now ctx)) ⌝ }
     ensures { λ r.
-        ⌜ ((b : Box) → NextOf b n (now (plain .entry)) (now (ctx .entry)) seen named limited →
-        row ≡ mask n (b .plain n) → r ≡ maskConflicts b n) ⌝ }
+        ⌜ ((b : Box) (v w : ℕ) (limited : Bool) → NextOf b n (now (plain .entry)) (now (ctx .entry)) v w limited →
+        row ≡ mask n (b .plain n) → c ≡ context b n → r ≡ maskConflicts b n) ⌝ }
 {
-    let c = context_of(plain, ctx, n, seen, named, limited);
     conflicts_by(plain, ctx, n, row, c)
 }
 
@@ -132,7 +124,8 @@ fn names_by(plain: &[u64], ctx: &[u64], n: usize, seen: u64, named: u64, c: u64)
     (named == c & d) & (c == left)
 }
 
-// Whether answer 16 does not apply to Set n: it is a plain Set, or what it lists is a version of what it has seen.
+// Whether answer 16 does not apply to Set n, whose context is c: it is a plain Set, or what it lists is a version of
+// what it has seen.
 pub fn names_version(
     plain: &[u64],
     ctx: &[u64],
@@ -140,11 +133,15 @@ pub fn names_version(
     seen: u64,
     named: u64,
     limited: bool,
+    c: u64,
 ) -> bool
     requires { ⌜ (n ≤ mostSets) × (n ≤ length (now plain)) × (n ≤ length (now ctx)) ⌝ }
     ensures { λ r.
-        ⌜ ((b : Box) → NextOf b n (now (plain .entry)) (now (ctx .entry)) seen named limited → r ≡ maskNames b n) ⌝ }
+        ⌜ ((b : Box) → NextOf b n (now (plain .entry)) (now (ctx .entry)) seen named limited → c ≡ context b n →
+        r ≡ maskNames b n) ⌝ }
 {
-    let c = context_of(plain, ctx, n, seen, named, limited);
-    !limited | names_by(plain, ctx, n, seen, named, c)
+    if !limited {
+        return true;
+    }
+    names_by(plain, ctx, n, seen, named, c)
 }

@@ -1,5 +1,6 @@
 pub mod NoneLost
 pub mod BitsFrom
+pub mod FirstAndLast
 pub mod MemberByMask
 pub mod GroupsFound
 pub mod PartlyDecided

@@ -7,18 +7,18 @@ use mathlib.Core.List.{List}
 use Prim.Native.Nat.{ℕ, suc, _+_, _-_, _^_, _≤_, _<_}
 use native.Mathlib.Omega.{arith}
 use native.Mathlib.Decide.{decLt}
-use lib.Dec.{eqb, ltb, leb}
-use lib.Pow.{pow-pos}
-use lib.Bits.{bitAnd, bitOr, or-lt}
+use lib.Dec.{eqb, ltb}
+use lib.Pow.{pow-pos, pow-mono}
+use lib.Bits.{bitAnd}
 use lib.ListN.{getD}
-use borrow.Author.Tests.{eqb-true, ne-eqb, ltb-true, lt-ltb, leb-true, le-leb, not-true}
+use borrow.Author.Tests.{eqb-true, ne-eqb, ltb-true, lt-ltb, le-ltb, not-true}
 use Rattle.math_lists.proofs.LastBelow.{last}
 use Rattle.math_lists.proofs.Booleans.{clash, decide, off, same-test, both, and-on, either, or-left, or-right, eqb-self}
 use Rattle.math_lists.proofs.Booleans.{then-off}
-use Rattle.math_lists.proofs.NumbersBelow.{some-at, none-at}
+use Rattle.math_lists.proofs.NumbersBelow.{none-at}
 use Rattle.math_maximal.specs.Groups.{bit}
 use Rattle.math_maximal.specs.Step.{compatible}
-use Rattle.math_maximal.proofs.Bits.{bit-or, bit-minus, bit-power, bit-high, bit-below, compatible-on, compatible-at}
+use Rattle.math_maximal.proofs.Bits.{bit-minus, bit-power, bit-high, bit-below, compatible-on, compatible-at}
 use Rattle.group_engine.specs.SearchForms.{Conflicts, conflict, isGroup, lost, Partial}
 use Rattle.group_engine.proofs.BitsFrom.{bit-add, bit-ones, same-above}
 use Rattle.group_engine.proofs.MemberByMask.{compatible-part, group-at, group-on}
@@ -56,52 +56,53 @@ module _ (ms : List ℕ) (n : ℕ) where
 
     -- ---- a Set left out that conflicts with none that is in or may come in: no group
 
-    pub lost-none :
-        lost ms n u t (bitOr t may) ≡ true → (g : ℕ) → t ≤ g → g < t + 2 ^ u → isGroup ms n g ≡ false
-    unfolding lost
-    lost-none h g a b = off (isGroup ms n g) (λ m.
-        let (i, l, e) = some-at n _ h in
-        let (o, q) = both (leb u i) (not (bit t i) && compatible (getD ms i 0) (bitOr t may)) e in
-        let (x, y) = both (not (bit t i)) (compatible (getD ms i 0) (bitOr t may)) q in
-        let out = same-above u n t g (p .within) (p .undecided) a b i (leb-true u i o) ∙ not-true (bit t i) x in
-        clash (group-at ms n g below m i l ∙ compatible-part n (getD ms i 0) g (bitOr t may) below (reached m) y) out)
+    pub stuck-none :
+        (i : ℕ) → i < n → u ≤ i → bit t i ≡ false → compatible (getD ms i 0) t ≡ true →
+        compatible (getD ms i 0) may ≡ true → (g : ℕ) → t ≤ g → g < t + 2 ^ u → isGroup ms n g ≡ false
+    stuck-none i l o x y z g a b = off (isGroup ms n g) (λ m.
+        let out = same-above u n t g (p .within) (p .undecided) a b i o ∙ x in
+        clash (group-at ms n g below m i l ∙ compatible-on (getD ms i 0) g n below (apart m)) out)
       where
         below : g < 2 ^ n
         below = omega (arith, p .within)
 
-        reached : isGroup ms n g ≡ true → (j : ℕ) → bit g j ≡ true → bit (bitOr t may) j ≡ true
-        reached m j c = bit-or t may j ∙ elim (decLt j u) [
-          | yes l ↦ or-right (bit t j) (bit may j)
+        apart : isGroup ms n g ≡ true → (j : ℕ) → bit g j ≡ true → bit (getD ms i 0) j ≡ false
+        apart m j c = elim (decLt j u) [
+          | yes l ↦ compatible-at (getD ms i 0) may z j
               (p .mayCome j
               ∙ and-on (ltb j u) (compatible (getD ms j 0) t) (lt-ltb j u l)
               (compatible-part n (getD ms j 0) t g taken-below (holds g a b)
               (sym (group-at ms n g below m j (bit-below n g below j c)) ∙ c)))
-          | no f ↦ or-left (bit t j) (bit may j)
+          | no f ↦ compatible-at (getD ms i 0) t y j
               (sym (same-above u n t g (p .within) (p .undecided) a b j (omega arith)) ∙ c)
         ]
 
+    -- ---- none of the last undecided may come in: they are as good as decided
+
+    pub passed-over : (w : ℕ) → w ≤ u → may < 2 ^ w → Partial ms n w t may
+    passed-over w l h = record {
+      within = omega (arith, p .within, pow-mono l);
+      bound = p .bound;
+      undecided = λ i k. p .undecided i (omega arith);
+      free = p .free;
+      mayCome = λ i. elim (decLt i w) [
+        | yes k ↦ p .mayCome i ∙ rw (lt-ltb i u (omega arith), lt-ltb i w k)
+        | no f ↦ bit-high w may h i (omega arith) ∙ rw (le-ltb i w (omega arith))
+      ];
+    }
+
   -- ---- all decided, and none left out for good: a group
 
-  pub is-group :
-      (t may : ℕ) → Partial ms n 0 t may → lost ms n 0 t (bitOr t may) ≡ false → isGroup ms n t ≡ true
+  pub is-group : (t : ℕ) → Partial ms n 0 t 0 → lost ms n t ≡ false → isGroup ms n t ≡ true
   unfolding lost
-  is-group t may p h = group-on ms n t below (λ i l. elim (decide (bit t i)) [
+  is-group t p h = group-on ms n t below (λ i l. elim (decide (bit t i)) [
     | inl b ↦ b ∙ sym (p .free i b)
     | inr b ↦ b ∙ sym (off (compatible (getD ms i 0) t) (λ e.
-        clash (and-on (leb 0 i) (not (bit t i) && compatible (getD ms i 0) (bitOr t may)) (le-leb 0 i (omega arith))
-        (and-on (not (bit t i)) (compatible (getD ms i 0) (bitOr t may)) (rw b) (reach i e)))
-        (none-at n _ h i l)))
+        clash (and-on (not (bit t i)) (compatible (getD ms i 0) t) (rw b) e) (none-at n _ h i l)))
   ])
     where
       below : t < 2 ^ n
       below = omega (arith, p .within)
-
-      reach : (i : ℕ) → compatible (getD ms i 0) t ≡ true → compatible (getD ms i 0) (bitOr t may) ≡ true
-      reach i e = compatible-part n (getD ms i 0) (bitOr t may) t (or-lt n t may below (p .bound)) (λ j b.
-          elim (either (bit t j) (bit may j) (sym (bit-or t may j) ∙ b)) [
-            | inl x ↦ x
-            | inr y ↦ absurd (omega (arith, ltb-true j 0 (both (ltb j 0) _ (sym (p .mayCome j) ∙ y) .0)))
-          ]) e
 
   -- ---- the Set k is decided
 
@@ -147,6 +148,10 @@ module _ (ms : List ℕ) (n : ℕ) where
     in-has : bit (t + 2 ^ k) k ≡ true
     in-has = bit-in k ∙ or-right (bit t k) (eqb k k) (eqb-self k)
 
+    -- what is left out stays so
+    pub still-out : (i : ℕ) → (i ≡ k → ⊥) → bit t i ≡ false → bit (t + 2 ^ k) i ≡ false
+    still-out i d h = bit-in i ∙ rw (h, ne-eqb i k d)
+
     -- k conflicts with one that is in: no group has it with those
     pub no-room :
         bit may k ≡ false → (g : ℕ) → t + 2 ^ k ≤ g → g < t + 2 ^ k + 2 ^ k → isGroup ms n g ≡ false
@@ -184,7 +189,7 @@ module _ (ms : List ℕ) (n : ℕ) where
       in-below = omega (arith, p .within, pow-pos k)
 
       -- what fits those that are in, and k, fits all
-      all-fit : (i : ℕ) → compatible (getD ms i 0) t ≡ true → conflict ms i k ≡ false →
+      pub all-fit : (i : ℕ) → compatible (getD ms i 0) t ≡ true → conflict ms i k ≡ false →
           compatible (getD ms i 0) (t + 2 ^ k) ≡ true
       all-fit i c e = compatible-on (getD ms i 0) (t + 2 ^ k) n in-below (λ j b.
           elim (either (bit t j) (eqb j k) (sym (bit-in j) ∙ b)) [

@@ -7,14 +7,24 @@ use native.Mathlib.Omega.{arith}
 use lib.ListN.{length, take, replicate}
 use borrow.Author.Tests.{lt-ltb, le-ltb}
 use Rattle.math_lists.specs.NumbersBelow.{keep}
+use Rattle.math_lists.proofs.Booleans.{clash}
 use Rattle.math_maximal.specs.Groups.{groups}
+use Rattle.math_maximal.proofs.Bits.{bit-none}
 use Rattle.group_step.specs.GroupRows.{mostGroups, settled}
-use Rattle.group_engine.specs.SearchForms.{byMasks, groupsBelow, countTold, Partial, Found}
+use Rattle.group_engine.specs.SearchForms.{byMasks, groupsBelow, countTold, Partial, Waiting, Found}
 use Rattle.group_engine.proofs.PartlyDecided.{at-start}
 
 module _ (ms : List ℕ) (n : ℕ) where
   pub start-partial : (b : ℕ) → b ≡ 2 ^ n → Partial ms n n 0 (b - 1)
   start-partial b e = rw e (at-start ms n)
+
+  pub none-waits : Waiting ms n n 0 0
+  none-waits = record {
+    within = λ i h. clash h (bit-none i);
+    decided = λ i h. clash h (bit-none i);
+    leftOut = λ i h. bit-none i;
+    fits = λ i h. clash h (bit-none i);
+  }
 
   pub none-found : (out : List ℕ) → Found ms n 0 0 out
   unfolding keep

@@ -3,19 +3,30 @@
 // in ascending order. `conflicts` has a number for each Set, whose bits are the Sets that it conflicts with.
 use group_step::GROUPS;
 ghost use mathlib.Core.Path.{_≡_};
-ghost use Prim.Native.Nat.{_+_, _-_, _^_, _≤_, _<_};
+ghost use mathlib.Core.Bool.{true};
+ghost use Prim.Native.Nat.{ℕ, _+_, _^_, _≤_, _<_};
 ghost use lib.ListN.{length};
+ghost use Rattle.math_maximal.specs.Groups.{bit};
 ghost use Rattle.group_step.specs.GroupRows.{mostGroups, mostSets, settled};
-ghost use Rattle.group_engine.specs.SearchForms.{Conflicts, byMasks, lost, Partial, Found, countTold};
+ghost use Rattle.group_engine.specs.SearchForms.{
+  Conflicts,
+  byMasks,
+  lost,
+  Partial,
+  Waiting,
+  Stuck,
+  Found,
+  countTold,
+};
 
-// Whether some Set from u on, of n, is not in `taken` and conflicts with no member of `reach`.
-fn is_lost(conflicts: &[u64], n: usize, u: usize, taken: u64, reach: u64) -> bool
-    requires { ⌜ (n < mostSets) × (u ≤ n) × (n ≤ length (now conflicts)) ⌝ }
-    ensures { λ r. ⌜ r ≡ lost (now (conflicts .entry)) n u taken reach ⌝ }
+// Whether some Set of n is not in `taken` and conflicts with no member of it.
+fn is_lost(conflicts: &[u64], n: usize, taken: u64) -> bool
+    requires { ⌜ (n < mostSets) × (n ≤ length (now conflicts)) ⌝ }
+    ensures { λ r. ⌜ r ≡ lost (now (conflicts .entry)) n taken ⌝ }
 {
-    let mut i = u;
+    let mut i: usize = 0;
     while i < n {
-        if !group_step::has(taken, i) & (reach & conflicts[i] == 0) {
+        if !group_step::has(taken, i) & (taken & conflicts[i] == 0) {
             return true;
         }
         i += 1;
@@ -23,16 +34,63 @@ fn is_lost(conflicts: &[u64], n: usize, u: usize, taken: u64, reach: u64) -> boo
     false
 }
 
+// The last member of m.
+fn highest(m: u64) -> usize
+    requires { ⌜ 0 < m ⌝ }
+    ensures { λ r. ⌜ (m < 2 ^ (r + 1)) × (bit m r ≡ true) ⌝ }
+{
+    63 - u64::leading_zeros(m) as usize
+}
+
+// Whether some member of `lone` conflicts with no member of `may`. Its members are gone through from the first on; that
+// none is missed is not said, for a search that goes on where it could stop finds the same.
+fn is_stuck(conflicts: &[u64], lone: u64, may: u64) -> bool
+    requires { ⌜ ((i : ℕ) → bit lone i ≡ true → i < length (now conflicts)) ⌝ }
+    ensures { λ r. ⌜ (r ≡ true → Stuck (now (conflicts .entry)) lone may) ⌝ }
+{
+    let mut left = lone;
+    while left != 0 {
+        let i = u64::trailing_zeros(left) as usize;
+        if may & conflicts[i] == 0 {
+            return true;
+        }
+        left = left & (left - 1);
+    }
+    false
+}
+
+// Puts the group `taken` behind the `found` first numbers of out, if it is one, and says how many they are then. Where
+// out is full, it is only counted.
+fn put_group(conflicts: &[u64], n: usize, taken: u64, found: usize, out: &mut [u64]) -> usize
+    requires { ⌜ (n < mostSets)
+        × (n ≤ length (now conflicts))
+        × (length (now out) ≡ mostGroups)
+        × (found ≤ mostGroups)
+        × Partial (now conflicts) n 0 taken 0
+        × Found (now conflicts) n taken found (now out) ⌝ }
+    ensures { λ r. ⌜ Found (now (conflicts .entry)) n (taken + 1) r (now (out .exit)) ⌝ }
+{
+    if is_lost(conflicts, n, taken) {
+        return found;
+    }
+    if found < GROUPS {
+        out[found] = taken;
+    }
+    found + 1
+}
+
 // Decides the Sets that are left, the first ones, `undecided` of them, where the members of `taken` are in and of the
 // undecided those in `may` can still come in. Puts the groups that come of it behind the `found` first numbers of out,
-// and says how many they are then. Cut off is what can end in no group: a Set left out needs one that conflicts with it
-// and is in or can come in. Where out is full, the first that finds no place is counted, and nothing more is sought.
+// and says how many they are then. The members of `lone` are left out and conflict with none that is in: each needs one
+// of `may` that it conflicts with, and what can end in no group is cut off. Where out is full, the first that finds no
+// place is counted, and nothing more is sought.
 fn decide_rest(
     conflicts: &[u64],
     n: usize,
     undecided: usize,
     taken: u64,
     may: u64,
+    lone: u64,
     found: usize,
     out: &mut [u64],
 ) -> usize
@@ -42,31 +100,31 @@ fn decide_rest(
         × (undecided ≤ n)
         × Conflicts (now conflicts) n
         × Partial (now conflicts) n undecided taken may
+        × Waiting (now conflicts) n undecided taken lone
         × Found (now conflicts) n taken found (now out) ⌝ }
     ensures { λ r. ⌜ Found (now (conflicts .entry)) n (taken + 2 ^ undecided) r (now (out .exit)) ⌝ }
 {
     if GROUPS < found {
         return found;
     }
-    if is_lost(conflicts, n, undecided, taken, taken | may) {
-        return found;
+    if may == 0 {
+        return put_group(conflicts, n, taken, found, out);
     }
-    if undecided == 0 {
-        if found < GROUPS {
-            out[found] = taken;
-        }
-        return found + 1;
-    }
-    let k = undecided - 1;
+    let k = highest(may);
     let bit = group_step::only(k);
+    let foes = conflicts[k];
     let rest = group_step::without(may, bit);
-    let fit = group_step::without(rest, conflicts[k]);
+    let fit = group_step::without(rest, foes);
+    let left = group_step::without(lone, foes);
     let with = taken + bit;
-    let next = decide_rest(conflicts, n, k, taken, rest, found, out);
-    if !group_step::has(may, k) {
+    let mut next = found;
+    if !is_stuck(conflicts, lone & foes | bit, rest) {
+        next = decide_rest(conflicts, n, k, taken, rest, lone | bit, found, out);
+    }
+    if is_stuck(conflicts, left, fit) {
         return next;
     }
-    decide_rest(conflicts, n, k, with, fit, next, out)
+    decide_rest(conflicts, n, k, with, fit, left, next, out)
 }
 
 // Puts the groups of the n Sets ascending at the front of out, and 0 behind them; says how many they are. Where they
@@ -81,7 +139,7 @@ pub fn enumerate(conflicts: &[u64], n: usize, out: &mut [u64]) -> usize
         × (now (out .exit) ≡ settled (byMasks (now (conflicts .entry)) n) (now (out .entry))) ⌝ }
 {
     let mut row = [0u64; GROUPS];
-    let r = decide_rest(conflicts, n, n, 0, group_step::only(n) - 1, 0, &mut row);
+    let r = decide_rest(conflicts, n, n, 0, group_step::only(n) - 1, 0, 0, &mut row);
     if GROUPS < r {
         return r;
     }

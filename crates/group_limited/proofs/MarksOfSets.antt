@@ -1,42 +1,45 @@
--- The marks of the Sets before e, by one Set more, and what they tell of the names that e lists. Assumes nothing.
-use mathlib.Core.Path.{_≡_, sym, ap, subst, _∙_, fun-ext}
-use mathlib.Core.Bool.{Bool, not, _&&_, cond}
-use mathlib.Core.List.{List, [], _∷_, _++_}
+-- The marks of the Sets before e, by one Set more, and those of the names that e lists. Assumes nothing.
+use mathlib.Core.Path.{_≡_, refl, sym, ap, subst, _∙_, fun-ext}
+use mathlib.Core.Bool.{Bool, true, false, not, _&&_, cond, Bool·not-not}
+use mathlib.Core.List.{List, [], _∷_, _++_, map}
 use Prim.Native.Nat.{ℕ, suc, _+_, _^_, _≤_, _<_}
 use native.Mathlib.Numerals.{add-one}
 use native.Mathlib.Omega.{arith}
+use lib.Bits.{bitOr, or-lt}
 use lib.Dec.{eqb}
-use lib.ListN.{length, getD, length-append, List·getD-append}
+use lib.ListN.{length, getD, take, length-append, List·getD-append}
+use lib.Pow.{pow-pos}
 use lib.Seq.{getD-append-seam}
 use Rattle.math_lists.specs.NumbersBelow.{sum, mask, some}
-use Rattle.math_lists.specs.SortedLists.{any}
+use Rattle.math_lists.specs.SortedLists.{any, elem}
 use Rattle.math_lists.proofs.Booleans.{same-test}
 use Rattle.math_lists.proofs.ByPlaces.{any-place-on, any-place-at}
 use Rattle.math_lists.proofs.NumbersBelow.{mask-same, mask-more, mask-below, some-on, some-at, some-same}
 use Rattle.math_maximal.specs.Groups.{bit}
+use Rattle.math_maximal.specs.Step.{compatible}
+use Rattle.math_maximal.proofs.Bits.{bit-none, bit-or, some-common}
 use Rattle.math_maximal.proofs.Masks.{mask-bit}
 use Rattle.edit_record.specs.declared.Edit.{Edit}
 use Rattle.edit_record.specs.RecordBytes.{noEdit}
-use Rattle.edit_record.specs.Answer1.{nameOf}
-use Rattle.edit_causal.specs.Conflict.{lists}
-use Rattle.edit_causal.specs.ConflictForms.{saw}
-use Rattle.edit_causal.proofs.PlainMarks.{none-marked, one-more-marked, marked-below}
+use Rattle.edit_record.specs.Answer1.{isLimited, nameOf, nameIn}
+use Rattle.edit_causal.specs.Conflict.{doConflict, lists, listedBy}
+use Rattle.edit_causal.specs.ConflictForms.{plainMarks, saw}
 use Rattle.edit_history.specs.EditsHeld.{recordAt}
 use Rattle.edit_history.specs.Answer16.{isStrange}
 use Rattle.edit_history.proofs.EditsInPlaces.{sets-length, set-place}
-use Rattle.group_limited.specs.declared.Marks.{Marks}
-use Rattle.group_limited.specs.LimitedForms.{setsIn, seenMarks, namedMarks, marksOn, marksWith, Narrow}
-use Rattle.group_limited.specs.LimitedForms.{isMarkedName}
-use Rattle.group_limited.proofs.OneMoreTaken.{sets-more}
+use Rattle.group_context.proofs.MaskFromBits.{is-mask}
+use Rattle.group_limited.specs.LimitedForms.{setsIn, seenMarks, namedMarks, marksOfName, isUnseen}
+use Rattle.group_limited.proofs.OneMoreTaken.{sets-more, any-more}
 
 -- ---- what passes a test
 
-module _ (f : Edit → Bool) (ms : List Edit) (m : Edit) where
+module _ (f : Edit → Bool) where
+  abbrev passed : List Edit → ℕ
+  passed ms = mask (length ms) (λ i. f (getD ms i noEdit))
+
   -- one Set more marks the next bit, if it passes
-  passed-more :
-      mask (length (ms ++ (m ∷ []))) (λ i. f (getD (ms ++ (m ∷ [])) i noEdit))
-      ≡ mask (length ms) (λ i. f (getD ms i noEdit)) + cond (f m) (2 ^ length ms) 0
-  passed-more =
+  passed-more : (ms : List Edit) (m : Edit) → passed (ms ++ (m ∷ [])) ≡ passed ms + cond (f m) (2 ^ length ms) 0
+  passed-more ms m =
       let ns = ms ++ (m ∷ []) in
       let k = length ms in
       let g : ℕ → Bool = λ i. f (getD ns i noEdit) in
@@ -47,69 +50,117 @@ module _ (f : Edit → Bool) (ms : List Edit) (m : Edit) where
       (ap (λ (x : ℕ). x + cond (f m) (2 ^ k) 0)
       (mask-same k g (λ i. f (getD ms i noEdit)) (λ i l. rw (List·getD-append ms (m ∷ []) noEdit i l))))
 
+  -- of the Sets in the first places
+  module _ (rs ps : List ℕ) (i : ℕ) (l : i < length ps) where
+    passed-below : passed (setsIn rs ps i) < 2 ^ i
+    passed-below =
+        subst (λ (n : ℕ). passed (setsIn rs ps i) < 2 ^ n) (sets-length rs ps i (omega arith))
+        (mask-below (length (setsIn rs ps i)) (λ j. f (getD (setsIn rs ps i) j noEdit)))
+
+    passed-in-more :
+        passed (setsIn rs ps (i + 1)) ≡ passed (setsIn rs ps i) + cond (f (recordAt rs (getD ps i 0))) (2 ^ i) 0
+    passed-in-more =
+        let x = recordAt rs (getD ps i 0) in
+        let grown : setsIn rs ps (i + 1) ≡ setsIn rs ps i ++ (x ∷ []) = rw (add-one i) (sets-more rs ps i l) in
+        ap passed grown
+        ∙ passed-more (setsIn rs ps i) x
+        ∙ ap (λ (n : ℕ). passed (setsIn rs ps i) + cond (f x) (2 ^ n) 0) (sets-length rs ps i (omega arith))
+
 -- ---- the marks
 
-module _ (e : Edit) where
-  pub no-marks : record { plain = 0; seen = 0; named = 0 } ≡ marksOn e []
-  unfolding seenMarks namedMarks mask sum
-  no-marks = rw (none-marked e)
+pub none-seen : (e : Edit) → 0 ≡ seenMarks e []
+unfolding seenMarks mask sum
+none-seen e = refl
 
-  pub marks-more : (ms : List Edit) (a : Edit) → marksOn e (ms ++ (a ∷ [])) ≡ marksWith (marksOn e ms) (length ms) a e
-  unfolding seenMarks namedMarks
-  marks-more ms a =
-      rw (one-more-marked e ms a, passed-more (saw e) ms a, passed-more (lists e) ms a)
+module _ (e : Edit) (rs ps : List ℕ) (i : ℕ) (l : i < length ps) where
+  pub plain-below : plainMarks e (setsIn rs ps i) < 2 ^ i
+  unfolding plainMarks
+  plain-below = passed-below (λ m. doConflict m e) rs ps i l
 
-  pub marks-narrow : (ms : List Edit) → Narrow (marksOn e ms) (length ms)
-  unfolding seenMarks namedMarks
-  marks-narrow ms = record {
-    plain = marked-below e ms;
-    seen = mask-below (length ms) (λ i. saw e (getD ms i noEdit));
-    named = mask-below (length ms) (λ i. lists e (getD ms i noEdit));
-  }
+  pub seen-below : seenMarks e (setsIn rs ps i) < 2 ^ i
+  unfolding seenMarks
+  seen-below = passed-below (saw e) rs ps i l
 
-  -- of the Sets in the first places
-  module _ (rs ps : List ℕ) (i : ℕ) (l : i < length ps) (m : Marks) (inv : m ≡ marksOn e (setsIn rs ps i)) where
-    pub narrow-in : Narrow m i
-    narrow-in =
-        let ms = setsIn rs ps i in
-        rw inv (subst (Narrow (marksOn e ms)) (sets-length rs ps i (omega arith)) (marks-narrow ms))
+  pub plain-more :
+      plainMarks e (setsIn rs ps (i + 1))
+      ≡ plainMarks e (setsIn rs ps i) + cond (doConflict (recordAt rs (getD ps i 0)) e) (2 ^ i) 0
+  unfolding plainMarks
+  plain-more = passed-in-more (λ m. doConflict m e) rs ps i l
 
-    pub marks-in-more :
-        (a : Edit) (r : Marks) → a ≡ recordAt rs (getD ps i 0) → r ≡ marksWith m i a e →
-        r ≡ marksOn e (setsIn rs ps (i + 1))
-    marks-in-more a r own h =
-        let ms = setsIn rs ps i in
-        let x = recordAt rs (getD ps i 0) in
-        h
-        ∙ rw (inv, own)
-        (ap (λ (n : ℕ). marksWith (marksOn e ms) n x e) (sym (sets-length rs ps i (omega arith)))
-        ∙ sym (marks-more ms x)
-        ∙ rw (add-one i) (ap (marksOn e) (sym (sets-more rs ps i l))))
+  pub seen-more :
+      seenMarks e (setsIn rs ps (i + 1))
+      ≡ seenMarks e (setsIn rs ps i) + cond (saw e (recordAt rs (getD ps i 0))) (2 ^ i) 0
+  unfolding seenMarks
+  seen-more = passed-in-more (saw e) rs ps i l
 
--- ---- a listed name
+-- ---- the names that are listed
 
-module _ (rs ps : List ℕ) (k : ℕ) (fits : k ≤ length ps) (e : Edit) (seen : ℕ)
-    (h : seen ≡ seenMarks e (setsIn rs ps k)) where
-  -- by its marks, whether the name x is strange
-  strange-by-marks : (x : ℕ) → not (isMarkedName rs ps k seen x) ≡ isStrange (setsIn rs ps k) e x
-  unfolding isMarkedName seenMarks
-  strange-by-marks x =
-      let ms = setsIn rs ps k in
-      let f : Edit → Bool = λ m. saw e m && eqb (nameOf m) x in
-      let long = sets-length rs ps k fits in
-      ap not
-      (some-same k (λ i. bit seen i && eqb (nameOf (recordAt rs (getD ps i 0))) x) (λ i. f (getD ms i noEdit))
-      (λ i l. rw (
-        h,
-        mask-bit (length ms) (λ j. saw e (getD ms j noEdit)) i (omega (arith, long)),
-        set-place rs ps k fits i l,
-      ))
-      ∙ same-test (some k (λ i. f (getD ms i noEdit))) (any f ms)
-      (λ t. let (i, l, p) = some-at k (λ i. f (getD ms i noEdit)) t in
-      any-place-on f noEdit ms i (omega (arith, long)) p)
-      (λ t. let (i, l, p) = any-place-at f noEdit ms t in
-      some-on k (λ i. f (getD ms i noEdit)) i (omega (arith, long)) p))
+-- one member more of those that are listed
+pub listed-more :
+    (ns ms : List ℕ) (k i : ℕ) → i < length ms →
+    bitOr (mask k (λ j. elem (getD ns j 0) (map nameIn (take i ms)))) (marksOfName ns k (nameIn (getD ms i 0)))
+    ≡ mask k (λ j. elem (getD ns j 0) (map nameIn (take (i + 1) ms)))
+listed-more ns ms k i l =
+    let before : ℕ → Bool = λ j. elem (getD ns j 0) (map nameIn (take i ms)) in
+    let own : ℕ → Bool = λ j. eqb (getD ns j 0) (nameIn (getD ms i 0)) in
+    is-mask k (bitOr (mask k before) (mask k own)) (λ j. elem (getD ns j 0) (map nameIn (take (i + 1) ms)))
+    (or-lt k (mask k before) (mask k own) (mask-below k before) (mask-below k own))
+    (λ j m. bit-or (mask k before) (mask k own) j
+    ∙ rw (mask-bit k before j m, mask-bit k own j m)
+    (sym (rw (add-one i) (any-more nameIn 0 ms i l (eqb (getD ns j 0))))))
 
-  pub any-strange :
-      (xs : List ℕ) → any (λ x. not (isMarkedName rs ps k seen x)) xs ≡ any (isStrange (setsIn rs ps k) e) xs
-  any-strange xs = ap (λ (f : ℕ → Bool). any f xs) (fun-ext strange-by-marks)
+-- none where none is listed
+pub none-listed : (ns : List ℕ) (k : ℕ) → 0 ≡ mask k (λ j. elem (getD ns j 0) [])
+unfolding any
+none-listed ns k =
+    is-mask k 0 (λ j. elem (getD ns j 0) []) (pow-pos k) (λ j m. bit-none j)
+
+module _ (rs ps : List ℕ) (k : ℕ) (fits : k ≤ length ps) (e : Edit) where
+  abbrev ms : List Edit
+  ms = setsIn rs ps k
+
+  long : length ms ≡ k
+  long = sets-length rs ps k fits
+
+  pub plain-names-none : isLimited e ≡ false → 0 ≡ namedMarks e ms
+  unfolding namedMarks
+  plain-names-none h =
+      is-mask (length ms) 0 (λ i. lists e (getD ms i noEdit)) (pow-pos (length ms)) (λ j m. rw h (bit-none j))
+
+  -- ns has the names of the Sets
+  module _ (ns : List ℕ) (named : (i : ℕ) → i < k → getD ns i 0 ≡ nameOf (recordAt rs (getD ps i 0))) where
+    pub marks-named : isLimited e ≡ true → mask k (λ i. elem (getD ns i 0) (listedBy e)) ≡ namedMarks e ms
+    unfolding namedMarks
+    marks-named h =
+        mask-same k (λ i. elem (getD ns i 0) (listedBy e)) (λ i. lists e (getD ms i noEdit))
+        (λ i l. rw (h, named i l, set-place rs ps k fits i l))
+        ∙ ap (λ (n : ℕ). mask n (λ i. lists e (getD ms i noEdit))) (sym long)
+
+    -- by the marks of those that were seen, whether the name x is strange
+    module _ (seen : ℕ) (h : seen ≡ seenMarks e ms) where
+      strange-by-marks : (x : ℕ) → isUnseen ns k seen x ≡ isStrange ms e x
+      unfolding seenMarks
+      strange-by-marks x =
+          let f : Edit → Bool = λ m. saw e m && eqb (nameOf m) x in
+          let own = marksOfName ns k x in
+          let small : seen < 2 ^ k = subst (λ (n : ℕ). seen < 2 ^ n) long
+          (rw h (mask-below (length ms) (λ j. saw e (getD ms j noEdit)))) in
+          sym (Bool·not-not (compatible seen own))
+          ∙ ap not
+          (sym (some-common k seen own small)
+          ∙ some-same k (λ i. bit seen i && bit own i) (λ i. f (getD ms i noEdit))
+          (λ i l. rw (
+            h,
+            mask-bit (length ms) (λ j. saw e (getD ms j noEdit)) i (omega (arith, long)),
+            mask-bit k (λ j. eqb (getD ns j 0) x) i l,
+            named i l,
+            set-place rs ps k fits i l,
+          ))
+          ∙ same-test (some k (λ i. f (getD ms i noEdit))) (any f ms)
+          (λ t. let (i, l, p) = some-at k (λ i. f (getD ms i noEdit)) t in
+          any-place-on f noEdit ms i (omega (arith, long)) p)
+          (λ t. let (i, l, p) = any-place-at f noEdit ms t in
+          some-on k (λ i. f (getD ms i noEdit)) i (omega (arith, long)) p))
+
+      pub any-strange : (xs : List ℕ) → any (isUnseen ns k seen) xs ≡ any (isStrange ms e) xs
+      any-strange xs = ap (λ (f : ℕ → Bool). any f xs) (fun-ext strange-by-marks)

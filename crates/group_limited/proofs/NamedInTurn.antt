@@ -1,6 +1,6 @@
 -- The Sets in the first places of which 16 is given to none, each after those before it: each that is limited names a
 -- version, and the first to which it is given ends the test. Assumes nothing.
-use mathlib.Core.Path.{_≡_, sym, ap, subst, _∙_}
+use mathlib.Core.Path.{_≡_, refl, sym, ap, subst, _∙_}
 use mathlib.Core.Logic.{inl, inr}
 use mathlib.Core.Bool.{Bool, true, false, not}
 use mathlib.Core.List.{List, [], _∷_, _++_, map, map-append}
@@ -25,8 +25,7 @@ use Rattle.edit_history.specs.EditsHeld.{recordAt}
 use Rattle.edit_history.specs.Answer16.{namelessAmong}
 use Rattle.edit_history.proofs.EditsInPlaces.{sets-length, set-place}
 use Rattle.group_true.proofs.ProperSets.{named-version, named-snoc}
-use Rattle.group_limited.specs.declared.Told.{Told}
-use Rattle.group_limited.specs.LimitedForms.{setsIn, ToldOf, namedInTurn}
+use Rattle.group_limited.specs.LimitedForms.{setsIn, namedInTurn}
 use Rattle.group_limited.proofs.OneMoreTaken.{sets-more}
 
 -- the first of some Sets that are lawful are lawful
@@ -119,20 +118,23 @@ module _ (rs ps : List ℕ) where
         (all-at (length ms) (λ i. not (namelessAmong (take i ms) (getD ms i noEdit))) t j (omega arith)) in
         clash h (rw (front j (omega arith), set-place rs ps k fits j l) at free))
 
-    -- what is told of the next Set, where those before it name theirs
+    -- whether it is given to the next Set, where those before it name theirs
     pub named-where-told :
-        (i : ℕ) → i < k → (e : Edit) → e ≡ recordAt rs (getD ps i 0) → (t : Told) → ToldOf (setsIn rs ps i) e t →
-        Lawful (boxOn ms) k → ((j : ℕ) → j < i → nameless j ≡ false) →
-        t .nameless ≡ namelessAmong (setsIn rs ps i) e
-    named-where-told i l e own t told law before =
-        told .nameless (lawful-to i l e own law)
+        (i : ℕ) → i < k →
+        let ms′ = setsIn rs ps i in
+        let e = recordAt rs (getD ps i 0) in
+        (t : Bool) →
+        (Lawful (boxOn (ms′ ++ (e ∷ []))) (suc (length ms′)) → AllNamed (boxOn ms′) (length ms′) →
+        t ≡ namelessAmong ms′ e) →
+        Lawful (boxOn ms) k → ((j : ℕ) → j < i → nameless j ≡ false) → t ≡ nameless i
+    named-where-told i l t told law before =
+        told (lawful-to i l (recordAt rs (getD ps i 0)) refl law)
         (rw (sets-length rs ps i (omega arith)) (all-named i (omega arith) before))
 
   -- 16 is not given to one more
   pub passed-one-more :
-      (i : ℕ) (e : Edit) → e ≡ recordAt rs (getD ps i 0) → namelessAmong (setsIn rs ps i) e ≡ false →
-      ((j : ℕ) → j < i → nameless j ≡ false) → (j : ℕ) → j < i + 1 → nameless j ≡ false
-  passed-one-more i e own h before j l = elim (last {i = j} {n = i} (omega arith)) [
+      (i : ℕ) → nameless i ≡ false → ((j : ℕ) → j < i → nameless j ≡ false) → (j : ℕ) → j < i + 1 → nameless j ≡ false
+  passed-one-more i h before j l = elim (last {i = j} {n = i} (omega arith)) [
     | inl m ↦ before j m
-    | inr q ↦ rw (q, ← own) h
+    | inr q ↦ rw q h
   ]

@@ -1,7 +1,7 @@
 -- What is told of a Set e by the rows of the Sets ms before it is what the rules say of it: its context, whether it
 -- names a version, and the Sets that conflict with it. Assumes nothing.
 use mathlib.Core.Path.{_≡_, refl, sym, ap, subst, _∙_}
-use mathlib.Core.Bool.{Bool, false, not, _&&_, _||_, Bool·not-not}
+use mathlib.Core.Bool.{Bool, true, false, not, _&&_, _||_, Bool·not-not}
 use mathlib.Core.List.{List, [], _∷_, _++_}
 use Prim.Native.Nat.{ℕ, suc}
 use native.Mathlib.Omega.{arith}
@@ -27,8 +27,8 @@ use Rattle.group_true.proofs.ProperSets.{named-version, named-snoc}
 use Rattle.group_context.specs.RowsOfBox.{NextOf}
 use Rattle.group_context.proofs.RowsOfArrival.{next-arrives, row-arrives}
 use Rattle.group_context.proofs.NamedByRows.{names-unless-none, conflicts-named}
-use Rattle.group_limited.specs.declared.Marks.{Marks}
-use Rattle.group_limited.specs.LimitedForms.{seenMarks, namedMarks, marksOn, RowsTell, ToldOf}
+use Rattle.group_limited.specs.declared.Sight.{Sight}
+use Rattle.group_limited.specs.LimitedForms.{seenMarks, namedMarks, SightOf, RowsTell, ToldOf}
 
 module _ (ms : List Edit) (e : Edit) where
   abbrev ns : List Edit
@@ -42,6 +42,10 @@ module _ (ms : List Edit) (e : Edit) where
 
   long : length ns ≡ suc k
   long = omega (arith, length-append ms (e ∷ []))
+
+  plain-never-nameless : isLimited e ≡ false → false ≡ namelessAmong ms e
+  unfolding namelessAmong
+  plain-never-nameless h = rw h
 
   -- ---- where those before it name theirs
 
@@ -79,23 +83,37 @@ module _ (ms : List Edit) (e : Edit) where
         (mask-same k (λ i. doConflict (getD ms i noEdit) e) (λ i. doConflict e (getD ms i noEdit))
         (λ i l. conflict-symmetric (getD ms i noEdit) e))
 
-    -- m, strange, c, names and g are what the calls return
-    pub told-by-rows :
-        (n : ℕ) → k ≡ n → (m : Marks) → m ≡ marksOn e ms → (strange names : Bool) (c g : ℕ) →
-        strange ≡ any (isStrange ms e) (listedBy e) →
-        ((b : Box) → NextOf b n plains cs (m .seen) (m .named) (isLimited e) → c ≡ context b n) →
-        ((b : Box) → NextOf b n plains cs (m .seen) (m .named) (isLimited e) → names ≡ maskNames b n) →
-        ((b : Box) → NextOf b n plains cs (m .seen) (m .named) (isLimited e) → m .plain ≡ mask n (b .plain n) →
-        g ≡ maskConflicts b n) →
-        ToldOf ms e
-        (record { row = m .plain; context = c; nameless = isLimited e && (strange || not names); conflicts = g })
-    told-by-rows n size m marks strange names c g s hc hn hg =
-        let next′ : NextOf b n plains cs (m .seen) (m .named) (isLimited e) = rw (marks, ← size) next in
-        record {
-          row = rw marks;
-          context = rw size (hc b next′);
-          nameless = λ law all. nameless-told law all strange names s (rw size (hn b next′));
-          conflicts = λ law all h.
-              rw (← size) at (hg b next′ (rw (marks, ← size) its-row))
-              ∙ conflicts-told law all (sym (nameless-told law all strange names s (rw size (hn b next′))) ∙ h);
+    -- by its sight of them, and what the calls return
+    module _ (n : ℕ) (size : k ≡ n) (s : Sight) (sight : SightOf ms e s) where
+      pub next-by-sight : NextOf b n plains cs (s .seen) (s .named) (s .limited)
+      next-by-sight = rw (sight .seen, sight .named, sight .limited, ← size) next
+
+      module _ (c : ℕ) (own : c ≡ context b n) where
+        pub nameless-by-sight :
+            (names : Bool) →
+            ((b : Box) → NextOf b n plains cs (s .seen) (s .named) (s .limited) → c ≡ context b n →
+            names ≡ maskNames b n) →
+            Lawful b (suc k) → AllNamed (boxOn ms) k → (s .limited && (s .strange || not names)) ≡ namelessAmong ms e
+        nameless-by-sight names h law all = go (isLimited e) refl
+          where
+            hn : names ≡ maskNames b k
+            hn = rw size (h b next-by-sight own)
+
+            go : (t : Bool) → isLimited e ≡ t → (s .limited && (s .strange || not names)) ≡ namelessAmong ms e
+            go true y = rw (sight .limited) (nameless-told law all (s .strange) names (sight .strange y) hn)
+            go false y = rw (sight .limited, y) (plain-never-nameless y)
+
+        pub told-by-sight :
+            (nameless : Bool) → (Lawful b (suc k) → AllNamed (boxOn ms) k → nameless ≡ namelessAmong ms e) → (g : ℕ) →
+            ((b : Box) (v w : ℕ) (limited : Bool) → NextOf b n plains cs v w limited → s .plain ≡ mask n (b .plain n) →
+            c ≡ context b n → g ≡ maskConflicts b n) →
+            ToldOf ms e (record { row = s .plain; context = c; nameless = nameless; conflicts = g })
+        told-by-sight nameless its-answer g h = record {
+          row = sight .plain;
+          context = rw size own;
+          nameless = its-answer;
+          conflicts = λ law all free.
+              rw (← size) at
+              (h b (s .seen) (s .named) (s .limited) next-by-sight (rw (sight .plain, ← size) its-row) own)
+              ∙ conflicts-told law all (sym (its-answer law all) ∙ free);
         }

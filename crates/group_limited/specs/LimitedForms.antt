@@ -2,26 +2,29 @@
 -- told of a Set by those before it. No one need believe them: laws in proofs/ tie them to `Conflict` of `edit_causal`
 -- and to `Answer16` of `edit_history`. Assumes nothing.
 use mathlib.Core.Path.{_≡_}
-use mathlib.Core.Bool.{Bool, true, false, not, _&&_, cond}
+use mathlib.Core.Bool.{Bool, true, false, not, cond}
 use mathlib.Core.List.{List, [], _∷_, _++_, map}
-use Prim.Native.Nat.{ℕ, suc, _+_, _-_, _^_, _<_}
-use lib.Bits.{bitAnd, bitOr}
+use Prim.Native.Nat.{ℕ, suc, _^_, _<_}
+use lib.Bits.{bitOr}
 use lib.Dec.{eqb}
 use lib.ListN.{length, getD, take}
-use Rattle.math_lists.specs.NumbersBelow.{some, all, mask}
+use Rattle.math_lists.specs.NumbersBelow.{all, mask}
+use Rattle.math_lists.specs.SortedLists.{any}
 use Rattle.math_maximal.specs.Groups.{bit}
+use Rattle.math_maximal.specs.Step.{compatible}
 use Rattle.math_contexts.specs.Box.{Lawful}
 use Rattle.math_contexts.specs.Contexts.{contexts, context}
 use Rattle.math_contexts.specs.Versions.{AllNamed}
 use Rattle.edit_record.specs.declared.Edit.{Edit}
 use Rattle.edit_record.specs.RecordBytes.{noEdit}
-use Rattle.edit_record.specs.Answer1.{nameOf}
-use Rattle.edit_causal.specs.Conflict.{doConflict, lists, boxOn, conflictsWith}
+use Rattle.edit_record.specs.Answer1.{isLimited}
+use Rattle.edit_causal.specs.Conflict.{lists, listedBy, boxOn, conflictsWith}
 use Rattle.edit_causal.specs.ConflictForms.{Proper, plainMarks, saw}
 use Rattle.edit_history.specs.EditsHeld.{recordAt}
-use Rattle.edit_history.specs.Answer16.{namelessAmong}
+use Rattle.edit_history.specs.Answer16.{isStrange, namelessAmong}
 use Rattle.group_context.specs.RowsOfBox.{PlainRows}
 use Rattle.group_limited.specs.declared.Marks.{Marks}
+use Rattle.group_limited.specs.declared.Sight.{Sight}
 use Rattle.group_limited.specs.declared.Told.{Told}
 use Rattle.group_limited.specs.declared.Judged.{Judged}
 
@@ -39,38 +42,34 @@ unfoldable pub namedMarks : Edit → List Edit → ℕ
 namedMarks e ms = mask (length ms) (λ i. lists e (getD ms i noEdit))
 
 abbrev pub marksOn : Edit → List Edit → Marks
-marksOn e ms = record { plain = plainMarks e ms; seen = seenMarks e ms; named = namedMarks e ms }
+marksOn e ms = record { plain = plainMarks e ms; seen = seenMarks e ms }
 
--- the marks m with those of one Set more, the i-th, a
-abbrev pub marksWith : Marks → ℕ → Edit → Edit → Marks
-marksWith m i a e =
-    record {
-      plain = m .plain + cond (doConflict a e) (2 ^ i) 0;
-      seen = m .seen + cond (saw e a) (2 ^ i) 0;
-      named = m .named + cond (lists e a) (2 ^ i) 0;
-    }
+-- all that is asked of them, but that a name which is strange is asked about only where e is limited
+pub record SightOf (ms : List Edit) (e : Edit) (s : Sight) : Type 0 where
+  pub plain : s .plain ≡ plainMarks e ms
+  pub seen : s .seen ≡ seenMarks e ms
+  pub named : s .named ≡ namedMarks e ms
+  pub limited : s .limited ≡ isLimited e
+  pub strange : isLimited e ≡ true → s .strange ≡ any (isStrange ms e) (listedBy e)
 
--- they are marks of i Sets at most
-pub record Narrow (m : Marks) (i : ℕ) : Type 0 where
-  pub plain : m .plain < 2 ^ i
-  pub seen : m .seen < 2 ^ i
-  pub named : m .named < 2 ^ i
+-- where ns has the names of the first k Sets: those whose name is x, and that it is none of the members of `seen`
+abbrev pub marksOfName : List ℕ → ℕ → ℕ → ℕ
+marksOfName ns k x = mask k (λ i. eqb (getD ns i 0) x)
 
--- one of the edits in the first k of the places, of those that are members of `seen`, has the name x
-unfoldable pub isMarkedName : List ℕ → List ℕ → ℕ → ℕ → ℕ → Bool
-isMarkedName rs ps k seen x = some k (λ i. bit seen i && eqb (nameOf (recordAt rs (getD ps i 0))) x)
+abbrev pub isUnseen : List ℕ → ℕ → ℕ → ℕ → Bool
+isUnseen ns k seen x = compatible seen (marksOfName ns k x)
 
 -- ---- the rows
 
--- the number g of Set i, with Set n marked in it exactly if i is a member of `row`
+-- the number g of Set i, with Set n marked in it if i is a member of `row`
 abbrev pub withMark : ℕ → ℕ → ℕ → ℕ → ℕ
 withMark n row i g =
-    let kept = g - bitAnd g (2 ^ n) in
-    cond (bit row i) (bitOr kept (2 ^ n)) kept
+    cond (bit row i) (bitOr g (2 ^ n)) g
 
--- the rows tell the conflicts of the Sets ms by document 01's rule, and their contexts
+-- the rows tell the conflicts of the Sets ms by document 01's rule and nothing else, and their contexts
 pub record RowsTell (ms : List Edit) (plains cs : List ℕ) : Type 0 where
   pub plainly : PlainRows (boxOn ms) (length ms) plains
+  pub narrow : (i : ℕ) → i < length ms → getD plains i 0 < 2 ^ length ms
   pub held : take (length ms) cs ≡ contexts (boxOn ms) (length ms)
 
 -- what is told of a Set e that comes after the Sets ms, by rows that tell of these; whether it names a version, and

@@ -4,31 +4,58 @@
 // j conflict by document 01's rule, and `ctx[i]` is the context of Set i.
 mod earlier;
 
-use earlier::is_any_strange;
+use earlier::list_of;
 use earlier::marks_of;
-use edit_record::Edit;
+use edit_record::AT_KIND;
 use edit_record::LIMITED;
+use edit_record::PLACE;
 use group_step::SETS;
 ghost use mathlib.Core.Path.{_≡_};
 ghost use mathlib.Core.List.{List, [], _∷_, _++_};
-ghost use Prim.Native.Nat.{ℕ, _≤_, _<_};
+ghost use Prim.Native.Nat.{ℕ, suc, _^_, _≤_, _<_};
 ghost use lib.ListN.{length, getD};
 ghost use Rattle.math_lists.specs.SortedLists.{any};
 ghost use Rattle.math_contexts.specs.Box.{Lawful};
 ghost use Rattle.math_contexts.specs.Contexts.{context};
+ghost use Rattle.math_contexts.specs.Versions.{AllNamed};
 ghost use Rattle.edit_record.specs.declared.Edit.{Edit};
+ghost use Rattle.edit_record.specs.RecordBytes.{decodeOf};
 ghost use Rattle.edit_record.specs.Answer1.{isLimited};
 ghost use Rattle.edit_causal.specs.Conflict.{boxOn};
 ghost use Rattle.edit_causal.specs.ConflictForms.{plainMarks};
+ghost use Rattle.edit_history.specs.EditsHeld.{recordAt};
+ghost use Rattle.edit_history.specs.Answer16.{namelessAmong};
 ghost use Rattle.group_step.specs.GroupRows.{mostSets};
-ghost use Rattle.group_limited.specs.LimitedForms.{setsIn, withMark, RowsTell, ToldOf, JudgedOf, namedInTurn};
+ghost use Rattle.group_limited.specs.LimitedForms.{
+  setsIn,
+  SightOf,
+  withMark,
+  RowsTell,
+  ToldOf,
+  JudgedOf,
+  namedInTurn,
+};
 
 // What is asked of each of the Sets before a Set: bit i of `plain` says that the i-th conflicts with it by document
-// 01's rule, of `seen` that its author had seen the i-th, and of `named` that it lists the i-th.
+// 01's rule, and of `seen` that its author had seen the i-th.
 pub struct Marks {
     pub plain: u64,
     pub seen: u64,
+}
+
+// The Sets before a Set that it lists, and whether it lists a name that is that of none which its author had seen.
+pub struct Listed {
     pub named: u64,
+    pub strange: bool,
+}
+
+// All that is asked of the Sets before a Set, and whether it is limited.
+pub struct Sight {
+    pub plain: u64,
+    pub seen: u64,
+    pub named: u64,
+    pub strange: bool,
+    pub limited: bool,
 }
 
 // What is told of a Set by those before it: those that conflict with it by document 01's rule, its context, whether 16
@@ -60,61 +87,128 @@ pub fn is_any_limited(recs: &[u8], places: &[u16], k: usize) -> bool
     found
 }
 
-// What is told of the Set e, which comes after those in the n first places, by their rows.
-pub fn told_of(recs: &[u8], places: &[u16], n: usize, plain: &[u64], ctx: &[u64], e: Edit) -> Told
+// What is asked of the Sets in the k first places for that of rec, which comes after them.
+fn sight_of(recs: &[u8], places: &[u16], k: usize, rec: &[u8]) -> Sight
+    requires { ⌜ (k ≤ mostSets) × (k ≤ length (now places)) ⌝ }
+    ensures { λ r.
+        ⌜ SightOf (setsIn (now (recs .entry)) (now (places .entry)) k) (decodeOf (now (rec .entry))) r ⌝ }
+{
+    let m = marks_of(recs, places, k, rec);
+    let l = list_of(recs, places, k, m.seen, rec);
+    Sight {
+        plain: m.plain,
+        seen: m.seen,
+        named: l.named,
+        strange: l.strange,
+        limited: edit_record::byte_at(rec, AT_KIND) == LIMITED,
+    }
+}
+
+// The same for the Set in place p.
+fn sight_at(recs: &[u8], places: &[u16], k: usize, p: u16) -> Sight
+    requires { ⌜ (k ≤ mostSets) × (k ≤ length (now places)) ⌝ }
+    ensures { λ r.
+        ⌜ SightOf (setsIn (now (recs .entry)) (now (places .entry)) k) (recordAt (now (recs .entry)) p) r ⌝ }
+{
+    let at = p as usize * PLACE;
+    if at <= recs.len() {
+        sight_of(recs, places, k, &recs[at..])
+    } else {
+        sight_of(recs, places, k, &recs[..0])
+    }
+}
+
+// The context of a Set after the n first, whose rows these are, by its sight of them.
+fn context_by(plain: &[u64], ctx: &[u64], n: usize, s: Sight) -> u64
+    requires { ⌜ (n ≤ mostSets) × (n ≤ length (now plain)) × (n ≤ length (now ctx)) ⌝ }
+    ensures { λ r.
+        ⌜ ((ms : List Edit) (e : Edit) → length ms ≡ n → RowsTell ms (now (plain .entry)) (now (ctx .entry)) →
+        SightOf ms e s → r ≡ context (boxOn (ms ++ (e ∷ []))) n) ⌝ }
+{
+    group_context::context_of(plain, ctx, n, s.seen, s.named, s.limited)
+}
+
+// Whether 16 is given to it, where `own` is its context.
+fn is_nameless(plain: &[u64], ctx: &[u64], n: usize, s: Sight, own: u64) -> bool
+    requires { ⌜ (n ≤ mostSets) × (n ≤ length (now plain)) × (n ≤ length (now ctx)) ⌝ }
+    ensures { λ r.
+        ⌜ ((ms : List Edit) (e : Edit) → length ms ≡ n → RowsTell ms (now (plain .entry)) (now (ctx .entry)) →
+        SightOf ms e s → own ≡ context (boxOn (ms ++ (e ∷ []))) n →
+        Lawful (boxOn (ms ++ (e ∷ []))) (suc (length ms)) → AllNamed (boxOn ms) (length ms) →
+        r ≡ namelessAmong ms e) ⌝ }
+{
+    let names = group_context::names_version(plain, ctx, n, s.seen, s.named, s.limited, own);
+    s.limited & (s.strange | !names)
+}
+
+// What is told of it.
+fn told_by(plain: &[u64], ctx: &[u64], n: usize, s: Sight) -> Told
+    requires { ⌜ (n ≤ mostSets) × (n ≤ length (now plain)) × (n ≤ length (now ctx)) ⌝ }
+    ensures { λ r.
+        ⌜ ((ms : List Edit) (e : Edit) → length ms ≡ n → RowsTell ms (now (plain .entry)) (now (ctx .entry)) →
+        SightOf ms e s → ToldOf ms e r) ⌝ }
+{
+    let own = context_by(plain, ctx, n, s);
+    let nameless = is_nameless(plain, ctx, n, s, own);
+    let conflicts = group_context::conflicts_of(plain, ctx, n, s.plain, own);
+    Told {
+        row: s.plain,
+        context: own,
+        nameless,
+        conflicts,
+    }
+}
+
+// What is told of the Set in place p, which comes after those in the n first places, by their rows.
+pub fn told_at(recs: &[u8], places: &[u16], n: usize, plain: &[u64], ctx: &[u64], p: u16) -> Told
     requires { ⌜ (n ≤ mostSets)
         × (n ≤ length (now places))
         × (n ≤ length (now plain))
         × (n ≤ length (now ctx)) ⌝ }
     ensures { λ r.
         ⌜ (RowsTell (setsIn (now (recs .entry)) (now (places .entry)) n) (now (plain .entry)) (now (ctx .entry)) →
-        ToldOf (setsIn (now (recs .entry)) (now (places .entry)) n) e r) ⌝ }
+        ToldOf (setsIn (now (recs .entry)) (now (places .entry)) n) (recordAt (now (recs .entry)) p) r) ⌝ }
 {
-    let m = marks_of(recs, places, n, e);
-    let count = e.count;
-    let members = e.members;
-    let limited = e.kind == LIMITED;
-    let strange = is_any_strange(recs, places, n, m.seen, count, members);
-    let context = group_context::context_of(plain, ctx, n, m.seen, m.named, limited);
-    let names = group_context::names_version(plain, ctx, n, m.seen, m.named, limited);
-    let conflicts = group_context::conflicts_of(plain, ctx, n, m.plain, m.seen, m.named, limited);
-    Told {
-        row: m.plain,
-        context,
-        nameless: limited & (strange | !names),
-        conflicts,
-    }
+    let s = sight_at(recs, places, n, p);
+    told_by(plain, ctx, n, s)
 }
 
-// Marks Set n in the numbers of those before it that are members of `row`, and in no other of them.
+// Marks Set n in the numbers of those before it that are members of `row`: only these are touched.
 fn mark_in_rows(plain: &mut [u64], n: usize, row: u64)
-    requires { ⌜ (n < mostSets) × (n ≤ length (now plain)) ⌝ }
+    requires { ⌜ (n < mostSets) × (n ≤ length (now plain)) × (row < 2 ^ n) ⌝ }
     ensures { λ r.
         ⌜ ((i : ℕ) → i < n → getD (now (plain .exit)) i 0 ≡ withMark n row i (getD (now (plain .entry)) i 0)) ⌝ }
 {
     let own = group_step::only(n);
-    let mut j: usize = 0;
-    while j < n {
-        let kept = group_step::without(plain[j], own);
-        if group_step::has(row, j) {
-            plain[j] = kept | own;
-        } else {
-            plain[j] = kept;
-        }
-        j += 1;
+    let mut left = row;
+    while left != 0 {
+        let j = u64::trailing_zeros(left) as usize;
+        plain[j] = plain[j] | own;
+        let bit = group_step::only(j);
+        left = group_step::without(left, bit);
     }
+}
+
+// Puts down the number of Set n, and marks it in those of the members of `row`.
+pub fn put_row(plain: &mut [u64], n: usize, row: u64)
+    requires { ⌜ (n < mostSets) × (n < length (now plain)) × (row < 2 ^ n) ⌝ }
+    ensures { λ r.
+        ⌜ ((i : ℕ) → i < n → getD (now (plain .exit)) i 0 ≡ withMark n row i (getD (now (plain .entry)) i 0))
+        × (getD (now (plain .exit)) n 0 ≡ row) ⌝ }
+{
+    mark_in_rows(plain, n, row);
+    plain[n] = row;
 }
 
 // Puts down what is told of Set n: those before it that conflict with it by document 01's rule, and its context.
 pub fn put_told(plain: &mut [u64], ctx: &mut [u64], n: usize, row: u64, own: u64)
-    requires { ⌜ (n < mostSets) × (n < length (now plain)) × (n < length (now ctx)) ⌝ }
+    requires { ⌜ (n < mostSets) × (n < length (now plain)) × (n < length (now ctx)) × (row < 2 ^ n) ⌝ }
     ensures { λ r.
         ⌜ ((ms : List Edit) (e : Edit) → length ms ≡ n → RowsTell ms (now (plain .entry)) (now (ctx .entry)) →
         row ≡ plainMarks e ms → own ≡ context (boxOn (ms ++ (e ∷ []))) n →
         RowsTell (ms ++ (e ∷ [])) (now (plain .exit)) (now (ctx .exit))) ⌝ }
 {
-    mark_in_rows(plain, n, row);
-    plain[n] = row;
+    put_row(plain, n, row);
     ctx[n] = own;
 }
 
@@ -129,24 +223,25 @@ pub fn put_rows(plain: &mut [u64], ctx: &mut [u64], recs: &[u8], places: &[u16],
 {
     let mut i: usize = 0;
     while i < k {
-        let e = edit_history::decode_at(recs, places[i] as usize);
-        let t = told_of(recs, places, i, plain, ctx, e);
-        put_told(plain, ctx, i, t.row, t.context);
+        let s = sight_at(recs, places, i, places[i]);
+        let own = context_by(plain, ctx, i, s);
+        put_told(plain, ctx, i, s.plain, own);
         i += 1;
     }
 }
 
-// What the Set e is told, which arrives after those in the k first places.
-pub fn judge(recs: &[u8], places: &[u16], k: usize, e: Edit) -> Judged
+// What the Set of rec is told, which arrives after those in the k first places.
+pub fn judge(recs: &[u8], places: &[u16], k: usize, rec: &[u8]) -> Judged
     requires { ⌜ (k ≤ mostSets) × (k ≤ length (now places)) ⌝ }
     ensures { λ r.
-        ⌜ JudgedOf (setsIn (now (recs .entry)) (now (places .entry)) k) e r ⌝ }
+        ⌜ JudgedOf (setsIn (now (recs .entry)) (now (places .entry)) k) (decodeOf (now (rec .entry))) r ⌝ }
 {
     // what work space holds at first does not matter; zeros would be set by memset (docs/DECISIONS.md, 24)
     let mut plain = [1u64; SETS];
     let mut ctx = [1u64; SETS];
     put_rows(&mut plain, &mut ctx, recs, places, k);
-    let t = told_of(recs, places, k, &plain, &ctx, e);
+    let s = sight_of(recs, places, k, rec);
+    let t = told_by(&plain, &ctx, k, s);
     Judged {
         nameless: t.nameless,
         conflicts: t.conflicts,
@@ -165,12 +260,12 @@ fn are_named_with(plain: &mut [u64], ctx: &mut [u64], recs: &[u8], places: &[u16
 {
     let mut i: usize = 0;
     while i < k {
-        let e = edit_history::decode_at(recs, places[i] as usize);
-        let t = told_of(recs, places, i, plain, ctx, e);
-        if t.nameless {
+        let s = sight_at(recs, places, i, places[i]);
+        let own = context_by(plain, ctx, i, s);
+        if is_nameless(plain, ctx, i, s, own) {
             return false;
         }
-        put_told(plain, ctx, i, t.row, t.context);
+        put_told(plain, ctx, i, s.plain, own);
         i += 1;
     }
     true

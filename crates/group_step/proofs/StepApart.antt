@@ -24,7 +24,7 @@ use Rattle.group_step.specs.StepForms.{conflicting, Apart, allCompatible
 -- ---- a number below 2 ^ k that gains k
 
 module _ (k g : ℕ) (low : g < 2 ^ k) where
-  gaining-adds : gaining k g ≡ 2 ^ k + g
+  pub gaining-adds : gaining k g ≡ 2 ^ k + g
   gaining-adds =
       let one : 2 ^ k ≡ 1 * 2 ^ k = omega arith in
       ap (bitOr g) one ∙ or-shifted-r 1 k g low ∙ omega arith
@@ -33,7 +33,7 @@ module _ (k g : ℕ) (low : g < 2 ^ k) where
   gaining-below = omega (arith, gaining-adds)
 
 -- what is part of a larger one with k is so without it
-gaining-part :
+pub gaining-part :
     (k g h : ℕ) → g < 2 ^ k → h < 2 ^ k → partOfLarger (gaining k g) (gaining k h) ≡ true → partOfLarger g h ≡ true
 gaining-part k g h low low′ p =
     let (into, differ) =
@@ -63,7 +63,7 @@ unfolding gained
 gained-on k gs x g e q =
     any-map (eqb x) (gaining k) gs ∙ any-on (λ g. eqb x (gaining k g)) gs g e (eq-eqb x (gaining k g) q)
 
-gained-ascending :
+pub gained-ascending :
     (k : ℕ) (gs : List ℕ) → Ascending gs → ((x : ℕ) → elem x gs ≡ true → x < 2 ^ k) → Ascending (gained k gs)
 unfolding gained
 gained-ascending k [] a low = tt

@@ -1,11 +1,13 @@
--- The step in the order in which the code makes it, and what it is on a row where no group conflicts with the new Set.
--- Both are `step` of the crate `math_maximal` on a row of groups; the laws `code-step` and `apart-step` show that, so
+-- The step in the order in which the code makes it, and what it is on a row of which no group is part of another, where
+-- none conflicts with the new Set, and where what remains of those that do is part of one that does not. All are `step`
+-- of the crate `math_maximal` on a row of groups; the laws `code-step`, `apart-step` and `covered-step` show that, so
 -- nothing here has to be believed. Assumes nothing.
 use mathlib.Core.Path.{_≡_}
-use mathlib.Core.Bool.{Bool, true, false, not}
+use mathlib.Core.Bool.{Bool, true, false, not, _&&_}
 use mathlib.Core.List.{List, _++_, map}
 use Prim.Native.Nat.{ℕ, _^_}
-use lib.Bits.{bitOr}
+use lib.Bits.{bitAnd, bitOr}
+use lib.Dec.{eqb}
 use Rattle.math_lists.specs.SortedLists.{any, elem, filter, ascending}
 use Rattle.math_maximal.specs.Step.{compatible, candidate, partOfLarger}
 
@@ -46,3 +48,20 @@ gaining k g = bitOr g (2 ^ k)
 
 unfoldable pub gained : ℕ → List ℕ → List ℕ
 gained k gs = map (gaining k) gs
+
+-- ---- a row where what remains of each group that conflicts is part of one that gains the new Set
+
+-- x is part of y, or y itself
+abbrev pub partOf : ℕ → ℕ → Bool
+partOf x y = eqb (bitAnd x y) x
+
+-- what those give that gain the new Set as a whole
+unfoldable pub wholes : ℕ → ℕ → List ℕ → List ℕ
+wholes m k gs = map (candidate m k) (filter (compatible m) gs)
+
+-- g conflicts with the new Set, and what remains of it is part of none of ys
+abbrev pub uncovered : ℕ → ℕ → List ℕ → ℕ → Bool
+uncovered m k ys g = not (compatible m g) && not (any (partOf (candidate m k g)) ys)
+
+abbrev pub allCovered : ℕ → ℕ → List ℕ → List ℕ → Bool
+allCovered m k ys gs = not (any (uncovered m k ys) gs)

@@ -3,3 +3,4 @@ pub mod KeysPut
 pub mod KeysByTops
 pub mod GatheredIs
 pub mod SetsByChain
+pub mod PutAtEnd

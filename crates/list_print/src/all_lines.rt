@@ -11,7 +11,7 @@ use list_objects::gather;
 use list_objects::order::sort_objects;
 use list_objects::put_chained;
 use table_drawing::Counters;
-use table_index::MEMBERS;
+use table_index::chain::CHAINS;
 use table_output::copy_in;
 ghost use mathlib.Core.Path.{_≡_};
 ghost use mathlib.Core.Bool.{true};
@@ -177,9 +177,9 @@ pub fn put_list(
 {
     // what work space holds at first does not matter; zeros would be set by memset (docs/DECISIONS.md, 24)
     let mut places = [1u16; PLACES];
-    let mut numbers = [1u16; RECORDS];
-    let mut members = [1u16; MEMBERS];
+    let mut numbers = [1u8; RECORDS];
     let mut counts = [0u16; OBJECTS];
+    let mut chains = [0u8; CHAINS];
     let k = c.records as usize;
     table_index::build(
         records,
@@ -187,7 +187,7 @@ pub fn put_list(
         &mut places,
         &mut numbers,
         &mut counts,
-        &mut members,
+        &mut chains,
     );
     put_list_by(out, n, c, records, objects, groups, &places)
 }

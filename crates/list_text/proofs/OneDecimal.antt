@@ -187,3 +187,14 @@ digits-fit (suc f) m p h = go (decLt m 10) (digits-fit f (m / 10))
     go (no k) ih =
         let (some, fits) = room f m (omega arith) h in
         omega (arith, ih some fits, length-more m (omega arith))
+
+ten-some : (f : ℕ) → 0 < 10 ^ f
+ten-some zero = omega arith
+ten-some (suc f) = omega (arith, ten-some f)
+
+-- from the f-th power of ten on a number has more than f digits
+pub digits-many : (f m : ℕ) → 10 ^ f ≤ m → f < length (decimal m)
+digits-many zero m l = is-decimal m .some
+digits-many (suc f) m l =
+    let some = ten-some f in
+    omega (arith, length-more m (omega arith), digits-many f (m / 10) (omega arith))

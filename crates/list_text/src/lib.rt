@@ -63,17 +63,38 @@ pub fn put_bytes(out: &mut [u8], n: usize, s: &[u8]) -> usize
     n + i
 }
 
-// How many digits the decimal of m has.
+// How many digits the decimal of m has; nothing is divided for it.
 fn digits(m: u32) -> usize
     ensures { λ r. ⌜ r ≡ length (decimal m) ⌝ }
 {
-    let mut d: usize = 1;
-    let mut rest = m;
-    while 10 <= rest {
-        rest = rest / 10;
-        d += 1;
+    if m < 10 {
+        return 1;
     }
-    d
+    if m < 100 {
+        return 2;
+    }
+    if m < 1000 {
+        return 3;
+    }
+    if m < 10000 {
+        return 4;
+    }
+    if m < 100000 {
+        return 5;
+    }
+    if m < 1000000 {
+        return 6;
+    }
+    if m < 10000000 {
+        return 7;
+    }
+    if m < 100000000 {
+        return 8;
+    }
+    if m < 1000000000 {
+        return 9;
+    }
+    10
 }
 
 // Puts the decimal of m, from the last digit to the first.

@@ -5,7 +5,7 @@ use mathlib.Core.Bool.{Bool, _&&_, cond}
 use mathlib.Core.List.{List, [], map}
 use Prim.Native.Nat.{ℕ, zero, suc, _+_, _-_, _*_, _/_, _%_, _≤_, _<_, max}
 use lib.Dec.{eqb, ltb}
-use lib.ListN.{length, getD}
+use lib.ListN.{length, getD, take}
 use Rattle.math_lists.specs.NumbersBelow.{keep}
 use Rattle.math_lists.specs.SortedLists.{filter, Asc, gatherBy, ascending}
 use Rattle.edit_record.specs.declared.Edit.{Edit}
@@ -26,9 +26,9 @@ setsAt rs places = map (recordAt rs) places
 
 -- ---- identifiers from the Sets in dispute
 
--- the t first keys are those of the edits in the places ps
-abbrev pub KeysIn : List ℕ → List ℕ → List ℕ → ℕ → Type 0
-KeysIn rs ps ks t = (j : ℕ) → j < t → getD ks j 0 ≡ recordAt rs (getD ps j 0) .key
+-- of the edits in the t first of the places ps, those in dispute are the members of r
+abbrev pub InDispute : List ℕ → List ℕ → ℕ → ℕ → Type 0
+InDispute rs ps t r = (i : ℕ) → i < t → bit r i ≡ isDisputed (setsAt rs (take t ps)) (recordAt rs (getD ps i 0))
 
 -- the i-th Set by its name, and by its number behind it
 abbrev pub namedAt : List Edit → ℕ → ℕ

@@ -8,3 +8,4 @@ pub mod StepKeepsMaximal
 pub mod MoreElements
 pub mod Renumbered
 pub mod AnotherOrder
+pub mod FirstMember

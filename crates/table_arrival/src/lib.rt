@@ -286,7 +286,7 @@ pub fn judge(recs: &[u8], n: usize, rec: &[u8], v: Surveyed) -> Judged
     // what work space holds at first does not matter; zeros would be set by memset (docs/DECISIONS.md, 24)
     let mut places = [1u16; SETS];
     let k = edit_object::put_places(&mut places, recs, n, e.tsite, e.tseq);
-    group_limited::judge(recs, &places, k, e)
+    group_limited::judge(recs, &places, k, rec)
 }
 
 // An arrival, at tables that are known to be sound, as those that an arrival left are, of a record to which none of 1

@@ -30,9 +30,10 @@ use Rattle.table_sets.specs.ChainForms.{Chained, Gathered}
 use Rattle.table_arrival.specs.Answers6and7.{rowOf}
 use Rattle.group_true.specs.TrueGroups.{groupsOf, trueGroups}
 use Rattle.group_true.proofs.GroupsGrow.{is-maximal, none-part, never-fewer-groups, sets-step}
+use Rattle.table_sets.specs.KeyForms.{TellsIn}
 use Rattle.table_check.specs.CheckForms.{rowTrue, groupsIn, ProperInTurn, WorkedOut}
 use Rattle.table_check.proofs.SettledByRecords.{used-long}
-use Rattle.table_check.proofs.SetsInTurn.{in-turn}
+use Rattle.table_check.proofs.SetsInTurn.{in-turn, told-in-turn}
 
 -- ---- one step after another
 
@@ -130,6 +131,9 @@ module _ (t : Tables) (s : Sound t) (o : ℕ) (l : o < t .counters .objects) (p 
 
   pub places-in-turn : (ms : List ℕ) → k ≤ length ms → take k ms ≡ placesOn rs n create → ProperInTurn rs ms k
   places-in-turn ms = in-turn t s create ms k
+
+  pub places-told : (ms : List ℕ) → k ≤ length ms → take k ms ≡ placesOn rs n create → TellsIn rs ms k
+  places-told ms = told-in-turn t s create ms k
 
   groups-are :
       (ms : List ℕ) → take k ms ≡ placesOn rs n create → groupsIn rs ms k ≡ trueGroups (heldBy t) (recordAt rs create)

@@ -37,6 +37,8 @@ use Rattle.table_drawing.specs.Tables.{Tables}
 use Rattle.table_soundness.proofs.SoundFacts.{Sound}
 use Rattle.table_index.specs.IndexForms.{isOn, placesOn}
 use Rattle.table_index.proofs.PlacesOfSets.{places-sets}
+use Rattle.table_sets.specs.KeyForms.{TellsIn}
+use Rattle.table_sets.proofs.SetsTold.{tells-in}
 use Rattle.table_check.specs.CheckForms.{ProperInTurn}
 
 -- ---- the numbers below n that pass
@@ -151,6 +153,10 @@ module _ (t : Tables) (s : Sound t) (p : ℕ) where
       named = λ i l. ap (λ (es : List Edit). namelessAmong es (recordAt rs (getD ms i 0))) (sets-before i l)
           ∙ named-at (getD ms i 0) (front i l .below) (front i l .passes-too);
     }
+
+    -- each is told its conflicts with those before it
+    pub told-in-turn : TellsIn rs ms k
+    told-in-turn = tells-in t s (create .site) (create .seq) ms k fits sets-all
 
 -- ---- the conflicts of the Set e in the i-th place with those before it
 

@@ -9,6 +9,8 @@ use table_drawing::Answer;
 use table_drawing::Counters;
 use table_drawing::ENTRY;
 use table_drawing::entries::at16;
+use table_sets::by_key::CHAINS;
+use table_sets::by_key::take_set;
 ghost use mathlib.Core.Path.{_≡_};
 ghost use mathlib.Core.Bool.{true, false};
 ghost use mathlib.Core.List.{[], _∷_};
@@ -24,6 +26,7 @@ ghost use Rattle.table_drawing.specs.Tables.{tablesOf};
 ghost use Rattle.table_drawing.specs.AnswerNumbers.{numberOf};
 ghost use Rattle.table_soundness.specs.Sound.{sound};
 ghost use Rattle.table_sets.specs.ChainForms.{Chained};
+ghost use Rattle.table_sets.specs.KeyForms.{TellsIn};
 ghost use Rattle.table_check.specs.Check.{checkOf};
 ghost use Rattle.table_check.specs.CheckForms.{rowTrue, rowsTrue, groupsIn, ProperInTurn, WorkedOut};
 
@@ -64,13 +67,18 @@ fn step_plainly(gs: &mut [u64], recs: &[u8], places: &[u16], k: usize) -> usize
         × (k ≤ length (now places))
         × (k ≤ mostSets)
         × ProperInTurn (now recs) (now places) k
-        × (any isLimited (setsIn (now recs) (now places) k) ≡ false) ⌝ }
+        × (any isLimited (setsIn (now recs) (now places) k) ≡ false)
+        × TellsIn (now recs) (now places) k ⌝ }
     ensures { λ r. ⌜ WorkedOut (groupsIn (now (recs .entry)) (now (places .entry)) k) (now (gs .exit)) r ⌝ }
 {
+    let mut latest = [0u8; CHAINS];
+    // what work space holds at first does not matter; zeros would be set by memset (docs/DECISIONS.md, 24)
+    let mut earlier = [1u8; SETS];
+    let mut tolds = [1u64; SETS];
     let mut n: usize = 1;
     let mut i: usize = 0;
     while i < k {
-        let m = table_index::marks_at(recs, places, i, places[i]);
+        let m = take_set(&mut latest, &mut earlier, &mut tolds, recs, places, i);
         n = group_step::step_apart(gs, n, m, i);
         if GROUPS < n {
             return n;
@@ -102,8 +110,7 @@ fn step_limited(
     let mut n: usize = 1;
     let mut i: usize = 0;
     while i < k {
-        let e = edit_history::decode_at(recs, places[i] as usize);
-        let t = group_limited::told_of(recs, places, i, plain, ctx, e);
+        let t = group_limited::told_at(recs, places, i, plain, ctx, places[i]);
         n = group_step::step_apart(gs, n, t.conflicts, i);
         if GROUPS < n {
             return n;
@@ -120,7 +127,8 @@ fn work_out(recs: &[u8], places: &[u16], k: usize, gs: &mut [u64]) -> usize
     requires { ⌜ (k ≤ length (now places))
         × (k ≤ mostSets)
         × (length (now gs) ≡ mostGroups)
-        × ProperInTurn (now recs) (now places) k ⌝ }
+        × ProperInTurn (now recs) (now places) k
+        × TellsIn (now recs) (now places) k ⌝ }
     ensures { λ r. ⌜ WorkedOut (groupsIn (now (recs .entry)) (now (places .entry)) k) (now (gs .exit)) r ⌝ }
 {
     gs[0] = 0;

@@ -1,19 +1,22 @@
 -- The masks of a box's Sets by the rows that tell of them, and the groups that they give. Assumes, where it is said,
 -- that the Sets are proper, or that none of them conflicts with itself.
-use mathlib.Core.Path.{_≡_, sym, ap, subst, _∙_}
-use mathlib.Core.Bool.{false}
+use mathlib.Core.Path.{_≡_, sym, ap, ap₂, subst, _∙_}
+use mathlib.Core.Logic.{inl, inr}
+use mathlib.Core.Bool.{Bool, false, cond}
 use mathlib.Core.List.{List}
-use Prim.Native.Nat.{ℕ, _+_, _≤_, _<_}
-use native.Mathlib.Decide.{ℕ-discrete}
+use Prim.Native.Nat.{ℕ, _+_, _^_, _≤_, _<_}
+use native.Mathlib.Numerals.{add-one}
 use native.Mathlib.Omega.{arith}
-use lib.ListN.{length, getD, set, take}
-use lib.Seq.{getD-set-same, getD-set-other}
+use lib.Bits.{bitOr}
+use lib.ListN.{length, getD, take}
 use Rattle.math_lists.specs.NumbersBelow.{mask}
 use Rattle.math_lists.specs.SortedLists.{any}
 use Rattle.math_lists.proofs.Booleans.{clash, off}
 use Rattle.math_lists.proofs.ByPlaces.{any-place-on}
-use Rattle.math_lists.proofs.NumbersBelow.{mask-same}
-use Rattle.math_maximal.proofs.Masks.{mask-bit}
+use Rattle.math_lists.proofs.LastBelow.{last}
+use Rattle.math_lists.proofs.NumbersBelow.{mask-same, mask-below}
+use Rattle.math_maximal.specs.Groups.{bit}
+use Rattle.math_maximal.proofs.Masks.{mask-by-or, mask-bit}
 use Rattle.math_contexts.specs.Box.{Box, Lawful}
 use Rattle.math_contexts.specs.Contexts.{contexts, conflicts}
 use Rattle.math_contexts.specs.Versions.{AllNamed}
@@ -23,7 +26,7 @@ use Rattle.edit_record.specs.RecordBytes.{noEdit}
 use Rattle.edit_record.specs.Answer1.{isLimited}
 use Rattle.edit_causal.specs.Conflict.{doConflict, conflictsIn, boxOn}
 use Rattle.edit_causal.specs.ConflictForms.{NoneItself, Proper, plainMarks}
-use Rattle.edit_causal.proofs.CausalLaws.{conflict-symmetric}
+use Rattle.edit_causal.proofs.CausalLaws.{conflict-symmetric, conflict-irreflexive}
 use Rattle.edit_causal.proofs.ConflictsAmongSets.{conflict-plainly, conflicts-turned}
 use Rattle.edit_history.specs.EditsHeld.{recordAt}
 use Rattle.edit_history.proofs.EditsInPlaces.{set-place, sets-length}
@@ -32,8 +35,8 @@ use Rattle.group_context.specs.RowsOfBox.{PlainRows}
 use Rattle.group_context.proofs.NamedByRows.{conflict-row-named}
 use Rattle.group_engine.specs.SearchForms.{conflict, byMasks, Conflicts}
 use Rattle.group_engine.proofs.MasksOfElements.{groups-of-elements, conflicts-of-elements}
-use Rattle.group_limited.specs.LimitedForms.{setsIn, RowsTell}
-use Rattle.table_engine.specs.EngineForms.{groupsIn, MaskedTo}
+use Rattle.group_limited.specs.LimitedForms.{setsIn, withMark, RowsTell}
+use Rattle.table_engine.specs.EngineForms.{groupsIn, MaskedTo, MaskedFirst}
 
 module _ (rs ps : List ℕ) (k : ℕ) (fits : k ≤ length ps) where
   abbrev xs : List Edit
@@ -65,24 +68,45 @@ module _ (rs ps : List ℕ) (k : ℕ) (fits : k ≤ length ps) where
     plain-at : (i : ℕ) → i < length xs → isLimited (getD xs i noEdit) ≡ false
     plain-at i l = off (isLimited (getD xs i noEdit)) (λ y. clash (any-place-on isLimited noEdit xs i l y) none)
 
-    mask-plainly :
-        (i : ℕ) → i < k → plainMarks (recordAt rs (getD ps i 0)) xs ≡ mask (length xs) (conflictsIn xs i)
-    unfolding plainMarks
-    mask-plainly i l =
-        mask-same (length xs) (λ j. doConflict (getD xs j noEdit) (recordAt rs (getD ps i 0))) (conflictsIn xs i)
-        (λ j m.
-        ap (doConflict (getD xs j noEdit)) (sym (set-place rs ps k fits i l))
-        ∙ conflict-symmetric (getD xs j noEdit) (getD xs i noEdit)
-        ∙ sym (conflict-plainly xs plain-at i j (omega (arith, long)) m))
+    conflict-at :
+        (i j : ℕ) → i < k → j < k →
+        conflictsIn xs i j ≡ doConflict (recordAt rs (getD ps i 0)) (recordAt rs (getD ps j 0))
+    conflict-at i j l m =
+        conflict-plainly xs plain-at i j (omega (arith, long)) (omega (arith, long))
+        ∙ rw (set-place rs ps k fits i l, set-place rs ps k fits j m)
 
-    -- one mask more
-    pub masked-more :
-        (out : List ℕ) (i : ℕ) → i < k → i < length out → MaskedTo i xs out →
-        MaskedTo (i + 1) xs (set out i (plainMarks (recordAt rs (getD ps i 0)) xs))
-    masked-more out i l fit h j m = elim (ℕ-discrete j i) [
-      | yes e ↦ rw e (getD-set-same out i (plainMarks (recordAt rs (getD ps i 0)) xs) 0 fit ∙ mask-plainly i l)
-      | no d ↦ getD-set-other out i j (plainMarks (recordAt rs (getD ps i 0)) xs) 0 d ∙ h j (omega (arith, d))
-    ]
+    -- the marks of those before the i-th are the first bits of its mask
+    row-is : (i : ℕ) → i < k → plainMarks (recordAt rs (getD ps i 0)) (setsIn rs ps i) ≡ mask i (conflictsIn xs i)
+    unfolding plainMarks
+    row-is i l =
+        let e = recordAt rs (getD ps i 0) in
+        let ms = setsIn rs ps i in
+        ap (λ (n : ℕ). mask n (λ j. doConflict (getD ms j noEdit) e)) (sets-length rs ps i (omega arith))
+        ∙ mask-same i (λ j. doConflict (getD ms j noEdit) e) (conflictsIn xs i)
+        (λ j m. rw (set-place rs ps i (omega arith) j m)
+        (conflict-symmetric (recordAt rs (getD ps j 0)) e ∙ sym (conflict-at i j l (omega arith))))
+
+    pub row-small : (i : ℕ) → i < k → plainMarks (recordAt rs (getD ps i 0)) (setsIn rs ps i) < 2 ^ i
+    row-small i l = rw (row-is i l) (mask-below i (conflictsIn xs i))
+
+    -- one mask more, marked in those before it
+    module _ (i : ℕ) (l : i < k) (row : ℕ) (its : row ≡ plainMarks (recordAt rs (getD ps i 0)) (setsIn rs ps i))
+        (before after : List ℕ) (h : MaskedFirst i xs before)
+        (marks : (j : ℕ) → j < i → getD after j 0 ≡ withMark i row j (getD before j 0))
+        (own : getD after i 0 ≡ row) where
+      pub masked-more : MaskedFirst (i + 1) xs after
+      masked-more j m = elim (last {i = j} {n = i} (omega arith)) [
+        | inl q ↦ rw (add-one i)
+            (marks j q
+            ∙ ap₂ (λ (b : Bool) (g : ℕ). cond b (bitOr g (2 ^ i)) g)
+            (ap (λ (g : ℕ). bit g j) (its ∙ row-is i l)
+            ∙ mask-bit i (conflictsIn xs i) j q ∙ conflicts-turned xs i j) (h j q)
+            ∙ sym (mask-by-or i (conflictsIn xs j)))
+        | inr q ↦ rw (q, add-one i)
+            (own ∙ its ∙ row-is i l
+            ∙ sym (mask-by-or i (conflictsIn xs i)
+            ∙ rw (conflict-at i i l l ∙ conflict-irreflexive (recordAt rs (getD ps i 0)))))
+      ]
 
   -- ---- what the masks of all of them tell
 

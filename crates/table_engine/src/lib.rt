@@ -42,7 +42,8 @@ fn put_plainly(recs: &[u8], places: &[u16], k: usize, masks: &mut [u64])
 {
     let mut i: usize = 0;
     while i < k {
-        masks[i] = table_index::marks_at(recs, places, k, places[i]);
+        let row = table_index::marks_at(recs, places, i, places[i]);
+        group_limited::put_row(masks, i, row);
         i += 1;
     }
 }

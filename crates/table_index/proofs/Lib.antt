@@ -1,5 +1,8 @@
 pub mod PlacesOfSets
+pub mod MarksInPlaces
+pub mod ChainsOfSets
+pub mod ChainsOneMore
 pub mod OneRecordMore
 pub mod SameEdits
-pub mod MarksInPlaces
 pub mod SurveyByIndex
+pub mod ArrivingSet

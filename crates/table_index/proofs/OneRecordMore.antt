@@ -1,52 +1,61 @@
--- One record more in the index: a Create gets the next number and a row with no places yet, a Set's place is put behind
--- those of its object, and any other has its place alone. Assumes that the records pass and are within the limits.
+-- One record more in the index: a Create gets the next number and has no Sets yet, a Set is counted and stands at the
+-- head of its chain, and any other has its place alone. Assumes that the records pass and are within the limits.
 use mathlib.Core.Path.{_≡_, refl, sym, ap, _∙_}
-use mathlib.Core.Logic.{_⊎_, inl, inr}
+use mathlib.Core.Logic.{inl, inr}
 use mathlib.Core.Bool.{true, false, cond}
 use mathlib.Core.List.{List, [], _∷_, _++_}
-use Prim.Native.Nat.{ℕ, suc, _+_, _*_, _≤_, _<_}
+use Prim.Native.Nat.{ℕ, suc, _+_, _≤_, _<_}
 use native.Mathlib.Omega.{arith}
 use native.Mathlib.Decide.{ℕ-discrete}
 use lib.Dec.{eqb}
-use lib.ListN.{length, getD, set, replicate, length-set, length-append, List·getD-append}
-use lib.Seq.{getD-set-same, getD-set-other, getD-append-seam}
+use lib.ListN.{length, getD, set, replicate, length-set, length-append}
+use lib.Seq.{getD-set-same, getD-set-other}
 use borrow.Author.Tests.{eqb-true, eq-eqb}
 use Rattle.math_lists.specs.SortedLists.{filter}
 use Rattle.math_lists.proofs.Booleans.{clash, off, both, and-on}
 use Rattle.math_lists.proofs.LastBelow.{last}
 use Rattle.math_lists.proofs.NumbersBelow.{all-at, all-on}
 use Rattle.math_lists.proofs.ByPlaces.{zero-anywhere}
-use Rattle.edit_record.specs.Layout.{mostSites}
+use Rattle.edit_record.specs.Layout.{mostSites, keys}
 use Rattle.edit_record.specs.Answer1.{isCreate, isSet}
 use Rattle.edit_causal.specs.Causal.{sameEdit}
 use Rattle.edit_history.specs.EditsHeld.{mostRecords, recordAt, editsOf, creates, isSetOn, setsOn}
 use Rattle.edit_history.specs.Answers2to5.{passes, recordsPass}
 use Rattle.edit_walk.specs.WalkForms.{placesLength, slotOf, placeOf, Indexed, Spaced, SameStarts, countIn}
 use Rattle.edit_history.proofs.EditsHeld.{target-parts, create-less, chosen-grow, chosen-more}
-use Rattle.edit_history.proofs.RecordsPassed.{one-place, target-before, set-after}
+use Rattle.edit_history.proofs.RecordsPassed.{formed-at, one-place, target-before, set-after}
 use Rattle.edit_walk.proofs.WalkKeeps.{slot-low, starts-same, indexed-more}
 use Rattle.group_step.specs.GroupRows.{mostObjects, mostSets}
 use Rattle.table_drawing.specs.declared.Counters.{Counters}
-use Rattle.table_index.specs.IndexForms.{numberAt, isOn, placesOn, membersLength, IndexOf, Holds}
+use Rattle.table_index.specs.IndexForms.{numberAt, isOn, placesOn, headAt, limitAt, chainsLength, linkedIn}
+use Rattle.table_index.specs.IndexForms.{IndexOf, Holds}
 use Rattle.table_index.proofs.PlacesOfSets.{places-added, places-stay, places-none, places-length, one-number}
-use Rattle.edit_record.proofs.WellFormed.{create-not-set, set-aimed}
+use Rattle.table_index.proofs.ChainsOneMore.{chains-stay, chains-linked}
+use Rattle.edit_record.proofs.WellFormed.{create-not-set, set-not-create, set-aimed}
 
 -- ---- the start
 
 pub index-starts :
-    (rs ps ns ms : List ℕ) → length ps ≡ placesLength → length ns ≡ mostRecords → length ms ≡ membersLength →
-    IndexOf rs 0 ps ns (replicate mostObjects 0) ms
-index-starts rs ps ns ms a b d =
+    (rs ps ns : List ℕ) → length ps ≡ placesLength → length ns ≡ mostRecords →
+    IndexOf rs 0 ps ns (replicate mostObjects 0) (replicate chainsLength 0)
+index-starts rs ps ns a b =
     record {
       places-long = a;
       numbers-long = b;
       counts-long = refl;
-      members-long = d;
       indexed = λ p l. absurd (omega arith);
       numbered = λ p l. absurd (omega arith);
       counted = λ p l. absurd (omega arith);
-      rows = λ p l. absurd (omega arith);
       fresh = λ o l. zero-anywhere mostObjects o;
+      chained = record {
+        chains-long = refl;
+        latest = λ q l. absurd (omega arith);
+        linked = λ q p l. absurd (omega arith);
+        ranked = λ q p l. absurd (omega arith);
+        limited = λ q l. absurd (omega arith);
+        no-heads = λ o y l k j. zero-anywhere chainsLength (headAt o y);
+        no-limits = λ o l k. zero-anywhere chainsLength (limitAt o);
+      };
     }
 
 pub none-numbered : (rs : List ℕ) → 0 ≡ numberAt rs 0
@@ -105,7 +114,7 @@ module _ (c : Counters) (rs : List ℕ) (h : Holds c rs) (n : ℕ) (l : n < c .r
         h .few-sets s q,
       )
 
-  module _ (ps ns cs ms : List ℕ) (x : IndexOf rs n ps ns cs ms) (spaced : Spaced (countIn rs (suc n)) ps) where
+  module _ (ps ns cs hs : List ℕ) (x : IndexOf rs n ps ns cs hs) (spaced : Spaced (countIn rs (suc n)) ps) where
     abbrev at : ℕ
     at = slotOf ps (recordAt rs n .site .0) (recordAt rs n .seq .0)
 
@@ -134,20 +143,18 @@ module _ (c : Counters) (rs : List ℕ) (h : Holds c rs) (n : ℕ) (l : n < c .r
     -- ---- neither a Create nor a Set
 
     pub place-added :
-        isCreate (recordAt rs n) ≡ false → isSet (recordAt rs n) ≡ false → IndexOf rs (suc n) (set ps at n) ns cs ms
+        isCreate (recordAt rs n) ≡ false → isSet (recordAt rs n) ≡ false → IndexOf rs (suc n) (set ps at n) ns cs hs
     place-added d e =
         record {
           places-long = simp length-set (x .places-long);
           numbers-long = x .numbers-long;
           counts-long = x .counts-long;
-          members-long = x .members-long;
           indexed = placed;
           numbered = λ p k cp. x .numbered p (before p k cp) cp;
           counted = λ p k cp. x .counted p (before p k cp) cp ∙ ap length (sym (places-stay rs p n (not-on e p)));
-          rows = λ p k cp i j.
-              let same = places-stay rs p n (not-on e p) in
-              x .rows p (before p k cp) cp i (rw same at j) ∙ ap (λ (y : List ℕ). getD y i 0) (sym same);
           fresh = λ o k. x .fresh o (omega (arith, numbers-grow));
+          chained =
+              chains-stay rs n ns hs (x .chained) numbers-grow ns (λ p l. refl) (not-on e) (λ create. clash create d);
         }
       where
         before : (p : ℕ) → p < suc n → isCreate (recordAt rs p) ≡ true → p < n
@@ -160,21 +167,18 @@ module _ (c : Counters) (rs : List ℕ) (h : Holds c rs) (n : ℕ) (l : n < c .r
       no-set = create-not-set (recordAt rs n) create
 
       -- no Set can have named it
-      none-on : placesOn rs (suc n) n ≡ []
-      none-on =
-          places-none rs n (suc n)
-          (λ q k. off (isOn rs n q) (λ on. elim (last k) [
-            | inl m ↦ omega (arith, set-after (c .sites) rs (c .records) (h .pass) n q l (omega arith) on)
-            | inr e ↦ clash (rw e at on) (not-on no-set n)
-          ]))
+      none-named : (p : ℕ) → p < suc n → isOn rs n p ≡ false
+      none-named p k = off (isOn rs n p) (λ on. elim (last k) [
+        | inl m ↦ omega (arith, set-after (c .sites) rs (c .records) (h .pass) n p l (omega arith) on)
+        | inr e ↦ clash (rw e at on) (not-on no-set n)
+      ])
 
-      pub create-added : IndexOf rs (suc n) (set ps at n) (set ns n (numberAt rs n)) cs ms
+      pub create-added : IndexOf rs (suc n) (set ps at n) (set ns n (numberAt rs n)) cs hs
       create-added =
           record {
             places-long = simp length-set (x .places-long);
             numbers-long = simp length-set (x .numbers-long);
             counts-long = x .counts-long;
-            members-long = x .members-long;
             indexed = placed;
             numbered = λ p k cp. elim (last k) [
               | inl m ↦ getD-set-other ns n p (numberAt rs n) 0 (λ e. absurd (omega arith)) ∙ x .numbered p m cp
@@ -184,19 +188,17 @@ module _ (c : Counters) (rs : List ℕ) (h : Holds c rs) (n : ℕ) (l : n < c .r
             ];
             counted = λ p k cp. elim (last k) [
               | inl m ↦ x .counted p m cp ∙ ap length (sym (places-stay rs p n (not-on no-set p)))
-              | inr e ↦ rw (e, none-on) (x .fresh (numberAt rs n) (omega arith))
-            ];
-            rows = λ p k cp i j. elim (last k) [
-              | inl m ↦
-                  (let same = places-stay rs p n (not-on no-set p) in
-                  x .rows p m cp i (rw same at j) ∙ ap (λ (y : List ℕ). getD y i 0) (sym same))
-              | inr e ↦ absurd (none-short (rw e at j))
+              | inr e ↦ rw (e, places-none rs n (suc n) none-named) (x .fresh (numberAt rs n) (omega arith))
             ];
             fresh = λ o k. x .fresh o (omega (arith, numbers-grow));
+            chained =
+                chains-stay rs n ns hs (x .chained) numbers-grow (set ns n (numberAt rs n))
+                (λ p k. getD-set-other ns n p (numberAt rs n) 0 (λ e. absurd (omega arith))) (not-on no-set)
+                (λ y. (
+                  none-named,
+                  omega (arith, create-less rs n (suc n) (omega arith) create, numbers-few (suc n) l),
+                ));
           }
-        where
-          none-short : {i : ℕ} → i < length (placesOn rs (suc n) n) → ⊥
-          none-short j = let e = ap length none-on in omega arith
 
     -- ---- a Set
 
@@ -249,39 +251,58 @@ module _ (c : Counters) (rs : List ℕ) (h : Holds c rs) (n : ℕ) (l : n < c .r
 
       -- the others stay as they are
       other : (p : ℕ) → p < n → isCreate (recordAt rs p) ≡ true → (p ≡ q → ⊥) →
-          (placesOn rs (suc n) p ≡ placesOn rs n p) × (numberAt rs p ≡ o → ⊥)
+          (isOn rs p n ≡ false) × (numberAt rs p ≡ o → ⊥)
       other p j cp d = (
-        places-stay rs p n (off (isOn rs p n) (λ y.
+        off (isOn rs p n) (λ y.
             let (s, a, b) = on-target p n y in
             let (s′, a′, b′) = on-target q n on in
             d (one-place (c .sites) rs (c .records) (h .pass) p q (omega arith) (omega arith) (sym a ∙ a′)
-            (sym b ∙ b′)))),
+            (sym b ∙ b′))),
         λ e. d (one-number rs p q cp create e),
       )
 
       is-set : isSet (recordAt rs n) ≡ true
       is-set = on-target q n on .0
 
-      newer : {A : Type 0} {p : ℕ} → p ≡ n → isCreate (recordAt rs p) ≡ true → A
-      newer e cp = clash is-set (create-not-set (recordAt rs n) (rw e at cp))
+      no-create : isCreate (recordAt rs n) ≡ false
+      no-create = set-not-create (recordAt rs n) is-set
 
-      pub set-added : IndexOf rs (suc n) (set ps at n) ns (set cs o (k + 1)) (set ms (o * mostSets + k) n)
+      newer : {A : Type 0} {p : ℕ} → p ≡ n → isCreate (recordAt rs p) ≡ true → A
+      newer e cp = clash (rw e at cp) no-create
+
+      older-few :
+          (p : ℕ) → p < n → isCreate (recordAt rs p) ≡ true →
+          (numberAt rs p < mostObjects) × (numberAt rs p < numberAt rs n)
+      older-few p j cp =
+          let less = create-less rs p n j cp in
+          (omega (arith, numbers-few n (omega arith)), less)
+
+      pub key-low : recordAt rs n .key < keys
+      key-low = formed-at (c .sites) rs (c .records) (h .pass) n l .key
+
+      pub set-added :
+          IndexOf rs (suc n) (set ps at n) (set ns n k) (set cs o (k + 1))
+          (linkedIn hs n o (recordAt rs n .kind) (recordAt rs n .key))
       set-added =
           record {
             places-long = simp length-set (x .places-long);
-            numbers-long = x .numbers-long;
+            numbers-long = simp length-set (x .numbers-long);
             counts-long = simp length-set (x .counts-long);
-            members-long = simp length-set (x .members-long);
             indexed = placed;
-            numbered = λ p j cp. elim (last j) [ inl i ↦ x .numbered p i cp | inr e ↦ newer e cp ];
+            numbered = λ p j cp. elim (last j) [
+              | inl i ↦ getD-set-other ns n p k 0 (λ e. absurd (omega arith)) ∙ x .numbered p i cp
+              | inr e ↦ newer e cp
+            ];
             counted = λ p j cp. elim (last j) [ inl i ↦ counted-at p i cp (ℕ-discrete p q) | inr e ↦ newer e cp ];
-            rows = λ p j cp i b.
-                elim (last j) [ inl y ↦ row-at p y cp i b (ℕ-discrete p q) | inr e ↦ newer e cp ];
             fresh = λ p j.
                 getD-set-other cs o p (k + 1) 0
                 (λ e. absurd
                 (omega (arith, create-less rs q n m create, numbers-grow)))
                 ∙ x .fresh p (omega (arith, numbers-grow));
+            chained =
+                rw count
+                (chains-linked rs n ns hs (x .chained) numbers-grow q m on no-create create older-few other key-low
+                (omega (arith, h .few-records)) (omega (arith, x .numbers-long, h .few-records)));
           }
         where
           counted-at :
@@ -293,33 +314,4 @@ module _ (c : Counters) (rs : List ℕ) (h : Holds c rs) (n : ℕ) (l : n < c .r
           counted-at p j cp (no d) =
               getD-set-other cs o (numberAt rs p) (k + 1) 0 (other p j cp d .1)
               ∙ x .counted p j cp
-              ∙ ap length (sym (other p j cp d .0))
-
-          row-at :
-              (p : ℕ) → p < n → isCreate (recordAt rs p) ≡ true → (i : ℕ) → i < length (placesOn rs (suc n) p) →
-              Dec (p ≡ q) →
-              getD (set ms (o * mostSets + k) n) (numberAt rs p * mostSets + i) 0 ≡ getD (placesOn rs (suc n) p) i 0
-          row-at p j cp i b (yes e) = rw e (own (last own-low))
-            where
-              own-low : i < suc k
-              own-low = omega (arith, grown-length, (rw e at b))
-
-              own : (i < k) ⊎ (i ≡ k) →
-                  getD (set ms (o * mostSets + k) n) (o * mostSets + i) 0 ≡ getD (placesOn rs (suc n) q) i 0
-              own (inl y) =
-                  getD-set-other ms (o * mostSets + k) (o * mostSets + i) n 0 (λ z. absurd (omega arith))
-                  ∙ x .rows q m create i (omega (arith, count))
-                  ∙ sym (List·getD-append (placesOn rs n q) (n ∷ []) 0 i (omega (arith, count)))
-                  ∙ ap (λ (y : List ℕ). getD y i 0) (sym grown)
-              own (inr y) =
-                  rw (y, getD-set-same ms (o * mostSets + k) n 0 (omega (arith, x .members-long, low, room)))
-                  (sym (ap (λ (z : ℕ). getD (placesOn rs n q ++ (n ∷ [])) z 0) count
-                  ∙ getD-append-seam (placesOn rs n q) n [] 0)
-                  ∙ ap (λ (z : List ℕ). getD z k 0) (sym grown))
-          row-at p j cp i b (no d) =
-              let (same, apart) = other p j cp d in
-              let short : i < length (placesOn rs n p) = rw same at b in
-              getD-set-other ms (o * mostSets + k) (numberAt rs p * mostSets + i) n 0
-              (λ z. apart (omega (arith, room, places-few n p (omega arith))))
-              ∙ x .rows p j cp i short
-              ∙ ap (λ (y : List ℕ). getD y i 0) (sym same)
+              ∙ ap length (sym (places-stay rs p n (other p j cp d .0)))

@@ -3,20 +3,19 @@
 use mathlib.Core.Path.{_≡_, refl, sym, ap, _∙_}
 use mathlib.Core.Bool.{Bool, true, false, cond}
 use mathlib.Core.List.{List, [], _∷_, _++_, map, map-append, append-nil}
-use Prim.Native.Nat.{ℕ, zero, suc, _+_, _*_, _≤_, _<_}
+use Prim.Native.Nat.{ℕ, zero, suc, _≤_, _<_}
 use native.Mathlib.Omega.{arith}
 use native.Mathlib.Decide.{decLt}
-use lib.ListN.{length, take, drop, length-map, length-drop}
-use lib.Seq.{ext-getD, getD-take, getD-drop, length-take-le}
+use lib.ListN.{length, length-map}
 use Rattle.math_lists.specs.NumbersBelow.{keep}
 use Rattle.math_lists.specs.SortedLists.{filter}
+use Rattle.math_lists.proofs.NumbersBelow.{keep-grow}
 use Rattle.math_lists.proofs.GrownAtEnd.{filter-snoc}
 use Rattle.edit_record.specs.declared.Edit.{Edit}
 use Rattle.edit_record.specs.Answer1.{isCreate}
 use Rattle.edit_history.specs.EditsHeld.{recordAt, editsOf, isSetOn, setsOn}
 use Rattle.edit_history.proofs.EditsHeld.{create-less}
-use Rattle.group_step.specs.GroupRows.{mostObjects, mostSets}
-use Rattle.table_index.specs.IndexForms.{numberAt, isOn, placesOn, IndexOf}
+use Rattle.table_index.specs.IndexForms.{numberAt, isOn, placesOn}
 
 -- ---- the Sets in the places
 
@@ -35,6 +34,10 @@ module _ (rs : List ℕ) (p : ℕ) where
   unfolding placesOn keep
   places-none zero h = refl
   places-none (suc n) h = places-stay n (h n (omega arith)) ∙ places-none n (λ q l. h q (omega arith))
+
+  pub places-grow : (m n : ℕ) → m ≤ n → length (placesOn rs m p) ≤ length (placesOn rs n p)
+  unfolding placesOn
+  places-grow m n l = keep-grow (isOn rs p) m n l
 
   pub places-sets :
       (n : ℕ) → map (recordAt rs) (placesOn rs n p) ≡ setsOn (recordAt rs p .site) (recordAt rs p .seq) (editsOf rs n)
@@ -68,22 +71,3 @@ one-number rs p q cp cq e = go (decLt p q) (decLt q p)
     go (yes l) w = absurd (omega (arith, create-less rs p q l cp))
     go (no a) (yes l) = absurd (omega (arith, create-less rs q p l cq))
     go (no a) (no b) = omega arith
-
--- ---- the rows of places
-
--- the row of the Create in place q has its places
-pub row-places :
-    (rs : List ℕ) (n : ℕ) (ps ns cs ms : List ℕ) → IndexOf rs n ps ns cs ms →
-    (q : ℕ) → q < n → isCreate (recordAt rs q) ≡ true → length (placesOn rs n q) ≤ mostSets →
-    numberAt rs q < mostObjects →
-    (length (placesOn rs n q) ≤ length (drop (numberAt rs q * mostSets) ms))
-    × (take (length (placesOn rs n q)) (drop (numberAt rs q * mostSets) ms) ≡ placesOn rs n q)
-row-places rs n ps ns cs ms x q l create few low =
-    let k = length (placesOn rs n q) in
-    let at = numberAt rs q * mostSets in
-    let room : k ≤ length (drop at ms) = simp length-drop (omega (arith, x .members-long)) in
-    let long = length-take-le k (drop at ms) room in (
-      room,
-      ext-getD 0 (take k (drop at ms)) (placesOn rs n q) long (λ i b.
-          getD-take k (drop at ms) i 0 (omega arith) ∙ getD-drop at ms i 0 ∙ x .rows q l create i (omega arith)),
-    )

@@ -3,38 +3,31 @@
 use mathlib.Core.Path.{_≡_, refl, sym, ap, ap₂, _∙_}
 use mathlib.Core.Logic.{_⊎_, inl, inr}
 use mathlib.Core.Bool.{Bool, true, false, not, _&&_, _||_, cond}
-use mathlib.Core.List.{List, [], _∷_, map}
-use Prim.Native.Nat.{ℕ, zero, suc, _+_, _*_, _≤_, _<_}
+use mathlib.Core.List.{List, map}
+use Prim.Native.Nat.{ℕ, zero, suc, _+_, _≤_, _<_}
 use native.Mathlib.Omega.{arith}
-use lib.Dec.{eqb}
-use lib.ListN.{length, getD, take, drop}
-use borrow.Author.Tests.{eqb-true, not-true}
+use lib.ListN.{length, getD}
 use Rattle.math_lists.specs.SortedLists.{any, filter}
-use Rattle.math_lists.proofs.Booleans.{clash, off, both, neither}
+use Rattle.math_lists.proofs.Booleans.{clash, off}
 use Rattle.math_lists.proofs.LastBelow.{last}
 use Rattle.edit_record.specs.declared.Site.{Site}
 use Rattle.edit_record.specs.declared.Seq.{Seq}
 use Rattle.edit_record.specs.declared.Edit.{Edit}
 use Rattle.edit_record.specs.Layout.{mostSites}
-use Rattle.edit_record.specs.Answer1.{isCreate, isSet, unfit}
-use Rattle.edit_record.proofs.WellFormed.{well-formed, create-aims-nowhere, set-aimed}
-use Rattle.edit_causal.specs.Causal.{sameEdit}
+use Rattle.edit_record.specs.Answer1.{isCreate, isLimited}
 use Rattle.edit_causal.proofs.Identities.{same-site, same-seq}
-use Rattle.edit_causal.proofs.PlainMarks.{none-marked}
-use Rattle.edit_history.specs.EditsHeld.{recordAt, editsOf, creates, isSetOn, setsOn, isTarget, indexOf, objectOf}
+use Rattle.edit_history.specs.EditsHeld.{recordAt, editsOf, creates, setsOn, isTarget, indexOf, objectOf}
 use Rattle.edit_history.specs.Answers2to5.{isTorn}
-use Rattle.edit_history.specs.SurveyForms.{repeatedAgainst, earlyAgainst, surveyOf}
-use Rattle.edit_walk.specs.WalkForms.{placeOf, Indexed, tornByNews, targetHeld, inTurnAgainst}
-use Rattle.edit_history.proofs.EditsHeld.{target-parts, any-edit-on, any-edit-at, chosen-more, create-less, object-snoc}
-use Rattle.edit_history.proofs.ByCounts.{repeated-against, early-against}
-use Rattle.edit_history.proofs.RecordsPassed.{InTurn, in-turn, formed-at, one-place, target-before}
+use Rattle.edit_history.specs.SurveyForms.{surveyOf}
+use Rattle.edit_walk.specs.WalkForms.{placeOf, Indexed, targetHeld, inTurnAgainst}
+use Rattle.edit_history.proofs.EditsHeld.{target-parts, any-edit-on, any-edit-at, chosen-more, object-snoc}
+use Rattle.edit_history.proofs.RecordsPassed.{InTurn, one-place}
 use Rattle.edit_walk.proofs.LatestDecides.{target-same}
-use Rattle.edit_walk.proofs.NewsDecide.{news-same}
-use Rattle.group_step.specs.GroupRows.{mostObjects, mostSets}
+use Rattle.edit_walk.proofs.NewsDecide.{turn-against}
 use Rattle.table_drawing.specs.declared.Counters.{Counters}
-use Rattle.table_index.specs.IndexForms.{numberAt, placesOn, IndexOf, Holds, matesOf}
+use Rattle.table_index.specs.IndexForms.{numberAt, placesOn, limitAt, limitedOn, IndexOf, Holds, matesOf}
 use Rattle.table_index.specs.declared.Mates.{Mates}
-use Rattle.table_index.proofs.PlacesOfSets.{places-sets, places-length, row-places}
+use Rattle.table_index.proofs.PlacesOfSets.{places-sets, places-length}
 
 module _ (c : Counters) (rs : List ℕ) (h : Holds c rs) where
   abbrev n : ℕ
@@ -121,21 +114,9 @@ module _ (c : Counters) (rs : List ℕ) (h : Holds c rs) where
   -- ---- an edit to which none of 1 to 3 applies
 
   pub turn : (e : Edit) → inTurnAgainst (c .sites) (c .held) e ≡ true → InTurn (c .sites) es e
-  unfolding inTurnAgainst
-  turn e y =
-      let u = unfit (c .sites) e in
-      let r = repeatedAgainst (c .held) e in
-      let a = earlyAgainst (c .held) e in
-      let (ur, early) = neither (u || r) a (not-true (u || r || a) y) in
-      let (fit, repeated) = neither u r ur in
-      let low : e .site .0 < mostSites = omega (arith, well-formed (c .sites) e fit .site, h .few-sites) in
-      in-turn (c .sites) es e fit (sym (repeated-against (c .held) es (h .held) e low) ∙ repeated)
-      (sym (early-against (c .held) es (h .held) e low) ∙ early)
+  turn e y = turn-against (c .sites) (h .few-sites) (c .held) es (h .held) e y
 
   module _ (ps : List ℕ) (ix : Indexed rs n ps) where
-    pub torn-is : (e : Edit) → InTurn (c .sites) es e → tornByNews rs ps (e .vector) (e .site) ≡ isTorn es e
-    torn-is e t = news-same (c .sites) (h .few-sites) rs n (h .pass) ps ix e t
-
     pub held-is :
         (e : Edit) → length (c .held) ≡ mostSites → targetHeld (c .held) rs ps e ≡ any (isTarget e) es
     held-is e long = target-same (c .sites) (h .few-sites) rs n (h .pass) ps ix (c .held) long (h .held) e
@@ -169,8 +150,8 @@ module _
     (c : Counters)
     (rs : List ℕ)
     (h : Holds c rs)
-    (ps ns cs ms : List ℕ)
-    (x : IndexOf rs (c .records) ps ns cs ms) where
+    (ps ns cs hs : List ℕ)
+    (x : IndexOf rs (c .records) ps ns cs hs) where
   abbrev edits : List Edit
   edits = editsOf rs (c .records)
 
@@ -178,37 +159,31 @@ module _
   pub record Aimed (e : Edit) (q : ℕ) : Type 0 where
     pub low : q < (c .records)
     pub target : isTarget e (recordAt rs q) ≡ true
-    pub number : getD ns q 0 ≡ objectOf e edits
-    pub few : objectOf e edits < mostObjects
-    pub count : getD cs (objectOf e edits) 0 ≡ length (setsOn (e .tsite) (e .tseq) edits)
-    pub sets :
-        map (recordAt rs) (take (getD cs (objectOf e edits) 0) (drop (objectOf e edits * mostSets) ms))
-        ≡ setsOn (e .tsite) (e .tseq) edits
+    pub number : getD ns q 0 ≡ numberAt rs q
+    pub count : getD cs (numberAt rs q) 0 ≡ length (setsOn (e .tsite) (e .tseq) edits)
+    pub sets : map (recordAt rs) (placesOn rs (c .records) q) ≡ setsOn (e .tsite) (e .tseq) edits
+    pub limits :
+        getD hs (limitAt (numberAt rs q)) 0 ≡ cond (any isLimited (setsOn (e .tsite) (e .tseq) edits)) 1 0
 
   module _ (e : Edit) (held : any (isTarget e) edits ≡ true) where
     at-place : (q : ℕ) → q < (c .records) → isTarget e (recordAt rs q) ≡ true → Aimed e q
+    unfolding limitedOn
     at-place q l t =
         let parts = target-parts e (recordAt rs q) t in
-        let o = objectOf e edits in
-        let is : o ≡ numberAt rs q = object-is c rs h e q l t in
         let same : setsOn (recordAt rs q .site) (recordAt rs q .seq) edits ≡ setsOn (e .tsite) (e .tseq) edits
         = ap₂ (λ (s : Site) (p : Seq). setsOn s p edits) (same-site (recordAt rs q .site) (e .tsite) (parts .site))
         (same-seq (recordAt rs q .seq) (e .tseq) (parts .seq)) in
-        let many : getD cs o 0 ≡ length (placesOn rs (c .records) q) = rw is (x .counted q l (parts .create)) in
-        let less : o < mostObjects
-        = omega (arith, create-less rs q (c .records) l (parts .create), h .objects, h .few-objects) in
-        let few : getD cs o 0 ≤ mostSets
-        = omega (arith, places-length rs q (c .records), h .few-sets (recordAt rs q .site) (recordAt rs q .seq)) in
-        let part : take (getD cs o 0) (drop (o * mostSets) ms) ≡ placesOn rs (c .records) q
-        = rw (many, is)
-        (row-places rs (c .records) ps ns cs ms x q l (parts .create) (omega arith) (omega (arith, is)) .1) in
+        let all : map (recordAt rs) (placesOn rs (c .records) q) ≡ setsOn (e .tsite) (e .tseq) edits
+        = places-sets rs q (c .records) ∙ same in
         record {
           low = l;
           target = t;
-          number = x .numbered q l (parts .create) ∙ sym is;
-          few = less;
-          count = many ∙ places-length rs q (c .records) ∙ ap length same;
-          sets = ap (map (recordAt rs)) part ∙ places-sets rs q (c .records) ∙ same;
+          number = x .numbered q l (parts .create);
+          count = x .counted q l (parts .create) ∙ places-length rs q (c .records) ∙ ap length same;
+          sets = all;
+          limits =
+              x .chained .limited q l (parts .create)
+              ∙ ap (λ (ms : List Edit). cond (any isLimited ms) 1 0) all;
         }
 
     pub aimed : Aimed e (placeOf ps (e .tsite .0) (e .tseq .0))

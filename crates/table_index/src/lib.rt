@@ -1,8 +1,10 @@
 // The index of a drawing's records: where each edit stands, the number of each Create's object, and for each object how
-// many Sets it has and where they stand. By it an arriving edit is surveyed without being held against every record.
+// many Sets it has and a chain of those of each key. By it an arriving edit is surveyed without being held against
+// every record: a Set is held against those of its own key alone, from the latest one back.
+pub mod chain;
+
 use edit_history::Surveyed;
 use edit_record::AT_KEY;
-use edit_record::AT_SITE;
 use edit_record::AT_TARGET;
 use edit_record::AT_TARGET_SEQ;
 use edit_record::CREATE;
@@ -11,8 +13,6 @@ use edit_record::PLACE;
 use edit_record::RECORD;
 use edit_record::Seq;
 use edit_record::Site;
-use group_step::OBJECTS;
-use group_step::SETS;
 use table_drawing::Counters;
 use table_drawing::entries::at16;
 ghost use mathlib.Core.Path.{_≡_};
@@ -20,7 +20,7 @@ ghost use mathlib.Core.Bool.{true};
 ghost use Prim.Native.Nat.{_+_, _*_, _≤_, _<_};
 ghost use lib.ListN.{length, getD, set, replicate};
 ghost use Rattle.math_lists.specs.SortedLists.{any};
-ghost use Rattle.edit_record.specs.Layout.{mostSites, recordLength};
+ghost use Rattle.edit_record.specs.Layout.{mostSites, keys, recordLength, placeLength};
 ghost use Rattle.edit_record.specs.RecordBytes.{decodeOf};
 ghost use Rattle.edit_causal.specs.Conflict.{doConflict};
 ghost use Rattle.edit_causal.specs.ConflictForms.{plainMarks};
@@ -31,10 +31,8 @@ ghost use Rattle.edit_walk.specs.WalkForms.{placesLength, Spaced, SameStarts, c
 ghost use Rattle.group_step.specs.GroupRows.{mostObjects, mostSets};
 ghost use Rattle.group_limited.specs.LimitedForms.{setsIn};
 ghost use Rattle.table_drawing.specs.declared.Counters.{Counters};
-ghost use Rattle.table_index.specs.IndexForms.{numberAt, membersLength, IndexOf, Holds, matesOf};
-
-// The entries of all rows of places.
-pub const MEMBERS: usize = OBJECTS * SETS;
+ghost use Rattle.table_index.specs.IndexForms.{numberAt, chainsLength, IndexOf, Holds, matesOf};
+ghost use Rattle.table_index.specs.IndexForms.{linkedIn};
 
 // Of the Sets of an object, those that conflict with an edit by document 01's rule, and whether one is limited.
 pub struct Mates {
@@ -48,19 +46,31 @@ pub struct Aim {
     pub held: bool,
 }
 
-// Puts the place p behind those of the Sets of object o.
-fn add_set(p: usize, o: usize, counts: &mut [u16], members: &mut [u16])
+// Puts the Set in place p, of this kind and key, into its chain of object o, and counts it.
+fn add_set(
+    p: usize,
+    o: usize,
+    kind: u8,
+    key: u8,
+    numbers: &mut [u8],
+    counts: &mut [u16],
+    chains: &mut [u8],
+)
     requires { ⌜ (p < mostRecords)
         × (o < mostObjects)
+        × (key < keys)
+        × (length (now numbers) ≡ mostRecords)
         × (length (now counts) ≡ mostObjects)
-        × (length (now members) ≡ membersLength)
+        × (length (now chains) ≡ chainsLength)
         × (getD (now counts) o 0 < mostSets) ⌝ }
-    ensures { λ r. ⌜ (now (counts .exit) ≡ set (now (counts .entry)) o (getD (now (counts .entry)) o 0 + 1))
-        × (now (members .exit) ≡ set (now (members .entry)) (o * mostSets + getD (now (counts .entry)) o 0) p) ⌝ }
+    ensures { λ r. ⌜ (now (numbers .exit) ≡ set (now (numbers .entry)) p (getD (now (counts .entry)) o 0))
+        × (now (counts .exit) ≡ set (now (counts .entry)) o (getD (now (counts .entry)) o 0 + 1))
+        × (now (chains .exit) ≡ linkedIn (now (chains .entry)) p o kind key) ⌝ }
 {
     let k = counts[o];
-    members[o * SETS + k as usize] = p as u16;
+    numbers[p] = k as u8;
     counts[o] = k + 1;
+    chain::link_set(p, o, kind, key, chains);
 }
 
 // Puts the record in place p into the index of those before it, of which m are Creates, and which has room for it; says
@@ -70,16 +80,16 @@ pub fn add(
     p: usize,
     m: u16,
     places: &mut [u16],
-    numbers: &mut [u16],
+    numbers: &mut [u8],
     counts: &mut [u16],
-    members: &mut [u16],
+    chains: &mut [u8],
 ) -> u16
     requires { ⌜ ((c : Counters) × Holds c (now recs) × (p < c .records))
-        × IndexOf (now recs) p (now places) (now numbers) (now counts) (now members)
+        × IndexOf (now recs) p (now places) (now numbers) (now counts) (now chains)
         × (m ≡ numberAt (now recs) p)
         × Spaced (countIn (now recs) (p + 1)) (now places) ⌝ }
     ensures { λ r. ⌜ IndexOf (now (recs .entry)) (p + 1) (now (places .exit)) (now (numbers .exit))
-        (now (counts .exit)) (now (members .exit))
+        (now (counts .exit)) (now (chains .exit))
         × (r ≡ numberAt (now (recs .entry)) (p + 1))
         × SameStarts (now (places .entry)) (now (places .exit)) ⌝ }
 {
@@ -87,7 +97,7 @@ pub fn add(
     places[at] = p as u16;
     let kind = edit_history::kind_at(recs, p);
     if kind == CREATE {
-        numbers[p] = m;
+        numbers[p] = m as u8;
         return m + 1;
     }
     if !edit_record::is_set_kind(kind) {
@@ -95,7 +105,8 @@ pub fn add(
     }
     let q = edit_walk::target_place(recs, places, p);
     let o = numbers[q as usize];
-    add_set(p, o as usize, counts, members);
+    let key = edit_record::byte_at(recs, p * PLACE + AT_KEY);
+    add_set(p, o as usize, kind, key, numbers, counts, chains);
     m
 }
 
@@ -104,23 +115,23 @@ pub fn build(
     recs: &[u8],
     n: usize,
     places: &mut [u16],
-    numbers: &mut [u16],
+    numbers: &mut [u8],
     counts: &mut [u16],
-    members: &mut [u16],
+    chains: &mut [u8],
 )
     requires { ⌜ ((c : Counters) × Holds c (now recs) × (n ≡ c .records))
         × (length (now places) ≡ placesLength)
         × (length (now numbers) ≡ mostRecords)
         × (now counts ≡ replicate mostObjects 0)
-        × (length (now members) ≡ membersLength) ⌝ }
+        × (now chains ≡ replicate chainsLength 0) ⌝ }
     ensures { λ r. ⌜ IndexOf (now (recs .entry)) n (now (places .exit)) (now (numbers .exit))
-        (now (counts .exit)) (now (members .exit)) ⌝ }
+        (now (counts .exit)) (now (chains .exit)) ⌝ }
 {
     edit_walk::start_places(recs, n, places);
     let mut m: u16 = 0;
     let mut i: usize = 0;
     while i < n {
-        m = add(recs, i, m, places, numbers, counts, members);
+        m = add(recs, i, m, places, numbers, counts, chains);
         i += 1;
     }
 }
@@ -212,31 +223,34 @@ fn survey_held(
     c: Counters,
     recs: &[u8],
     places: &[u16],
-    numbers: &[u16],
+    numbers: &[u8],
     counts: &[u16],
-    members: &[u16],
+    chains: &[u8],
     rec: &[u8],
     torn: bool,
 ) -> Surveyed
     requires { ⌜ Holds c (now recs)
-        × IndexOf (now recs) (c .records) (now places) (now numbers) (now counts) (now members)
+        × (mostRecords * placeLength ≤ length (now recs))
+        × IndexOf (now recs) (c .records) (now places) (now numbers) (now counts) (now chains)
         × (recordLength ≤ length (now rec))
+        × (inTurnAgainst (c .sites) (c .held) (decodeOf (now rec)) ≡ true)
         × (any (isTarget (decodeOf (now rec))) (editsOf (now recs) (c .records)) ≡ true) ⌝ }
     ensures { λ r. ⌜ (torn ≡ isTorn (editsOf (now (recs .entry)) (c .records)) (decodeOf (now (rec .entry))) →
         r ≡ surveyOf (editsOf (now (recs .entry)) (c .records)) (decodeOf (now (rec .entry)))) ⌝ }
 {
     let seq = edit_record::pair_at(rec, AT_TARGET_SEQ);
-    let q = edit_walk::place_at(places, Site(rec[AT_TARGET]), Seq(seq));
-    let o = at16(numbers, q as usize) as usize;
-    let k = at16(counts, o) as usize;
-    let m = mates_in(recs, &members[o * SETS..], k, rec);
+    let q = edit_walk::place_at(places, Site(rec[AT_TARGET]), Seq(seq)) as usize;
+    let object = edit_record::byte_at(numbers, q) as usize;
+    let sets = at16(counts, object) as usize;
+    let plain = chain::marks_for(recs, c.records as usize, numbers, chains, q, rec);
+    let limited = edit_record::byte_at(chains, chain::LIMITS + object) != 0;
     Surveyed {
         torn,
         found: true,
-        object: o,
-        sets: k,
-        plain: m.plain,
-        limited: m.limited,
+        object,
+        sets,
+        plain,
+        limited,
     }
 }
 
@@ -252,8 +266,7 @@ pub fn aim_of(c: Counters, recs: &[u8], places: &[u16], rec: &[u8]) -> Aim
         ≡ any (isTarget (decodeOf (now (rec .entry)))) (editsOf (now (recs .entry)) (c .records))) ⌝ }
 {
     let counts = c.held;
-    let v = edit_record::vector_of(rec);
-    let torn = edit_walk::is_torn_by_news(recs, places, v, Site(rec[AT_SITE]));
+    let torn = edit_walk::next::is_torn_next(&counts, recs, places, c.records as usize, rec);
     let held = edit_walk::is_target_held(&counts, recs, places, rec);
     Aim { torn, held }
 }
@@ -263,13 +276,14 @@ pub fn survey(
     c: Counters,
     recs: &[u8],
     places: &[u16],
-    numbers: &[u16],
+    numbers: &[u8],
     counts: &[u16],
-    members: &[u16],
+    chains: &[u8],
     rec: &[u8],
 ) -> Surveyed
     requires { ⌜ Holds c (now recs)
-        × IndexOf (now recs) (c .records) (now places) (now numbers) (now counts) (now members)
+        × (mostRecords * placeLength ≤ length (now recs))
+        × IndexOf (now recs) (c .records) (now places) (now numbers) (now counts) (now chains)
         × (recordLength ≤ length (now rec))
         × (inTurnAgainst (c .sites) (c .held) (decodeOf (now rec)) ≡ true)
         × (length (c .held) ≡ mostSites) ⌝ }
@@ -280,5 +294,5 @@ pub fn survey(
     if !a.held {
         return edit_history::none_found(a.torn);
     }
-    survey_held(c, recs, places, numbers, counts, members, rec, a.torn)
+    survey_held(c, recs, places, numbers, counts, chains, rec, a.torn)
 }

@@ -79,9 +79,9 @@ module _
       holds t′ is
 
   pub index-on :
-      (ps ns cs ms : List ℕ) → IndexOf (t .records) (t .counters .records) ps ns cs ms →
-      IndexOf (t′ .records) (t .counters .records) ps ns cs ms
-  index-on ps ns cs ms x = index-same (t .records) (t′ .records) (t .counters .records) stay ps ns cs ms x
+      (ps ns cs hs : List ℕ) → IndexOf (t .records) (t .counters .records) ps ns cs hs →
+      IndexOf (t′ .records) (t .counters .records) ps ns cs hs
+  index-on ps ns cs hs x = index-same (t .records) (t′ .records) (t .counters .records) stay ps ns cs hs x
 
   pub numbered-on : t .counters .objects ≡ numberAt (t′ .records) (t .counters .records)
   numbered-on =

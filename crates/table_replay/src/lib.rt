@@ -8,7 +8,7 @@ use table_arrival::Arrived;
 use table_arrival::asked;
 use table_drawing::Answer;
 use table_drawing::Counters;
-use table_index::MEMBERS;
+use table_index::chain::CHAINS;
 ghost use mathlib.Core.Path.{_≡_};
 ghost use mathlib.Core.Bool.{true};
 ghost use Prim.Native.Nat.{_≤_};
@@ -38,17 +38,17 @@ fn take_next(
     objects: &mut [u16],
     groups: &mut [u64],
     places: &mut [u16],
-    numbers: &mut [u16],
+    numbers: &mut [u8],
     counts: &mut [u16],
-    members: &mut [u16],
+    chains: &mut [u8],
     rec: &[u8],
 ) -> Arrived
     requires { ⌜ Takes (tablesOf c (now records) (now objects) (now groups)) (now places) (now numbers) (now counts)
-        (now members) (now rec) ⌝ }
+        (now chains) (now rec) ⌝ }
     ensures { λ r. ⌜ Leaves (tablesOf c (now (records .entry)) (now (objects .entry)) (now (groups .entry)))
         (now (rec .entry)) (numberOf (r .answer))
         (tablesOf (r .counters) (now (records .exit)) (now (objects .exit)) (now (groups .exit)))
-        (now (places .entry)) (now (places .exit)) (now (numbers .exit)) (now (counts .exit)) (now (members .exit)) ⌝ }
+        (now (places .entry)) (now (places .exit)) (now (numbers .exit)) (now (counts .exit)) (now (chains .exit)) ⌝ }
 {
     let early = asked::one_to_three(c, rec);
     if table_drawing::number(early) != 0 {
@@ -57,7 +57,7 @@ fn take_next(
             counters: c,
         };
     }
-    let v = table_index::survey(c, records, places, numbers, counts, members, rec);
+    let v = table_index::survey(c, records, places, numbers, counts, chains, rec);
     let j = table_arrival::judge(records, c.records as usize, rec, v);
     let a = table_arrival::accept(c, records, objects, groups, rec, v, j, true);
     let answer = a.answer;
@@ -69,7 +69,7 @@ fn take_next(
             places,
             numbers,
             counts,
-            members,
+            chains,
         );
     }
     a
@@ -83,19 +83,19 @@ fn take_one(
     objects: &mut [u16],
     groups: &mut [u64],
     places: &mut [u16],
-    numbers: &mut [u16],
+    numbers: &mut [u8],
     counts: &mut [u16],
-    members: &mut [u16],
+    chains: &mut [u8],
     rest: &[u8],
     form: u8,
 ) -> Arrived
     requires { ⌜ Takes (tablesOf c (now records) (now objects) (now groups)) (now places) (now numbers) (now counts)
-        (now members) (longFrom form (now rest))
+        (now chains) (longFrom form (now rest))
         × (lengthFrom form (now rest) ≤ length (now rest)) ⌝ }
     ensures { λ r. ⌜ Leaves (tablesOf c (now (records .entry)) (now (objects .entry)) (now (groups .entry)))
         (longFrom form (now (rest .entry))) (numberOf (r .answer))
         (tablesOf (r .counters) (now (records .exit)) (now (objects .exit)) (now (groups .exit)))
-        (now (places .entry)) (now (places .exit)) (now (numbers .exit)) (now (counts .exit)) (now (members .exit)) ⌝ }
+        (now (places .entry)) (now (places .exit)) (now (numbers .exit)) (now (counts .exit)) (now (chains .exit)) ⌝ }
 {
     if form == OLD {
         let wide = edit_form::widened_from(rest);
@@ -107,7 +107,7 @@ fn take_one(
             places,
             numbers,
             counts,
-            members,
+            chains,
             &wide,
         );
     }
@@ -121,7 +121,7 @@ fn take_one(
         places,
         numbers,
         counts,
-        members,
+        chains,
         rec,
     )
 }
@@ -154,15 +154,15 @@ fn take_records(
     objects: &mut [u16],
     groups: &mut [u64],
     places: &mut [u16],
-    numbers: &mut [u16],
+    numbers: &mut [u8],
     counts: &mut [u16],
-    members: &mut [u16],
+    chains: &mut [u8],
     recs: &[u8],
     form: u8,
     n: usize,
 ) -> Taken
     requires { ⌜ (tablesOf empty (now records) (now objects) (now groups) ≡ emptyDrawing (empty .sites))
-        × IndexOf (now records) (empty .records) (now places) (now numbers) (now counts) (now members)
+        × IndexOf (now records) (empty .records) (now places) (now numbers) (now counts) (now chains)
         × Spaced (λ s. countFrom s (editsIn (storedIn form (now recs)) n)) (now places)
         × (sitesRight (empty .sites) ≡ true)
         × (n ≤ mostRecords)
@@ -185,7 +185,7 @@ fn take_records(
             places,
             numbers,
             counts,
-            members,
+            chains,
             rest,
             form,
         );
@@ -239,9 +239,9 @@ pub fn replay(
     let empty = opened.counters;
     // what work space holds at first does not matter; zeros would be set by memset (docs/DECISIONS.md, 24)
     let mut places = [1u16; PLACES];
-    let mut numbers = [1u16; RECORDS];
-    let mut members = [1u16; MEMBERS];
+    let mut numbers = [1u8; RECORDS];
     let mut counts = [0u16; OBJECTS];
+    let mut chains = [0u8; CHAINS];
     let by_site = count_stretch(recs, form, n);
     edit_walk::space_places(by_site, &mut places);
     take_records(
@@ -252,7 +252,7 @@ pub fn replay(
         &mut places,
         &mut numbers,
         &mut counts,
-        &mut members,
+        &mut chains,
         recs,
         form,
         n,

@@ -1,3 +1,6 @@
 pub mod NumbersFrom
 pub mod OneSetLinked
 pub mod Followed
+pub mod MarksByKey
+pub mod SetsTold
+pub mod DisputesByMarks

@@ -1,6 +1,8 @@
 // Where the Sets of each object stand, in one array of as many entries as there are records: the entry of a Create has
 // the place of the first Set on it, and the entry of a Set the place of the next one on the same Create. One pass over
 // the records makes this chain; then the Sets of an object are found without a look at those of others.
+pub mod by_key;
+
 use table_drawing::entries::at16;
 ghost use mathlib.Core.Path.{_≡_};
 ghost use Prim.Native.Nat.{_≤_, _<_};

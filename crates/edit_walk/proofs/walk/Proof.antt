@@ -34,11 +34,11 @@ loop-holds c =
     let a = c .before .before .before .before .before .before .args in
     (omega arith, walking-starts (a .sites) (now (a .recs)) _ (a .n) (c .before .before .start-places .ensures))
 
-slice-aggregate-is-passing-at : tie.Need-slice-aggregate-is-passing-at Inv-loop μ-loop
-slice-aggregate-is-passing-at c = search needs
+slice-aggregate-is-passing-next : tie.Need-slice-aggregate-is-passing-next Inv-loop μ-loop
+slice-aggregate-is-passing-next c = search needs
 
-is-passing-at-requires : tie.Need-is-passing-at-requires Inv-loop μ-loop
-is-passing-at-requires c κs = search needs
+is-passing-next-requires : tie.Need-is-passing-next-requires Inv-loop μ-loop
+is-passing-next-requires c κs = search needs
 
 same-length : tie.Need-same-length Inv-loop μ-loop
 same-length c = search needs
@@ -48,7 +48,7 @@ returns c =
     let at = c .before .before .before .before .before in
     let few = start-of at .pre .0 in
     let w = at .loop .inv .1 in
-    let p = c .before .is-passing-at in
+    let p = c .before .is-passing-next in
     let t = sym (p .ensures) ∙ not-true (p .result) (c .if1 .taken) in
     record {
       ok = sym (refused few w (c .before .before .before .before .loop-test .taken) t);
@@ -70,7 +70,7 @@ slot-fits c =
     let few = start-of at .pre .0 in
     let w = at .loop .inv .1 in
     let more = c .before .before .before .before .before .before .loop-test .taken in
-    let p = c .before .before .before .is-passing-at in
+    let p = c .before .before .before .is-passing-next in
     let t = sym (p .ensures) ∙ not-false (p .result) (c .before .before .if1 .left) in
     rw (c .spot .ensures) (slot-more few w more t)
 
@@ -127,7 +127,7 @@ loop-again c =
     let site = c .before .byte-at .result in
     let own = getD (l .held) site 0 + 1 in
     let more = c .before .before .before .before .before .before .before .before .loop-test .taken in
-    let p = c .before .before .before .before .before .is-passing-at in
+    let p = c .before .before .before .before .before .is-passing-next in
     let t = sym (p .ensures) ∙ not-false (p .result) (c .before .before .before .before .if1 .left) in
     let e : c .if2 .held ≡ set (l .held) site own
     = ⊎-elim (λ y. y .1) (λ y. y .1 ∙ sym (set-out (l .held) site own (omega (arith, w .wide)))) (c .if2 .came) in (
@@ -160,8 +160,8 @@ walk-spec =
     μ-loop
     start-places-requires
     loop-holds
-    slice-aggregate-is-passing-at
-    is-passing-at-requires
+    slice-aggregate-is-passing-next
+    is-passing-next-requires
     same-length
     returns
     spot-requires

@@ -1,27 +1,28 @@
--- `group_context::names_version` meets its contract. Assumes nothing.
-use mathlib.Core.Path.{ap, _∙_}
+-- `group_context::names_version` meets its contract: a plain Set is not asked. Assumes nothing.
+use mathlib.Core.Path.{sym, ap, _∙_}
 use mathlib.Core.Bool.{Bool, not, _||_}
 use Prim.Native.Nat.{ℕ}
 use borrow.Author.Needs.{needs}
+use borrow.Author.Tests.{not-true, not-false}
 use Rattle.group_context.specs.RowForms.{namesOf}
 use Rattle.group_context.proofs.NextByRows.{names-of-next}
 use Rattle.group_context.proofs.names_version.Statement.{statement}
 use Rattle.group_context.proofs.names_version.Tie as tie
 
-context-of-requires : tie.Need-context-of-requires
-context-of-requires c κs = search needs
+returns : tie.Need-returns
+returns c b next its-context =
+    let a = c .before .before .before .args in
+    rw (not-true (a .limited) (c .if1 .taken)) at (names-of-next next)
 
 names-by-requires : tie.Need-names-by-requires
 names-by-requires c κs = search needs
 
-returns : tie.Need-returns
-returns c b next =
+returns-2 : tie.Need-returns-2
+returns-2 c b next its-context =
     let a = c .before .before .before .before .args in
-    ap (λ (t : Bool). not (a .limited) || t)
-    (c .names-by .ensures
-    ∙ ap (λ (g : ℕ). namesOf (a .plain .now) (a .ctx .now) (a .n) (a .seen) (a .named) g)
-    (c .before .context-of .ensures b next))
-    ∙ names-of-next next
+    c .names-by .ensures
+    ∙ ap (λ (g : ℕ). namesOf (a .plain .now) (a .ctx .now) (a .n) (a .seen) (a .named) g) its-context
+    ∙ rw (not-false (a .limited) (c .before .if1 .left)) at (names-of-next next)
 
 pub names-version-spec : {M : Type 1} → statement M
-names-version-spec = tie.close (tie.spec context-of-requires names-by-requires returns)
+names-version-spec = tie.close (tie.spec returns names-by-requires returns-2)

@@ -4,7 +4,7 @@ use mathlib.Core.Path.{refl, _∙_}
 use native.Mathlib.Omega.{arith}
 use borrow.Author.Needs.{needs}
 use lib.Pow.{pow-pos}
-use Rattle.group_engine.proofs.WholeSearch.{start-partial, none-found, told, unchanged, settles}
+use Rattle.group_engine.proofs.WholeSearch.{start-partial, none-waits, none-found, told, unchanged, settles}
 use Rattle.group_engine.proofs.enumerate.Statement.{statement}
 use Rattle.group_engine.proofs.enumerate.Tie as tie
 
@@ -27,6 +27,7 @@ decide-rest-requires c κs =
       omega arith,
       start .pre .3,
       start-partial (a .conflicts .now) (a .n) (c .before .only .result) (c .before .only .ensures),
+      none-waits (a .conflicts .now) (a .n),
       none-found (a .conflicts .now) (a .n) _,
     )
 
@@ -34,7 +35,7 @@ returns : tie.Need-returns
 returns c =
     let a = c .before .before .before .before .before .before .before .args in
     let d = c .before .before .decide-rest in
-    let row = d .last .1 .1 .1 .1 .1 .1 .0 in (
+    let row = d .last .1 .1 .1 .1 .1 .1 .1 .0 in (
       told (a .conflicts .now) (a .n) (d .result) row (d .ensures),
       unchanged (a .conflicts .now) (a .n) (d .result) row (d .ensures) (a .out .now) (c .if1 .taken),
     )
@@ -53,7 +54,7 @@ returns-2 c =
     let start = c .before .before .before .before .before .before .before .before .before .before .before .before in
     let a = start .args in
     let d = c .before .before .before .before .before .before .before .decide-rest in
-    let row = d .last .1 .1 .1 .1 .1 .1 .0 in (
+    let row = d .last .1 .1 .1 .1 .1 .1 .1 .0 in (
       told (a .conflicts .now) (a .n) (d .result) row (d .ensures),
       c .before .before .store .ensures
           ∙ rw (start .pre .2)

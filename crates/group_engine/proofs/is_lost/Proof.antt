@@ -10,15 +10,15 @@ use Rattle.group_engine.proofs.is_lost.Statement.{statement}
 use Rattle.group_engine.proofs.is_lost.Tie as tie
 
 abbrev Inv-loop : tie.InvT-loop
-Inv-loop conflicts n u taken reach i₀ i = (u ≤ i) × (i ≤ n) × (lost conflicts i u taken reach ≡ false)
+Inv-loop conflicts n taken i₀ i = (i ≤ n) × (lost conflicts i taken ≡ false)
 
 abbrev μ-loop : tie.MeasureT-loop
-μ-loop conflicts n u taken reach i₀ i = n - i
+μ-loop conflicts n taken i₀ i = n - i
 
 loop-holds : tie.Need-loop-holds Inv-loop μ-loop
 loop-holds c =
     let a = c .before .args in
-    (search needs, search needs, none-yet (a .conflicts .now) (a .u) (a .taken) (a .reach))
+    (search needs, none-yet (a .conflicts .now) (a .taken))
 
 has-requires : tie.Need-has-requires Inv-loop μ-loop
 has-requires c κs = search needs
@@ -33,7 +33,7 @@ returns : tie.Need-returns Inv-loop μ-loop
 returns c =
     let l = c .before .before .before .before .loop in
     let a = c .before .before .before .before .before .before .args in
-    some-here (a .conflicts .now) (a .u) (a .taken) (a .reach) (l .i) (a .n) (omega arith) (omega arith)
+    some-here (a .conflicts .now) (a .taken) (l .i) (a .n) (omega arith)
     (rw (← c .before .before .has .ensures) (c .if1 .taken))
 
 add-i : tie.Need-add-i Inv-loop μ-loop
@@ -47,8 +47,7 @@ loop-again c =
     let l = c .before .before .before .before .loop in
     let a = c .before .before .before .before .before .before .args in (
       omega arith,
-      omega arith,
-      none-more (a .conflicts .now) (a .u) (a .taken) (a .reach) (l .i) (l .inv .2)
+      none-more (a .conflicts .now) (a .taken) (l .i) (l .inv .1)
           (rw (← c .before .before .has .ensures) (c .if1 .left)),
     )
 
@@ -56,7 +55,7 @@ returns-2 : tie.Need-returns-2 Inv-loop μ-loop
 returns-2 c =
     let l = c .before .loop in
     let a = c .before .before .before .args in
-    none-of-all (a .conflicts .now) (a .u) (a .taken) (a .reach) (l .i) (a .n) (omega arith) (omega arith) (l .inv .2)
+    none-of-all (a .conflicts .now) (a .taken) (l .i) (a .n) (omega arith) (omega arith) (l .inv .1)
 
 pub is-lost-spec : {M : Type 1} → statement M
 is-lost-spec =

@@ -1,13 +1,16 @@
--- `group_limited::are_named_with` meets its contract: 16 is given to none of the Sets passed. Assumes nothing.
-use mathlib.Core.Path.{_≡_, refl, sym, _∙_}
+-- `group_limited::are_named_with` meets its contract: 16 is given to none of the Sets passed, whose rows are put down.
+-- Assumes nothing.
+use mathlib.Core.Path.{_≡_, refl, sym, subst, _∙_}
 use mathlib.Core.Bool.{false}
-use Prim.Native.Nat.{ℕ, _≤_, _<_, _-_}
+use Prim.Native.Nat.{ℕ, _-_, _≤_, _<_}
 use native.Mathlib.Omega.{arith}
 use lib.ListN.{length}
+use denote.Ref.{now}
 use Rattle.math_contexts.specs.Box.{Lawful}
 use Rattle.edit_causal.specs.Conflict.{boxOn}
+use Rattle.edit_history.proofs.EditsInPlaces.{sets-length}
 use Rattle.group_limited.specs.LimitedForms.{setsIn, RowsTell}
-use Rattle.group_limited.proofs.RowsInPlaces.{no-rows, rows-more}
+use Rattle.group_limited.proofs.RowsInPlaces.{no-rows, rows-more, row-small}
 use Rattle.group_limited.proofs.NamedInTurn.{nameless}
 use Rattle.group_limited.proofs.NamedInTurn.{named-where-told, in-turn-on, in-turn-off, passed-one-more}
 use borrow.Author.Needs.{needs}
@@ -28,22 +31,22 @@ abbrev μ-loop : tie.MeasureT-loop
 loop-holds : tie.Need-loop-holds Inv-loop μ-loop
 loop-holds c =
     let a = c .before .before .before .before .args in
-    (search needs, refl, refl, no-rows (a .plain .now) (a .ctx .now), λ law j l. absurd (omega arith))
+    (omega arith, refl, refl, no-rows (now (a .plain)) (now (a .ctx)), λ law j l. absurd (omega arith))
 
-mul-decode-at : tie.Need-mul-decode-at Inv-loop μ-loop
-mul-decode-at c = search needs
+mul-sight-at : tie.Need-mul-sight-at Inv-loop μ-loop
+mul-sight-at c = search needs
 
-shared-slice-read-decode-at : tie.Need-shared-slice-read-decode-at Inv-loop μ-loop
-shared-slice-read-decode-at c = search needs
+shared-slice-read-sight-at : tie.Need-shared-slice-read-sight-at Inv-loop μ-loop
+shared-slice-read-sight-at c = search needs
 
-cast-decode-at : tie.Need-cast-decode-at Inv-loop μ-loop
-cast-decode-at c = omega (arith, c .shared-slice-known3 .given (c .before .before .loop .i))
+sight-at-requires : tie.Need-sight-at-requires Inv-loop μ-loop
+sight-at-requires c κs = search needs
 
-decode-at-requires : tie.Need-decode-at-requires Inv-loop μ-loop
-decode-at-requires c κs = omega (arith, c .shared-slice-known3 .given (c .before .before .loop .i))
+context-by-requires : tie.Need-context-by-requires Inv-loop μ-loop
+context-by-requires c κs = search needs
 
-told-of-requires : tie.Need-told-of-requires Inv-loop μ-loop
-told-of-requires c κs = search needs
+is-nameless-requires : tie.Need-is-nameless-requires Inv-loop μ-loop
+is-nameless-requires c κs = search needs
 
 same-length : tie.Need-same-length Inv-loop μ-loop
 same-length c = search needs
@@ -53,22 +56,36 @@ same-length-2 c = search needs
 
 returns : tie.Need-returns Inv-loop μ-loop
 returns c law =
-    let t = c .before .told-of in
-    let d = c .before .before .before .before .decode-at in
-    let y = c .before .before .before .before .before .before in
+    let q = c .before .is-nameless in
+    let own = c .before .before .before .before .context-by in
+    let t = c .before .before .before .before .before .before .before in
+    let y = t .before .before in
     let l = y .before .loop in
-    let start = y .before .before .before .before .before .before in
-    let a = start .args in
-    let rs = a .recs .now in
-    let ps = a .places .now in
+    let s = y .before .before .before .before .before .before in
+    let a = s .args in
+    let rs = now (a .recs) in
+    let ps = now (a .places) in
     let more : l .i < a .k = y .loop-test .taken in
-    let fits : a .k ≤ length ps = start .pre .1 in
-    let its = named-where-told rs ps (a .k) fits (l .i) more (d .result) (d .ensures) (t .result)
-    (t .ensures (l .inv .3)) law (l .inv .4 law) in
-    sym (in-turn-off rs ps (a .k) fits (l .i) more (rw (← d .ensures) (sym its ∙ c .if1 .taken)))
+    let fits : a .k ≤ length ps = s .pre .1 in
+    let size = sets-length rs ps (l .i) (omega arith) in
+    let its = own .ensures _ _ size (l .inv .3) (t .sight-at .ensures) in
+    let told = named-where-told rs ps (a .k) fits (l .i) more (q .result)
+    (q .ensures _ _ size (l .inv .3) (t .sight-at .ensures) its) law (l .inv .4 law) in
+    sym (in-turn-off rs ps (a .k) fits (l .i) more (sym told ∙ c .if1 .taken))
 
 put-told-requires : tie.Need-put-told-requires Inv-loop μ-loop
-put-told-requires c κs = search needs
+put-told-requires c κs =
+    let t = c .before .before .before .before .before .before .before .before .before in
+    let y = t .before .before in
+    let l = y .before .loop in
+    let s = y .before .before .before .before .before .before in
+    let a = s .args in (
+      omega (arith, s .pre .0, y .loop-test .taken),
+      omega (arith, l .inv .1, s .pre .2, y .loop-test .taken),
+      omega (arith, l .inv .2, s .pre .3, y .loop-test .taken),
+      row-small (now (a .recs)) (now (a .places)) (l .i) (omega (arith, s .pre .1, y .loop-test .taken)) _ _
+          (t .sight-at .ensures),
+    )
 
 add-i : tie.Need-add-i Inv-loop μ-loop
 add-i c = search needs
@@ -80,26 +97,28 @@ loop-again : tie.Need-loop-again Inv-loop μ-loop
 loop-again c =
     let p = c .before .before .before .before .put-told in
     let f = c .before .before .before .before .before .before .before .if1 in
-    let t = c .before .before .before .before .before .before .before .before .told-of in
-    let x = c .before .before .before .before .before .before .before .before .before .before .before in
-    let d = x .decode-at in
-    let y = x .before .before in
+    let q = c .before .before .before .before .before .before .before .before in
+    let own = q .before .before .before .context-by in
+    let t = q .before .before .before .before .before .before in
+    let y = t .before .before in
     let l = y .before .loop in
-    let start = y .before .before .before .before .before .before in
-    let a = start .args in
-    let rs = a .recs .now in
-    let ps = a .places .now in
+    let s = y .before .before .before .before .before .before in
+    let a = s .args in
+    let rs = now (a .recs) in
+    let ps = now (a .places) in
     let more : l .i < a .k = y .loop-test .taken in
-    let fits : a .k ≤ length ps = start .pre .1 in (
+    let fits : a .k ≤ length ps = s .pre .1 in
+    let size = sets-length rs ps (l .i) (omega arith) in
+    let its = own .ensures _ _ size (l .inv .3) (t .sight-at .ensures) in (
       omega (arith, more),
       p .kept .0 ∙ l .inv .1,
       p .kept .1 .0 ∙ l .inv .2,
-      rows-more rs ps (l .i) (omega (arith, more, fits)) (d .result) (t .result) (d .ensures) (l .plain) (l .ctx)
-          (p .last .0) (p .last .1 .0) (l .inv .3) (t .ensures (l .inv .3)) (p .ensures),
-      λ law. passed-one-more rs ps (l .i) (d .result) (d .ensures)
+      rows-more rs ps (l .i) (omega arith) (t .sight-at .result) (own .result) (l .plain) (l .ctx) (p .last .0)
+          (p .last .1 .0) (l .inv .3) (t .sight-at .ensures) (own .ensures) (p .ensures),
+      λ law. passed-one-more rs ps (l .i)
           (sym
-          (named-where-told rs ps (a .k) fits (l .i) more (d .result) (d .ensures) (t .result)
-          (t .ensures (l .inv .3)) law (l .inv .4 law))
+          (named-where-told rs ps (a .k) fits (l .i) more (q .is-nameless .result)
+          (q .is-nameless .ensures _ _ size (l .inv .3) (t .sight-at .ensures) its) law (l .inv .4 law))
           ∙ f .left) (l .inv .4 law),
     )
 
@@ -113,7 +132,7 @@ returns-2 : tie.Need-returns-2 Inv-loop μ-loop
 returns-2 c law =
     let l = c .before .loop in
     let a = c .before .before .before .before .before .before .args in
-    sym (in-turn-on (a .recs .now) (a .places .now) (a .k) (omega arith) (λ j m. l .inv .4 law j (omega arith)))
+    sym (in-turn-on (now (a .recs)) (now (a .places)) (a .k) (omega arith) (λ j m. l .inv .4 law j (omega arith)))
 
 pub are-named-with-spec : {M : Type 1} → statement M
 are-named-with-spec =
@@ -122,11 +141,11 @@ are-named-with-spec =
     Inv-loop
     μ-loop
     loop-holds
-    mul-decode-at
-    shared-slice-read-decode-at
-    cast-decode-at
-    decode-at-requires
-    told-of-requires
+    mul-sight-at
+    shared-slice-read-sight-at
+    sight-at-requires
+    context-by-requires
+    is-nameless-requires
     same-length
     same-length-2
     returns

@@ -1,4 +1,6 @@
--- `group_limited::judge` meets its contract: the Set is told by the rows of those held. Assumes nothing.
+-- `group_limited::judge` meets its contract. Assumes nothing.
+use denote.Ref.{now}
+use Rattle.edit_history.proofs.EditsInPlaces.{sets-length}
 use borrow.Author.Needs.{needs}
 use Rattle.group_limited.proofs.judge.Statement.{statement}
 use Rattle.group_limited.proofs.judge.Tie as tie
@@ -12,18 +14,25 @@ slice-aggregate-put-rows-2 c = search needs
 put-rows-requires : tie.Need-put-rows-requires
 put-rows-requires c κs = search needs
 
-slice-aggregate-told-of : tie.Need-slice-aggregate-told-of
-slice-aggregate-told-of c = search needs
+sight-of-requires : tie.Need-sight-of-requires
+sight-of-requires c κs = search needs
 
-slice-aggregate-told-of-2 : tie.Need-slice-aggregate-told-of-2
-slice-aggregate-told-of-2 c = search needs
+slice-aggregate-told-by : tie.Need-slice-aggregate-told-by
+slice-aggregate-told-by c = search needs
 
-told-of-requires : tie.Need-told-of-requires
-told-of-requires c κs = search needs
+slice-aggregate-told-by-2 : tie.Need-slice-aggregate-told-by-2
+slice-aggregate-told-by-2 c = search needs
+
+told-by-requires : tie.Need-told-by-requires
+told-by-requires c κs = search needs
 
 returns : tie.Need-returns
 returns c =
-    let told = c .told-of .ensures (c .before .before .before .before .before .put-rows .ensures) in
+    let s = c .before .before .before .before .before .before .before .before .before .before .before .before in
+    let a = s .args in
+    let told = c .told-by .ensures _ _ (sets-length (now (a .recs)) (now (a .places)) (a .k) (s .pre .1))
+    (c .before .before .before .before .before .before .put-rows .ensures)
+    (c .before .before .before .sight-of .ensures) in
     record {
       nameless = λ p law. told .nameless law (p .named);
       conflicts = λ p law h. told .conflicts law (p .named) h;
@@ -36,7 +45,8 @@ judge-spec =
     slice-aggregate-put-rows
     slice-aggregate-put-rows-2
     put-rows-requires
-    slice-aggregate-told-of
-    slice-aggregate-told-of-2
-    told-of-requires
+    sight-of-requires
+    slice-aggregate-told-by
+    slice-aggregate-told-by-2
+    told-by-requires
     returns)

@@ -1,10 +1,11 @@
--- `group_limited::put_rows` meets its contract: the rows of the Sets passed stand in front. Assumes nothing.
+-- `group_limited::put_rows` meets its contract: after i places, the rows of their Sets are put down. Assumes nothing.
 use mathlib.Core.Path.{_≡_, refl, subst, _∙_}
-use Prim.Native.Nat.{ℕ, _≤_, _<_, _-_}
+use Prim.Native.Nat.{ℕ, _-_, _≤_}
 use native.Mathlib.Omega.{arith}
 use lib.ListN.{length}
+use denote.Ref.{now}
 use Rattle.group_limited.specs.LimitedForms.{setsIn, RowsTell}
-use Rattle.group_limited.proofs.RowsInPlaces.{no-rows, rows-more}
+use Rattle.group_limited.proofs.RowsInPlaces.{no-rows, rows-more, row-small}
 use borrow.Author.Needs.{needs}
 use Rattle.group_limited.proofs.put_rows.Statement.{statement}
 use Rattle.group_limited.proofs.put_rows.Tie as tie
@@ -22,25 +23,33 @@ abbrev μ-loop : tie.MeasureT-loop
 loop-holds : tie.Need-loop-holds Inv-loop μ-loop
 loop-holds c =
     let a = c .before .before .before .before .args in
-    (search needs, refl, refl, no-rows (a .plain .now) (a .ctx .now))
+    (omega arith, refl, refl, no-rows (now (a .plain)) (now (a .ctx)))
 
-mul-decode-at : tie.Need-mul-decode-at Inv-loop μ-loop
-mul-decode-at c = search needs
+mul-sight-at : tie.Need-mul-sight-at Inv-loop μ-loop
+mul-sight-at c = search needs
 
-shared-slice-read-decode-at : tie.Need-shared-slice-read-decode-at Inv-loop μ-loop
-shared-slice-read-decode-at c = search needs
+shared-slice-read-sight-at : tie.Need-shared-slice-read-sight-at Inv-loop μ-loop
+shared-slice-read-sight-at c = search needs
 
-cast-decode-at : tie.Need-cast-decode-at Inv-loop μ-loop
-cast-decode-at c = omega (arith, c .shared-slice-known3 .given (c .before .before .loop .i))
+sight-at-requires : tie.Need-sight-at-requires Inv-loop μ-loop
+sight-at-requires c κs = search needs
 
-decode-at-requires : tie.Need-decode-at-requires Inv-loop μ-loop
-decode-at-requires c κs = omega (arith, c .shared-slice-known3 .given (c .before .before .loop .i))
-
-told-of-requires : tie.Need-told-of-requires Inv-loop μ-loop
-told-of-requires c κs = search needs
+context-by-requires : tie.Need-context-by-requires Inv-loop μ-loop
+context-by-requires c κs = search needs
 
 put-told-requires : tie.Need-put-told-requires Inv-loop μ-loop
-put-told-requires c κs = search needs
+put-told-requires c κs =
+    let t = c .before .before .before .before .before in
+    let y = t .before .before in
+    let l = y .before .loop in
+    let s = y .before .before .before .before .before .before in
+    let a = s .args in (
+      omega (arith, s .pre .0, y .loop-test .taken),
+      omega (arith, l .inv .1, s .pre .2, y .loop-test .taken),
+      omega (arith, l .inv .2, s .pre .3, y .loop-test .taken),
+      row-small (now (a .recs)) (now (a .places)) (l .i) (omega (arith, s .pre .1, y .loop-test .taken)) _ _
+          (t .sight-at .ensures),
+    )
 
 add-i : tie.Need-add-i Inv-loop μ-loop
 add-i c = search needs
@@ -51,20 +60,18 @@ loop-less c = search needs
 loop-again : tie.Need-loop-again Inv-loop μ-loop
 loop-again c =
     let p = c .before .before .before .before .put-told in
-    let t = c .before .before .before .before .before .before .before .told-of in
-    let d = c .before .before .before .before .before .before .before .before .before .before .decode-at in
-    let y = c .before .before .before .before .before .before .before .before .before .before .before .before in
+    let own = c .before .before .before .before .before .before .before .context-by in
+    let t = c .before .before .before .before .before .before .before .before .before .before in
+    let y = t .before .before in
     let l = y .before .loop in
-    let start = y .before .before .before .before .before .before in
-    let a = start .args in
-    let more : l .i < a .k = y .loop-test .taken in
-    let fits : a .k ≤ length (a .places .now) = start .pre .1 in (
-      omega (arith, more),
+    let s = y .before .before .before .before .before .before in
+    let a = s .args in (
+      omega (arith, y .loop-test .taken),
       p .kept .0 ∙ l .inv .1,
       p .kept .1 .0 ∙ l .inv .2,
-      rows-more (a .recs .now) (a .places .now) (l .i) (omega (arith, more, fits)) (d .result) (t .result)
-          (d .ensures) (l .plain) (l .ctx) (p .last .0) (p .last .1 .0)
-          (l .inv .3) (t .ensures (l .inv .3)) (p .ensures),
+      rows-more (now (a .recs)) (now (a .places)) (l .i) (omega (arith, s .pre .1, y .loop-test .taken))
+          (t .sight-at .result) (own .result) (l .plain) (l .ctx) (p .last .0) (p .last .1 .0) (l .inv .3)
+          (t .sight-at .ensures) (own .ensures) (p .ensures),
     )
 
 same-length : tie.Need-same-length Inv-loop μ-loop
@@ -78,7 +85,7 @@ returns c =
     let l = c .before .loop in
     let a = c .before .before .before .before .before .before .args in
     let done : l .i ≡ a .k = omega arith in
-    subst (λ (j : ℕ). RowsTell (setsIn (a .recs .now) (a .places .now) j) (l .plain) (l .ctx)) done (l .inv .3)
+    subst (λ (j : ℕ). RowsTell (setsIn (now (a .recs)) (now (a .places)) j) (l .plain) (l .ctx)) done (l .inv .3)
 
 pub put-rows-spec : {M : Type 1} → statement M
 put-rows-spec =
@@ -87,11 +94,10 @@ put-rows-spec =
     Inv-loop
     μ-loop
     loop-holds
-    mul-decode-at
-    shared-slice-read-decode-at
-    cast-decode-at
-    decode-at-requires
-    told-of-requires
+    mul-sight-at
+    shared-slice-read-sight-at
+    sight-at-requires
+    context-by-requires
     put-told-requires
     add-i
     loop-less

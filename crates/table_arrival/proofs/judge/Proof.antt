@@ -52,12 +52,14 @@ returns-2 c =
     let a = s .args in
     let es = editsOf (now (a .recs)) (a .n) in
     let e = c .before .before .before .before .before .decode in
-    let of : JudgedOf (setsOn (e .result .tsite) (e .result .tseq) es) (e .result) (c .judge .result)
-    = subst (λ (ms : List Edit). JudgedOf ms (e .result) (c .judge .result))
+    let own = decodeOf (now (a .rec)) in
+    let of : JudgedOf (setsOn (e .result .tsite) (e .result .tseq) es) own (c .judge .result)
+    = subst (λ (ms : List Edit). JudgedOf ms own (c .judge .result))
     (c .before .before .before .put-places .ensures .0)
     (c .judge .ensures) in
-    let own = subst (λ (x : Edit). JudgedOf (setsOn (x .tsite) (x .tseq) es) x (c .judge .result)) (e .ensures) of in
-    record { nameless = own .nameless; conflicts = λ found. own .conflicts }
+    let judged = subst (λ (x : Edit). JudgedOf (setsOn (x .tsite) (x .tseq) es) own (c .judge .result)) (e .ensures)
+    of in
+    record { nameless = judged .nameless; conflicts = λ found. judged .conflicts }
 
 pub judge-spec : {M : Type 1} → statement M
 judge-spec =

@@ -5,7 +5,7 @@ use lib.ListN.{length}
 use denote.Ref.{now}
 use Rattle.table_drawing.specs.Tables.{tablesOf}
 use Rattle.table_soundness.proofs.SoundFacts.{sound-at}
-use Rattle.table_check.proofs.RowWorkedOut.{few-sets, places-are, places-in-turn, row-fits-in}
+use Rattle.table_check.proofs.RowWorkedOut.{few-sets, places-are, places-in-turn, places-told, row-fits-in}
 use Rattle.table_check.proofs.RowWorkedOut.{too-many, row-decides}
 use borrow.Author.Needs.{needs}
 use Rattle.table_check.proofs.is_row_true.Statement.{statement}
@@ -74,6 +74,7 @@ work-out-requires c κs =
       few,
       search needs,
       places-in-turn t sound (a .o) (s .pre .1) (p .result) (k .result) (p .ensures) (k .ensures) _ room e,
+      places-told t sound (a .o) (s .pre .1) (p .result) (k .result) (p .ensures) (k .ensures) _ room e,
     )
 
 returns : tie.Need-returns

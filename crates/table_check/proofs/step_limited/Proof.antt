@@ -3,15 +3,17 @@
 use mathlib.Core.Path.{_≡_, refl, sym, ap, _∙_}
 use Prim.Native.Nat.{_+_, _-_, _≤_}
 use native.Mathlib.Omega.{arith}
-use lib.ListN.{length, take}
+use lib.ListN.{length, getD, take}
 use denote.Ref.{now}
 use Rattle.edit_causal.proofs.ConflictsAmongSets.{none-itself}
+use Rattle.edit_history.specs.EditsHeld.{recordAt}
 use Rattle.group_step.specs.GroupRows.{mostGroups}
 use Rattle.group_limited.specs.LimitedForms.{setsIn, RowsTell}
-use Rattle.group_limited.proofs.RowsInPlaces.{no-rows, rows-more}
+use Rattle.group_limited.proofs.RowsInPlaces.{no-rows}
 use Rattle.table_check.specs.CheckForms.{groupsIn}
 use Rattle.table_check.proofs.RowWorkedOut.{groups-none, stepped, in-ascending, in-below, in-apart, in-more}
 use Rattle.table_check.proofs.RowWorkedOut.{settled-front}
+use Rattle.table_check.proofs.RowsTold.{told-small, rows-told}
 use Rattle.table_check.proofs.SetsInTurn.{told-are-all}
 use borrow.Author.Needs.{needs}
 use Rattle.table_check.proofs.step_limited.Statement.{statement}
@@ -43,26 +45,19 @@ loop-holds c =
       no-rows (now (a .plain)) (now (a .ctx)),
     )
 
-mul-decode-at : tie.Need-mul-decode-at Inv-loop μ-loop
-mul-decode-at c = search needs
+mul-told-at : tie.Need-mul-told-at Inv-loop μ-loop
+mul-told-at c = search needs
 
-shared-slice-read-decode-at : tie.Need-shared-slice-read-decode-at Inv-loop μ-loop
-shared-slice-read-decode-at c = search needs
+shared-slice-read-told-at : tie.Need-shared-slice-read-told-at Inv-loop μ-loop
+shared-slice-read-told-at c = search needs
 
-cast-decode-at : tie.Need-cast-decode-at Inv-loop μ-loop
-cast-decode-at c = omega (arith, c .shared-slice-known3 .given (c .before .before .loop .i))
-
-decode-at-requires : tie.Need-decode-at-requires Inv-loop μ-loop
-decode-at-requires c κs = omega (arith, c .shared-slice-known3 .given (c .before .before .loop .i))
-
-told-of-requires : tie.Need-told-of-requires Inv-loop μ-loop
-told-of-requires c κs = search needs
+told-at-requires : tie.Need-told-at-requires Inv-loop μ-loop
+told-at-requires c κs = search needs
 
 step-apart-requires : tie.Need-step-apart-requires Inv-loop μ-loop
 step-apart-requires c κs =
-    let l = c .before .before .before .before .before .before .before .loop in
-    let a = c .before .before .before .before .before .before .before .before .before .before .before .before .before
-    .args in (
+    let l = c .before .before .before .before .before .before .loop in
+    let a = c .before .before .before .before .before .before .before .before .before .before .before .before .args in (
       l .inv .1,
       l .inv .2,
       omega arith,
@@ -83,19 +78,19 @@ same-length-3 c = search needs
 returns : tie.Need-returns Inv-loop μ-loop
 returns c =
     let b = c .before .before .before .before .before in
-    let d = b .before .before .before .decode-at in
-    let y = b .before .before .before .before .before in
+    let y = b .before .before .before .before in
     let l = y .before .loop in
     let s = y .before .before .before .before .before .before .before in
     let a = s .args in
     let rs = now (a .recs) in
     let ps = now (a .places) in
-    let told = b .told-of .ensures (l .inv .6) in
+    let told = b .told-at .ensures (l .inv .6) in
+    let e = recordAt rs (getD ps (l .i) 0) in
     let w = s .pre .6 in
-    let all = told-are-all rs ps (a .k) (s .pre .4) (l .i) (omega arith) (d .result) (d .ensures) w
-    (b .told-of .result) told in
+    let all = told-are-all rs ps (a .k) (s .pre .4) (l .i) (omega arith) e refl w
+    (b .told-at .result) told in
     let next = stepped rs ps (l .i) (l .n) (l .gs) (omega arith)
-    (none-itself _ (w .proper (l .i + 1) (omega arith))) (l .inv .3) (d .result) (d .ensures) _ all in
+    (none-itself _ (w .proper (l .i + 1) (omega arith))) (l .inv .3) e refl _ all in
     let r = c .before .before .before .step-apart in
     record {
       few = λ h. absurd (omega arith);
@@ -109,12 +104,23 @@ returns c =
     }
 
 put-told-requires : tie.Need-put-told-requires Inv-loop μ-loop
-put-told-requires c κs = search needs
+put-told-requires c κs =
+    let b = c .before .before .before .before .before .before .before in
+    let y = b .before .before .before .before in
+    let l = y .before .loop in
+    let s = y .before .before .before .before .before .before .before in
+    let a = s .args in (
+      omega (arith, s .pre .5, y .loop-test .taken),
+      omega (arith, l .inv .4, s .pre .2, y .loop-test .taken),
+      omega (arith, l .inv .5, s .pre .3, y .loop-test .taken),
+      told-small (now (a .recs)) (now (a .places)) (l .i) (omega (arith, s .pre .4, y .loop-test .taken)) _
+          (b .told-at .ensures (l .inv .6)),
+    )
 
 add-i : tie.Need-add-i Inv-loop μ-loop
 add-i c =
     let b = c .before .before .before .before .before .before .before .before .before .before .before .before in
-    let y = b .before .before .before .before .before in
+    let y = b .before .before .before .before in
     omega (arith, y .loop-test .taken, y .before .before .before .before .before .before .before .pre .5)
 
 loop-less : tie.Need-loop-less Inv-loop μ-loop
@@ -126,27 +132,27 @@ loop-again c =
     let f = c .before .before .before .before .before .before .before .if1 in
     let r = c .before .before .before .before .before .before .before .before .before .before .step-apart in
     let b = c .before .before .before .before .before .before .before .before .before .before .before .before in
-    let d = b .before .before .before .decode-at in
-    let y = b .before .before .before .before .before in
+    let y = b .before .before .before .before in
     let l = y .before .loop in
     let s = y .before .before .before .before .before .before .before in
     let a = s .args in
     let rs = now (a .recs) in
     let ps = now (a .places) in
-    let told = b .told-of .ensures (l .inv .6) in
+    let told = b .told-at .ensures (l .inv .6) in
+    let e = recordAt rs (getD ps (l .i) 0) in
     let w = s .pre .6 in
-    let all = told-are-all rs ps (a .k) (s .pre .4) (l .i) (omega arith) (d .result) (d .ensures) w
-    (b .told-of .result) told in
+    let all = told-are-all rs ps (a .k) (s .pre .4) (l .i) (omega arith) e refl w
+    (b .told-at .result) told in
     let next = stepped rs ps (l .i) (l .n) (l .gs) (omega arith)
-    (none-itself _ (w .proper (l .i + 1) (omega arith))) (l .inv .3) (d .result) (d .ensures) _ all in (
+    (none-itself _ (w .proper (l .i + 1) (omega arith))) (l .inv .3) e refl _ all in (
       omega arith,
       r .kept .0 ∙ l .inv .1,
       omega (arith, f .left),
       settled-front _ (l .gs) (r .last .0) (r .result) (r .ensures .1) (r .ensures .0) (omega (arith, f .left)) ∙ next,
       p .kept .0 ∙ l .inv .4,
       p .kept .1 .0 ∙ l .inv .5,
-      rows-more rs ps (l .i) (omega arith) (d .result) (b .told-of .result) (d .ensures) (l .plain) (l .ctx)
-          (p .last .0) (p .last .1 .0) (l .inv .6) told (p .ensures),
+      rows-told rs ps (l .i) (omega arith) (b .told-at .result) told (l .plain) (l .ctx) (p .last .0)
+          (p .last .1 .0) (l .inv .6) (p .ensures),
     )
 
 same-length-4 : tie.Need-same-length-4 Inv-loop μ-loop
@@ -171,11 +177,9 @@ step-limited-spec =
     Inv-loop
     μ-loop
     loop-holds
-    mul-decode-at
-    shared-slice-read-decode-at
-    cast-decode-at
-    decode-at-requires
-    told-of-requires
+    mul-told-at
+    shared-slice-read-told-at
+    told-at-requires
     step-apart-requires
     same-length
     same-length-2

@@ -2,11 +2,14 @@
 use mathlib.Core.Path.{_≡_, refl, sym, ap, _∙_}
 use Prim.Native.Nat.{_+_, _-_, _≤_}
 use native.Mathlib.Omega.{arith}
-use lib.ListN.{length, getD, take}
+use lib.ListN.{length, getD, take, getD-replicate}
 use denote.Ref.{now}
 use Rattle.edit_causal.proofs.ConflictsAmongSets.{none-itself}
 use Rattle.edit_history.specs.EditsHeld.{recordAt}
-use Rattle.group_step.specs.GroupRows.{mostGroups}
+use Rattle.edit_record.specs.Layout.{keys}
+use Rattle.group_step.specs.GroupRows.{mostGroups, mostSets}
+use Rattle.table_sets.specs.KeyForms.{LinkedTo}
+use Rattle.table_sets.proofs.MarksByKey.{linked-none}
 use Rattle.table_check.specs.CheckForms.{groupsIn}
 use Rattle.table_check.proofs.RowWorkedOut.{groups-none, stepped, in-ascending, in-below, in-apart, in-more}
 use Rattle.table_check.proofs.RowWorkedOut.{settled-front}
@@ -16,32 +19,60 @@ use Rattle.table_check.proofs.step_plainly.Statement.{statement}
 use Rattle.table_check.proofs.step_plainly.Tie as tie
 
 abbrev Inv-loop : tie.InvT-loop
-Inv-loop gs₀ recs places k n₀ i₀ gs n i =
-    (i ≤ k) × (length gs ≡ mostGroups) × (n ≤ mostGroups) × (take n gs ≡ groupsIn recs places i)
+Inv-loop gs₀ recs places k latest₀ earlier₀ tolds₀ n₀ i₀ gs latest earlier tolds n i =
+    (i ≤ k)
+    × (length gs ≡ mostGroups)
+    × (n ≤ mostGroups)
+    × (take n gs ≡ groupsIn recs places i)
+    × (length latest ≡ keys)
+    × (length earlier ≡ mostSets)
+    × (length tolds ≡ mostSets)
+    × LinkedTo recs places i latest earlier tolds
 
 abbrev μ-loop : tie.MeasureT-loop
-μ-loop gs₀ recs places k n₀ i₀ gs n i = k - i
+μ-loop gs₀ recs places k latest₀ earlier₀ tolds₀ n₀ i₀ gs latest earlier tolds n i = k - i
 
 loop-holds : tie.Need-loop-holds Inv-loop μ-loop
 loop-holds c =
     let s = c .before .before .before in
-    let a = s .args in
-    (omega arith, s .pre .0, omega arith, s .pre .1 ∙ sym (groups-none (now (a .recs)) (now (a .places))))
+    let a = s .args in (
+      omega arith,
+      s .pre .0,
+      omega arith,
+      s .pre .1 ∙ sym (groups-none (now (a .recs)) (now (a .places))),
+      refl,
+      refl,
+      refl,
+      linked-none (now (a .recs)) (now (a .places)) _ _ _ (λ x l. getD-replicate keys x 0 0 l),
+    )
 
-mul-marks-at : tie.Need-mul-marks-at Inv-loop μ-loop
-mul-marks-at c = search needs
+slice-aggregate-take-set : tie.Need-slice-aggregate-take-set Inv-loop μ-loop
+slice-aggregate-take-set c = search needs
 
-shared-slice-read-marks-at : tie.Need-shared-slice-read-marks-at Inv-loop μ-loop
-shared-slice-read-marks-at c = search needs
+slice-aggregate-take-set-2 : tie.Need-slice-aggregate-take-set-2 Inv-loop μ-loop
+slice-aggregate-take-set-2 c = search needs
 
-marks-at-requires : tie.Need-marks-at-requires Inv-loop μ-loop
-marks-at-requires c κs = search needs
+slice-aggregate-take-set-3 : tie.Need-slice-aggregate-take-set-3 Inv-loop μ-loop
+slice-aggregate-take-set-3 c = search needs
+
+take-set-requires : tie.Need-take-set-requires Inv-loop μ-loop
+take-set-requires c κs =
+    let s = c .before .before .before .before .before .before .before .before in
+    let l = c .before .before .before .before .loop in (
+      omega (arith, s .pre .3),
+      omega (arith, s .pre .2),
+      omega (arith, l .inv .4),
+      omega (arith, s .pre .3, l .inv .5),
+      omega (arith, s .pre .3, l .inv .6),
+      l .inv .7,
+      λ j m. s .pre .6 (l .i) j (omega arith) m,
+    )
 
 step-apart-requires : tie.Need-step-apart-requires Inv-loop μ-loop
 step-apart-requires c κs =
-    let s = c .before .before .before .before .before .before .before .before in
+    let s = c .before .before .before .before .before .before .before .before .before .before .before .before .before in
     let a = s .args in
-    let l = c .before .before .before .before .loop in (
+    let l = c .before .before .before .before .before .before .before .before .before .loop in (
       l .inv .1,
       l .inv .2,
       omega arith,
@@ -55,18 +86,18 @@ same-length c = search needs
 
 returns : tie.Need-returns Inv-loop μ-loop
 returns c =
-    let b = c .before .before .before .before .before in
-    let s = b .before .before .before .before .before .before .before in
+    let b = c .before .before .before .before .before .before .before .before in
+    let s = b .before .before .before .before .before .before .before .before .before in
     let a = s .args in
-    let l = b .before .before .before .loop in
+    let l = b .before .before .before .before .before .loop in
     let r = c .before .before .before .step-apart in
-    let m = b .marks-at in
+    let m = b .take-set in
     let rs = now (a .recs) in
     let ps = now (a .places) in
     let e = recordAt rs (getD ps (l .i) 0) in
     let next = stepped rs ps (l .i) (l .n) (l .gs) (omega arith)
     (none-itself _ (s .pre .4 .proper (l .i + 1) (omega arith))) (l .inv .3) e refl (m .result)
-    (m .ensures ∙ plain-are-all rs ps (a .k) (s .pre .2) (l .i) (omega arith) e refl (s .pre .5)) in
+    (m .ensures .0 ∙ plain-are-all rs ps (a .k) (s .pre .2) (l .i) (omega arith) e refl (s .pre .5)) in
     record {
       few = λ h. absurd (omega arith);
       many =
@@ -86,22 +117,26 @@ loop-less c = search needs
 
 loop-again : tie.Need-loop-again Inv-loop μ-loop
 loop-again c =
-    let b = c .before .before .before .before .before in
-    let s = b .before .before .before .before .before .before .before in
+    let b = c .before .before .before .before .before .before .before .before in
+    let s = b .before .before .before .before .before .before .before .before .before in
     let a = s .args in
-    let l = b .before .before .before .loop in
+    let l = b .before .before .before .before .before .loop in
     let r = c .before .before .before .step-apart in
-    let m = b .marks-at in
+    let m = b .take-set in
     let rs = now (a .recs) in
     let ps = now (a .places) in
     let e = recordAt rs (getD ps (l .i) 0) in
     let next = stepped rs ps (l .i) (l .n) (l .gs) (omega arith)
     (none-itself _ (s .pre .4 .proper (l .i + 1) (omega arith))) (l .inv .3) e refl (m .result)
-    (m .ensures ∙ plain-are-all rs ps (a .k) (s .pre .2) (l .i) (omega arith) e refl (s .pre .5)) in (
+    (m .ensures .0 ∙ plain-are-all rs ps (a .k) (s .pre .2) (l .i) (omega arith) e refl (s .pre .5)) in (
       omega arith,
       r .kept .0 ∙ l .inv .1,
       omega arith,
       settled-front _ (l .gs) (r .last .0) (r .result) (r .ensures .1) (r .ensures .0) (omega arith) ∙ next,
+      m .kept .0 ∙ l .inv .4,
+      m .kept .1 .0 ∙ l .inv .5,
+      m .kept .1 .1 .0 ∙ l .inv .6,
+      m .ensures .1,
     )
 
 same-length-2 : tie.Need-same-length-2 Inv-loop μ-loop
@@ -120,9 +155,10 @@ step-plainly-spec =
     Inv-loop
     μ-loop
     loop-holds
-    mul-marks-at
-    shared-slice-read-marks-at
-    marks-at-requires
+    slice-aggregate-take-set
+    slice-aggregate-take-set-2
+    slice-aggregate-take-set-3
+    take-set-requires
     step-apart-requires
     same-length
     returns

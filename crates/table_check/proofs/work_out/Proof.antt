@@ -25,6 +25,7 @@ step-plainly-requires c κs =
       s .pre .1,
       s .pre .3,
       sym (limited .ensures) ∙ not-true (limited .result) (c .before .if1 .taken),
+      s .pre .4,
     )
 
 same-length : tie.Need-same-length

@@ -12,11 +12,11 @@ use Rattle.table_index.proofs.build.Statement.{statement}
 use Rattle.table_index.proofs.build.Tie as tie
 
 abbrev Inv-loop : tie.InvT-loop
-Inv-loop recs n places₀ numbers₀ counts₀ members₀ m₀ i₀ places numbers counts members m i =
-    (i ≤ n) × IndexOf recs i places numbers counts members × (m ≡ numberAt recs i) × Spaced (countIn recs n) places
+Inv-loop recs n places₀ numbers₀ counts₀ chains₀ m₀ i₀ places numbers counts chains m i =
+    (i ≤ n) × IndexOf recs i places numbers counts chains × (m ≡ numberAt recs i) × Spaced (countIn recs n) places
 
 abbrev μ-loop : tie.MeasureT-loop
-μ-loop recs n places₀ numbers₀ counts₀ members₀ m₀ i₀ places numbers counts members m i = n - i
+μ-loop recs n places₀ numbers₀ counts₀ chains₀ m₀ i₀ places numbers counts chains m i = n - i
 
 abbrev start-of : tie.At-loop Inv-loop μ-loop → tie.Start Inv-loop μ-loop
 start-of at = at .before .before .before .before .before .before .before .before .before .before
@@ -32,9 +32,8 @@ loop-holds c =
     let s = c .before .before .before .before .before .before .before .before .before in
     let spaced = c .before .before .start-places .ensures in (
       omega arith,
-      rw (s .pre .3)
-          (index-starts (now (s .args .recs)) _ (now (s .args .numbers)) (now (s .args .members)) (spaced .entries)
-          (s .pre .2) (s .pre .4)),
+      rw (s .pre .3, s .pre .4)
+          (index-starts (now (s .args .recs)) _ (now (s .args .numbers)) (spaced .entries) (s .pre .2)),
       none-numbered (now (s .args .recs)),
       spaced,
     )
@@ -87,7 +86,7 @@ same-length-3 c =
 same-length-4 : tie.Need-same-length-4 Inv-loop μ-loop
 same-length-4 c =
     let s = start-of (c .before) in
-    c .before .loop .inv .1 .members-long ∙ sym (s .pre .4)
+    c .before .loop .inv .1 .chained .chains-long ∙ sym (rw (s .pre .4) refl)
 
 returns : tie.Need-returns Inv-loop μ-loop
 returns c =

@@ -11,7 +11,7 @@ use Rattle.table_index.proofs.survey.Tie as tie
 aim-of-requires : tie.Need-aim-of-requires
 aim-of-requires c κs =
     let s = c .before .before .before .before .before .before in
-    (s .pre .0, s .pre .1 .indexed, s .pre .2, s .pre .3, s .pre .4)
+    (s .pre .0, s .pre .2 .indexed, s .pre .3, s .pre .4, s .pre .5)
 
 none-found-requires : tie.Need-none-found-requires
 none-found-requires c κs = search needs
@@ -30,8 +30,14 @@ survey-held-requires : tie.Need-survey-held-requires
 survey-held-requires c κs =
     let a = c .before .before .aim-of in
     let z = c .before .before .before in
-    let s = z .before .before .before .before .before .before in
-    (s .pre .0, s .pre .1, s .pre .2, sym (a .ensures .1) ∙ not-false (a .result .held) (c .if1 .left))
+    let s = z .before .before .before .before .before .before in (
+      s .pre .0,
+      s .pre .1,
+      s .pre .2,
+      s .pre .3,
+      s .pre .4,
+      sym (a .ensures .1) ∙ not-false (a .result .held) (c .if1 .left),
+    )
 
 returns-2 : tie.Need-returns-2
 unfolding surveyOf

@@ -63,7 +63,7 @@ take-records-requires c κs =
     (s18 .«open» .ensures) in
     let n = opened-sites _ (a .sites) e in (
       e ∙ ap emptyDrawing (sym n),
-      rw (opened-records _ (a .sites) e) (index-starts _ _ _ _ (spaced .entries) refl refl),
+      rw (opened-records _ (a .sites) e) (index-starts _ _ _ (spaced .entries) refl),
       room-for-all (storedIn (a .form) (now (a .recs))) (a .n) (counted .result) (counted .ensures) _ spaced,
       rw n (s .pre .1),
       s .pre .2,

@@ -13,6 +13,7 @@ use Rattle.table_drawing.specs.Tables.{tablesOf}
 use Rattle.table_drawing.specs.AnswerNumbers.{numberOf}
 use Rattle.table_arrival.specs.Answers6and7.{firstOf, inTurn}
 use Rattle.table_arrival.specs.ArrivalForms.{threeBy}
+use Rattle.table_soundness.proofs.SoundFacts.{sound-at}
 use Rattle.table_arrival.proofs.CodeInHand.{surveyable, early-refused, holds}
 use Rattle.table_arrival.proofs.SixByCounters.{none-of-three}
 use Rattle.table_replay.proofs.IndexGoesAlong.{counted-on, room-on, holds-on, index-on, numbered-on}
@@ -56,8 +57,14 @@ survey-requires c κs =
     let b = now (a .rec) in
     let (whole, timely)
     = none-of-three (a .c) b (sym (three n) ∙ c .before .before .before .before .before .if1 .left) in
-    let long : recordLength ≤ length b = omega (arith, whole, span-least b) in
-    (holds t (s .pre .isSound), s .pre .index, long, timely, s .pre .wide)
+    let long : recordLength ≤ length b = omega (arith, whole, span-least b) in (
+      holds t (s .pre .isSound),
+      omega (arith, sound-at t (s .pre .isSound) .records-long),
+      s .pre .index,
+      long,
+      timely,
+      s .pre .wide,
+    )
 
 cast-judge : tie.Need-cast-judge
 cast-judge c = search needs
@@ -109,7 +116,7 @@ add-requires c κs =
             (arith, counted-on t (s .pre .isSound) (s .pre .wide) b _ ok),
       ),
       index-on t (s .pre .isSound) (s .pre .wide) b _ ok (now (a .places)) (now (a .numbers)) (now (a .counts))
-          (now (a .members))
+          (now (a .chains))
           (s .pre .index),
       numbered-on t (s .pre .isSound) (s .pre .wide) b _ ok,
       room-on t (s .pre .isSound) (s .pre .wide) b _ ok (now (a .places)) (s .pre .room),

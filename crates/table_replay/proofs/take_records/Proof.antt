@@ -29,17 +29,17 @@ abbrev counted-in : ℕ → List ℕ → ℕ → ℕ → ℕ
 counted-in form recs n s = countFrom s (editsIn (storedIn form recs) n)
 
 abbrev Inv-loop : tie.InvT-loop
-Inv-loop records₀ objects₀ groups₀ places₀ numbers₀ counts₀ members₀ recs form n c₀ at₀ i₀ records objects groups
-    places numbers counts members c at i =
+Inv-loop records₀ objects₀ groups₀ places₀ numbers₀ counts₀ chains₀ recs form n c₀ at₀ i₀ records objects groups
+    places numbers counts chains c at i =
     (i ≤ n)
     × (at ≡ startOf form recs i)
     × Going (c₀ .sites) (storedIn form recs) i (tablesOf c records objects groups)
-    × IndexOf records (c .records) places numbers counts members
+    × IndexOf records (c .records) places numbers counts chains
     × Spaced (counted-in form recs n) places
 
 abbrev μ-loop : tie.MeasureT-loop
-μ-loop records₀ objects₀ groups₀ places₀ numbers₀ counts₀ members₀ recs form n c₀ at₀ i₀ records objects groups
-    places numbers counts members c at i =
+μ-loop records₀ objects₀ groups₀ places₀ numbers₀ counts₀ chains₀ recs form n c₀ at₀ i₀ records objects groups
+    places numbers counts chains c at i =
     n - i
 
 -- ---- where things stand
@@ -216,7 +216,7 @@ same-length-7 : tie.Need-same-length-7 Inv-loop μ-loop
 same-length-7 c =
     let b = round-of (call-of (c .before)) .before in
     let known = c .before .before .before .slice-known14 .given in
-    search (needs, known, b .loop .inv .3 .members-long, start-of b .pre .1 .members-long)
+    search (needs, known, b .loop .inv .3 .chained .chains-long, start-of b .pre .1 .chained .chains-long)
 
 returns : tie.Need-returns Inv-loop μ-loop
 returns c =
@@ -278,7 +278,8 @@ same-length-13 : tie.Need-same-length-13 Inv-loop μ-loop
 same-length-13 c = c .before .loop .inv .3 .counts-long ∙ sym (start-of (c .before) .pre .1 .counts-long)
 
 same-length-14 : tie.Need-same-length-14 Inv-loop μ-loop
-same-length-14 c = c .before .loop .inv .3 .members-long ∙ sym (start-of (c .before) .pre .1 .members-long)
+same-length-14 c =
+    c .before .loop .inv .3 .chained .chains-long ∙ sym (start-of (c .before) .pre .1 .chained .chains-long)
 
 returns-2 : tie.Need-returns-2 Inv-loop μ-loop
 returns-2 c =

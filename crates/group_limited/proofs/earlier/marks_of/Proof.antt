@@ -1,39 +1,63 @@
--- `group_limited::earlier::marks_of` meets its contract: the marks of the Sets passed. Assumes nothing.
-use mathlib.Core.Path.{_≡_, ap, _∙_}
-use Prim.Native.Nat.{ℕ, _≤_, _-_}
+-- `group_limited::earlier::marks_of` meets its contract: after i places, the marks are those of the Sets in them.
+-- Assumes nothing.
+use mathlib.Core.Path.{_≡_, refl, sym, ap, ap₂, subst, _∙_}
+use Prim.Native.Nat.{ℕ, _-_, _≤_}
 use native.Mathlib.Omega.{arith}
-use Rattle.group_limited.specs.LimitedForms.{setsIn, marksOn}
-use Rattle.group_limited.proofs.MarksOfSets.{no-marks, narrow-in, marks-in-more}
+use denote.Ref.{now}
+use Rattle.edit_record.specs.RecordBytes.{decodeOf}
+use Rattle.edit_causal.specs.ConflictForms.{plainMarks}
+use Rattle.edit_causal.proofs.PlainMarks.{none-marked}
+use Rattle.group_limited.specs.LimitedForms.{setsIn, seenMarks, marksOn}
+use Rattle.group_limited.proofs.MarksOfSets.{none-seen, plain-below, seen-below, plain-more, seen-more}
 use borrow.Author.Needs.{needs}
 use Rattle.group_limited.proofs.earlier.marks_of.Statement.{statement}
 use Rattle.group_limited.proofs.earlier.marks_of.Tie as tie
 
 abbrev Inv-loop : tie.InvT-loop
-Inv-loop recs places k e m₀ i₀ m i = (i ≤ k) × (m ≡ marksOn e (setsIn recs places i))
+Inv-loop recs places k rec plain₀ seen₀ i₀ plain seen i =
+    (i ≤ k)
+    × (plain ≡ plainMarks (decodeOf rec) (setsIn recs places i))
+    × (seen ≡ seenMarks (decodeOf rec) (setsIn recs places i))
 
 abbrev μ-loop : tie.MeasureT-loop
-μ-loop recs places k e m₀ i₀ m i = k - i
+μ-loop recs places k rec plain₀ seen₀ i₀ plain seen i = k - i
 
 loop-holds : tie.Need-loop-holds Inv-loop μ-loop
-loop-holds c = (search needs, no-marks (c .before .before .args .e))
+loop-holds c =
+    let e = decodeOf (now (c .before .before .before .args .rec)) in
+    (omega arith, sym (none-marked e), none-seen e)
 
-mul-decode-at : tie.Need-mul-decode-at Inv-loop μ-loop
-mul-decode-at c = search needs
+mul-p : tie.Need-mul-p Inv-loop μ-loop
+mul-p c = search needs
 
-shared-slice-read-decode-at : tie.Need-shared-slice-read-decode-at Inv-loop μ-loop
-shared-slice-read-decode-at c = search needs
+shared-slice-read-p : tie.Need-shared-slice-read-p Inv-loop μ-loop
+shared-slice-read-p c = search needs
 
-cast-decode-at : tie.Need-cast-decode-at Inv-loop μ-loop
-cast-decode-at c = omega (arith, c .shared-slice-known3 .given (c .before .before .loop .i))
+is-conflict-with-requires : tie.Need-is-conflict-with-requires Inv-loop μ-loop
+is-conflict-with-requires c κs = search needs
 
-decode-at-requires : tie.Need-decode-at-requires Inv-loop μ-loop
-decode-at-requires c κs = omega (arith, c .shared-slice-known3 .given (c .before .before .loop .i))
+marked-if-requires : tie.Need-marked-if-requires Inv-loop μ-loop
+marked-if-requires c κs =
+    let s = c .before .before .before .before .before .before .before in
+    let a = s .args in
+    let l = c .before .before .before .loop in (
+      rw (l .inv .1) (plain-below (decodeOf (now (a .rec))) (now (a .recs)) (now (a .places)) (l .i)
+          (omega (arith, s .pre .1))),
+      λ y. omega (arith, s .pre .0),
+    )
 
-marks-with-requires : tie.Need-marks-with-requires Inv-loop μ-loop
-marks-with-requires c κs =
-    let l = c .before .before .before .loop in
-    let a = c .before .before .before .before .before .before .args in
-    (search needs, narrow-in (a .e) (a .recs .now) (a .places .now) (l .i) (omega arith) (l .m) (l .inv .1))
+is-before-with-requires : tie.Need-is-before-with-requires Inv-loop μ-loop
+is-before-with-requires c κs = search needs
+
+marked-if-requires-2 : tie.Need-marked-if-requires-2 Inv-loop μ-loop
+marked-if-requires-2 c κs =
+    let s = c .before .before .before .before .before .before .before .before .before in
+    let a = s .args in
+    let l = c .before .before .before .before .before .loop in (
+      rw (l .inv .2) (seen-below (decodeOf (now (a .rec))) (now (a .recs)) (now (a .places)) (l .i)
+          (omega (arith, s .pre .1))),
+      λ y. omega (arith, s .pre .0),
+    )
 
 add-i : tie.Need-add-i Inv-loop μ-loop
 add-i c = search needs
@@ -43,19 +67,25 @@ loop-less c = search needs
 
 loop-again : tie.Need-loop-again Inv-loop μ-loop
 loop-again c =
-    let l = c .before .before .before .before .loop in
-    let a = c .before .before .before .before .before .before .before .args in (
+    let s = c .before .before .before .before .before .before .before .before .before .before in
+    let a = s .args in
+    let l = c .before .before .before .before .before .before .loop in
+    let e = decodeOf (now (a .rec)) in
+    let rs = now (a .recs) in
+    let ps = now (a .places) in (
       omega arith,
-      marks-in-more (a .e) (a .recs .now) (a .places .now) (l .i) (omega arith) (l .m) (l .inv .1) _ _
-          (c .before .decode-at .ensures) (c .marks-with .ensures),
+      rw (c .before .before .marked-if .ensures, l .inv .1, c .before .before .before .is-conflict-with .ensures)
+          (sym (plain-more e rs ps (l .i) (omega (arith, s .pre .1)))),
+      rw (c .marked-if2 .ensures, l .inv .2, c .before .is-before-with .ensures)
+          (sym (seen-more e rs ps (l .i) (omega (arith, s .pre .1)))),
     )
 
 returns : tie.Need-returns Inv-loop μ-loop
 returns c =
     let l = c .before .loop in
-    let a = c .before .before .before .before .args in
+    let a = c .before .before .before .before .before .args in
     let done : l .i ≡ a .k = omega arith in
-    l .inv .1 ∙ ap (λ (j : ℕ). marksOn (a .e) (setsIn (a .recs .now) (a .places .now) j)) done
+    rw (← done, l .inv .1, l .inv .2)
 
 pub marks-of-spec : {M : Type 1} → statement M
 marks-of-spec =
@@ -64,11 +94,12 @@ marks-of-spec =
     Inv-loop
     μ-loop
     loop-holds
-    mul-decode-at
-    shared-slice-read-decode-at
-    cast-decode-at
-    decode-at-requires
-    marks-with-requires
+    mul-p
+    shared-slice-read-p
+    is-conflict-with-requires
+    marked-if-requires
+    is-before-with-requires
+    marked-if-requires-2
     add-i
     loop-less
     loop-again

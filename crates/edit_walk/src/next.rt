@@ -1,0 +1,152 @@
+// The short way through 1 to 5 that most records take: a record whose vector is that of one before it, with one edit
+// more of its own, has seen nothing that was not tested with that one.
+use super::is_passing_at;
+use super::is_target_held;
+use super::is_torn_by_news;
+use super::place_at;
+use edit_record::AT_KIND;
+use edit_record::AT_SEQ;
+use edit_record::AT_SITE;
+use edit_record::AT_VECTOR;
+use edit_record::PLACE;
+use edit_record::SITES;
+use edit_record::Seq;
+use edit_record::Site;
+ghost use mathlib.Core.Path.{_≡_};
+ghost use mathlib.Core.Bool.{true, false, not, _&&_, _||_};
+ghost use Prim.Native.Nat.{ℕ, _+_, _*_, _≤_, _<_};
+ghost use lib.Dec.{leb};
+ghost use lib.ListN.{length};
+ghost use Rattle.edit_record.specs.Layout.{mostSites, recordLength, placeLength};
+ghost use Rattle.edit_record.specs.RecordBytes.{decodeOf};
+ghost use Rattle.edit_record.specs.Answer1.{isAimed, nonzeroPast, unfit};
+ghost use Rattle.edit_history.specs.EditsHeld.{mostRecords, recordAt, editsOf};
+ghost use Rattle.edit_history.specs.Answers2to5.{isTorn};
+ghost use Rattle.edit_walk.specs.WalkForms.{targetHeld, inTurnAgainst, passesAgainst};
+ghost use Rattle.edit_walk.specs.WalkForms.{sameBut, isNext, Following, Passing};
+
+// Whether rec has in every entry but that of the site s what x has; both are there whole.
+fn is_same_but(x: &[u8], rec: &[u8], s: u8) -> bool
+    requires { ⌜ (recordLength ≤ length (now x)) × (recordLength ≤ length (now rec)) ⌝ }
+    ensures { λ r. ⌜ r ≡ sameBut (decodeOf (now (x .entry)) .vector) (decodeOf (now (rec .entry)) .vector) s ⌝ }
+{
+    let own = s as usize;
+    let mut same = true;
+    let mut t: usize = 0;
+    while t < SITES {
+        let was = edit_record::pair_at(x, AT_VECTOR + 2 * t);
+        let is = edit_record::pair_at(rec, AT_VECTOR + 2 * t);
+        same = same & ((t == own) | (was == is));
+        t += 1;
+    }
+    same
+}
+
+// Whether rec has the vector of x with one edit more of the site s; both are there whole.
+fn is_next_to(x: &[u8], rec: &[u8], s: u8) -> bool
+    requires { ⌜ (recordLength ≤ length (now x)) × (recordLength ≤ length (now rec)) ⌝ }
+    ensures { λ r. ⌜ r ≡ isNext (decodeOf (now (x .entry)) .vector) (decodeOf (now (rec .entry)) .vector) s ⌝ }
+{
+    let was = edit_record::own_entry(x, s);
+    let is = edit_record::own_entry(rec, s);
+    if is as u32 != was as u32 + 1 {
+        return false;
+    }
+    is_same_but(x, rec, s)
+}
+
+// The place of the record that rec may follow, of site s with so many edits among the first p records: the last of
+// these, if rec has seen that, else the author's own before it. Whether it follows is for others to test.
+fn likely_before(recs: &[u8], places: &[u16], p: usize, rec: &[u8], s: u8, have: u16) -> usize
+    requires { ⌜ (0 < p)
+        × (p ≤ mostRecords)
+        × (p * placeLength ≤ length (now recs))
+        × (recordLength ≤ length (now rec)) ⌝ }
+{
+    let last = (p - 1) * PLACE;
+    let seen = edit_record::own_entry(rec, recs[last + AT_SITE]);
+    if edit_record::pair_at(recs, last + AT_SEQ) <= seen {
+        return p - 1;
+    }
+    place_at(places, Site(s), Seq(have)) as usize
+}
+
+// Whether rec, which is there whole, is the next of its author after the first p records, and is found to have the
+// vector of one of them with one edit more of its own.
+fn is_following(held: &[u16], recs: &[u8], places: &[u16], p: usize, rec: &[u8]) -> bool
+    requires { ⌜ (p ≤ mostRecords) × (recordLength ≤ length (now rec)) ⌝ }
+    ensures { λ r. ⌜ (r ≡ true → Following (now (held .entry)) (now (recs .entry)) p (decodeOf (now (rec .entry)))) ⌝ }
+{
+    if p == 0 {
+        return false;
+    }
+    if recs.len() < p * PLACE {
+        return false;
+    }
+    let s = rec[AT_SITE];
+    let have = edit_history::held_from(held, Site(s));
+    if edit_record::pair_at(rec, AT_SEQ) as u32 != have as u32 + 1 {
+        return false;
+    }
+    let r = likely_before(recs, places, p, rec, s, have);
+    if p <= r {
+        return false;
+    }
+    let from = r * PLACE;
+    is_next_to(&recs[from..], rec, s)
+}
+
+// Whether answer 4 is given to rec, to which none of 1 to 3 is given and which is there whole, where the first p
+// records pass and the counts and the index are theirs.
+pub fn is_torn_next(held: &[u16], recs: &[u8], places: &[u16], p: usize, rec: &[u8]) -> bool
+    requires { ⌜ (p ≤ mostRecords)
+        × (recordLength ≤ length (now rec))
+        × ((sites : ℕ) × Passing sites (now held) (now recs) p (now places)
+        × (inTurnAgainst sites (now held) (decodeOf (now rec)) ≡ true)) ⌝ }
+    ensures { λ r. ⌜ r ≡ isTorn (editsOf (now (recs .entry)) p) (decodeOf (now (rec .entry))) ⌝ }
+{
+    if is_following(held, recs, places, p, rec) {
+        return false;
+    }
+    let v = edit_record::vector_of(rec);
+    is_torn_by_news(recs, places, v, Site(rec[AT_SITE]))
+}
+
+// Whether none of 1 to 5 is given to a record that is there whole and follows one of those before it, by the counts
+// and the index of these.
+fn is_fit_and_aimed(sites: u8, held: &[u16], recs: &[u8], places: &[u16], rec: &[u8]) -> bool
+    requires { ⌜ recordLength ≤ length (now rec) ⌝ }
+    ensures { λ r.
+        ⌜ ((leb sites (decodeOf (now (rec .entry)) .site .0) ≡ false →
+        nonzeroPast sites (decodeOf (now (rec .entry)) .vector) ≡ false) →
+        r ≡ not (unfit sites (decodeOf (now (rec .entry)))
+        || isAimed (decodeOf (now (rec .entry)))
+        && not (targetHeld (now (held .entry)) (now (recs .entry)) (now (places .entry))
+        (decodeOf (now (rec .entry)))))) ⌝ }
+{
+    if edit_record::is_body_unfit(sites, rec) {
+        return false;
+    }
+    if edit_record::is_aimed_kind(rec[AT_KIND]) {
+        return is_target_held(held, recs, places, rec);
+    }
+    true
+}
+
+// Whether none of 1 to 5 is given to the record in place p, where those before it pass and the counts and the index are
+// theirs.
+pub fn is_passing_next(sites: u8, held: &[u16], recs: &[u8], places: &[u16], p: usize) -> bool
+    requires { ⌜ (p < mostRecords)
+        × (p * placeLength + placeLength ≤ length (now recs))
+        × (length (now held) ≡ mostSites)
+        × Passing sites (now held) (now recs) p (now places) ⌝ }
+    ensures { λ r. ⌜ r
+        ≡ passesAgainst sites (now (held .entry)) (now (recs .entry)) (now (places .entry))
+        (recordAt (now (recs .entry)) p) ⌝ }
+{
+    let at = p * PLACE;
+    if is_following(held, recs, places, p, &recs[at..]) {
+        return is_fit_and_aimed(sites, held, recs, places, &recs[at..]);
+    }
+    is_passing_at(sites, held, recs, places, p)
+}

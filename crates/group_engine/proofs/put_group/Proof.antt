@@ -1,0 +1,47 @@
+-- `group_engine::put_group` meets its contract: where all are decided, none of them lost is a group. Assumes nothing.
+use mathlib.Core.Path.{sym, ap, _∙_}
+use mathlib.Core.Logic.{inl, inr}
+use lib.ListN.{length, length-set}
+use borrow.Author.Needs.{needs}
+use Rattle.group_engine.proofs.NextDecided.{none-here, put-last, one-too-many}
+use Rattle.group_engine.proofs.put_group.Statement.{statement}
+use Rattle.group_engine.proofs.put_group.Tie as tie
+
+is-lost-requires : tie.Need-is-lost-requires
+is-lost-requires c κs = search needs
+
+returns : tie.Need-returns
+returns c =
+    let p = c .before .before .before .before .pre in
+    none-here (p .4) (p .5) (sym (c .before .is-lost .ensures) ∙ c .if1 .taken)
+
+mul-out : tie.Need-mul-out
+mul-out c = search needs
+
+slice-write-out : tie.Need-slice-write-out
+slice-write-out c = search needs
+
+add-result : tie.Need-add-result
+add-result c = search needs
+
+same-length : tie.Need-same-length
+same-length c =
+    let a = c .before .before .before .before .before .args in
+    elim (c .if2 .came) [
+      | inl w ↦ ap length (w .1) ∙ length-set (a .out .now) (a .found) (a .taken)
+      | inr w ↦ ap length (w .1)
+    ]
+
+returns-2 : tie.Need-returns-2
+returns-2 c =
+    let p = c .before .before .before .before .before .pre in
+    let h = sym (c .before .before .is-lost .ensures) ∙ c .before .if1 .left in
+    elim (c .if2 .came) [
+      | inl w ↦ put-last (p .4) (p .5) h (w .1) (p .2) (w .0 .taken)
+      | inr w ↦ one-too-many (p .4) (p .5) h (w .1) (p .3) (w .0 .left)
+    ]
+
+pub put-group-spec : {M : Type 1} → statement M
+put-group-spec =
+    tie.close
+    (tie.spec is-lost-requires returns mul-out slice-write-out add-result same-length returns-2)

@@ -1,0 +1,114 @@
+-- `table_sets::by_key::disputed_in` meets its contract: of the Sets passed, those in dispute among them are marked.
+-- Assumes nothing.
+use mathlib.Core.Path.{_≡_, refl, subst, _∙_}
+use mathlib.Core.Logic.{⊎-elim}
+use Prim.Native.Nat.{ℕ, _-_, _≤_, _<_}
+use native.Mathlib.Omega.{arith}
+use lib.ListN.{length, getD-replicate}
+use Rattle.edit_record.specs.Layout.{keys}
+use Rattle.group_step.specs.GroupRows.{mostSets}
+use Rattle.table_sets.specs.KeyForms.{DisputedBy, LinkedTo}
+use Rattle.table_sets.proofs.MarksByKey.{shifted-one, linked-none}
+use Rattle.table_sets.proofs.DisputesByMarks.{MarkedTo, marked-none, marked-same, marked-more}
+use borrow.Author.Needs.{needs}
+use Rattle.table_sets.proofs.by_key.disputed_in.Statement.{statement}
+use Rattle.table_sets.proofs.by_key.disputed_in.Tie as tie
+
+abbrev Inv-loop : tie.InvT-loop
+Inv-loop recs places t latest₀ earlier₀ tolds₀ all₀ i₀ latest earlier tolds all i =
+    (i ≤ t)
+    × (length latest ≡ keys)
+    × (length earlier ≡ mostSets)
+    × (length tolds ≡ mostSets)
+    × LinkedTo recs places i latest earlier tolds
+    × MarkedTo recs places i all
+
+abbrev μ-loop : tie.MeasureT-loop
+μ-loop recs places t latest₀ earlier₀ tolds₀ all₀ i₀ latest earlier tolds all i = t - i
+
+loop-holds : tie.Need-loop-holds Inv-loop μ-loop
+loop-holds c =
+    let a = c .before .before .args in (
+      search needs,
+      refl,
+      refl,
+      refl,
+      linked-none (a .recs .now) (a .places .now) _ _ _ (λ x l. getD-replicate keys x 0 0 l),
+      marked-none (a .recs .now) (a .places .now),
+    )
+
+slice-aggregate-take-set : tie.Need-slice-aggregate-take-set Inv-loop μ-loop
+slice-aggregate-take-set c = search needs
+
+slice-aggregate-take-set-2 : tie.Need-slice-aggregate-take-set-2 Inv-loop μ-loop
+slice-aggregate-take-set-2 c = search needs
+
+slice-aggregate-take-set-3 : tie.Need-slice-aggregate-take-set-3 Inv-loop μ-loop
+slice-aggregate-take-set-3 c = search needs
+
+take-set-requires : tie.Need-take-set-requires Inv-loop μ-loop
+take-set-requires c κs =
+    let start = c .before .before .before .before .before .before .before in
+    let l = c .before .before .before .before .loop in (
+      omega (arith, start .pre .1),
+      omega (arith, start .pre .0),
+      omega (arith, l .inv .1),
+      omega (arith, start .pre .1, l .inv .2),
+      omega (arith, start .pre .1, l .inv .3),
+      l .inv .4,
+      λ j m. start .pre .2 (l .i) j (omega arith) m,
+    )
+
+shl-all : tie.Need-shl-all Inv-loop μ-loop
+shl-all c = search needs
+
+add-i : tie.Need-add-i Inv-loop μ-loop
+add-i c = search needs
+
+loop-less : tie.Need-loop-less Inv-loop μ-loop
+loop-less c = search needs
+
+loop-again : tie.Need-loop-again Inv-loop μ-loop
+loop-again c =
+    let start = c .before .before .before .before .before .before .before .before .before .before .before .before in
+    let a = start .args in
+    let l = c .before .before .before .before .before .before .before .before .before .loop in
+    let s = c .before .before .before .before .take-set in
+    let rs = a .recs .now in
+    let ps = a .places .now in
+    let fits : l .i < length ps = omega (arith, start .pre .0) in (
+      omega arith,
+      s .kept .0 ∙ l .inv .1,
+      s .kept .1 .0 ∙ l .inv .2,
+      s .kept .1 .1 .0 ∙ l .inv .3,
+      s .ensures .1,
+      ⊎-elim
+          (λ v. rw (v .1, shifted-one (l .i) (omega (arith, start .pre .1)))
+          (marked-more rs ps (l .i) (s .result) (l .all) fits (l .inv .5) (s .ensures .0) (v .0 .taken)))
+          (λ v. rw (v .1) (marked-same rs ps (l .i) (s .result) (l .all) fits (l .inv .5) (s .ensures .0) (v .0 .left)))
+          (c .if1 .came),
+    )
+
+returns : tie.Need-returns Inv-loop μ-loop
+returns c =
+    let l = c .before .loop in
+    let a = c .before .before .before .before .args in
+    let done : l .i ≡ a .t = omega arith in
+    subst (λ (i : ℕ). DisputedBy (a .recs .now) (a .places .now) i (l .all)) done (l .inv .5 .marked)
+
+pub disputed-in-spec : {M : Type 1} → statement M
+disputed-in-spec =
+    tie.close
+    (tie.spec
+    Inv-loop
+    μ-loop
+    loop-holds
+    slice-aggregate-take-set
+    slice-aggregate-take-set-2
+    slice-aggregate-take-set-3
+    take-set-requires
+    shl-all
+    add-i
+    loop-less
+    loop-again
+    returns)
