@@ -49,9 +49,11 @@ static int compare_line(const struct drawing *d, size_t line, size_t length, siz
                       "a line");
 }
 
-static int compare_list(const struct drawing *d, size_t length, size_t start) {
-    return must_write(proved.list(d->counters, TABLES(d), output_a, length, start),
-                      plain.list(d->counters, TABLES(d), output_b, length, start), sizeof output_a, "the list");
+/* Says how many bytes were put. */
+static size_t compare_list(const struct drawing *d, size_t length, size_t start) {
+    struct spireslate_write_answer a = proved.list(d->counters, TABLES(d), output_a, length, start);
+    must_write(a, plain.list(d->counters, TABLES(d), output_b, length, start), sizeof output_a, "the list");
+    return a.bytes;
 }
 
 static void compare_check(const struct drawing *d) {
@@ -99,8 +101,10 @@ static void compare_views(const struct drawing *d) {
     compare_write(d, start + block, start);
     compare_write(d, start + block - 1, start);
     compare_write(d, 0, start);
-    compare_list(d, SPIRESLATE_LIST + start, start);
-    compare_list(d, SPIRESLATE_LIST + start - 1, start);
+    size_t list = compare_list(d, SPIRESLATE_LIST + start, start);
+    compare_list(d, start + list, start);
+    compare_list(d, start + list - (list != 0), start);
+    compare_list(d, 0, start);
     compare_line(d, 1, 16, SIZE_MAX);
     for (size_t line = 0; compare_line(d, line, SPIRESLATE_LINE + start, start) == SPIRESLATE_DONE; line++)
         compare_line(d, line, 20 + random_below(40), 0);

@@ -208,8 +208,11 @@ static void refuse_outputs(const struct drawing *d) {
     printf("no room for the block: %d, %zu bytes\n", w.number, w.bytes);
     w = spireslate_line(d->counters, TABLES(d), 0, output, sizeof output, SIZE_MAX);
     printf("no room for a line: %d, %zu bytes\n", w.number, w.bytes);
-    w = spireslate_list(d->counters, TABLES(d), output, sizeof output - 1, 0);
-    printf("no room for the longest list: %d, %zu bytes\n", w.number, w.bytes);
+    size_t bytes = spireslate_list(d->counters, TABLES(d), output, sizeof output, 0).bytes;
+    w = spireslate_list(d->counters, TABLES(d), output, bytes, 1);
+    printf("no room for the list: %d, %zu bytes\n", w.number, w.bytes);
+    w = spireslate_list(d->counters, TABLES(d), output, bytes, 0);
+    printf("room for the list and no more: %d, %zu bytes\n", w.number, w.bytes);
 }
 
 /* A file that ends inside its trailer, which leaves the drawing; then one whose third record has no kind, which leaves

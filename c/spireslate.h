@@ -159,8 +159,8 @@ struct spireslate_write_answer spireslate_line(struct spireslate_counters counte
                                                size_t objects_length, const uint64_t *groups, size_t groups_length,
                                                size_t line, uint8_t *out, size_t out_length, size_t start);
 
-/* Puts all lines into the output from the start on: 8, then 11 where there is no room for SPIRESLATE_LIST bytes. Bytes
-   before and after the lines stay. */
+/* Puts all lines into the output from the start on: 8, then 11 where they have no room there. Bytes before and after
+   the lines stay. Where SPIRESLATE_LIST bytes have room the lines are formed once; else they are measured first. */
 struct spireslate_write_answer spireslate_list(struct spireslate_counters counters, const uint8_t *records,
                                                size_t records_length, const uint16_t *objects,
                                                size_t objects_length, const uint64_t *groups, size_t groups_length,

@@ -15,7 +15,7 @@ RECORDS, OBJECTS, SETS, VERSIONS = rules.RECORDS, rules.OBJECTS, rules.SETS, rul
 ENTRY = 3
 # the most Sets of a box whose groups are enumerated
 DECIDED = 20
-# the room that the call for all lines asks for: 2,049 lines of 874 bytes
+# no list is longer: 2,049 lines of 874 bytes
 LONGEST_LIST = 2049 * 874
 
 # the counters N, records, objects, held (a count per site) and sum; then bytes, and two tuples of numbers
@@ -247,9 +247,9 @@ def enumerated(t, box, output):
     return Outcome(0, value=len(groups), output=as_numbers(filled(groups, VERSIONS)))
 
 
-def put(data, room, output, start):
-    """Bytes put into the output at a start, where there is so much room from there on."""
-    if start > len(output) or len(output) - start < room:
+def put(data, output, start):
+    """Bytes put into the output at a start, where there is room for them from there on."""
+    if start > len(output) or len(output) - start < len(data):
         return Outcome(11)
     return Outcome(0, value=len(data), output=output[:start] + data + output[start + len(data):])
 
@@ -259,7 +259,7 @@ def written(t, output, start):
         return Outcome(8)
     data = b"".join(records_in(t))
     block = data + rules.TRAILER.pack(t.records, t.sites, rules.LONG, len(data))
-    return put(block, len(block), output, start)
+    return put(block, output, start)
 
 
 @lru_cache(maxsize=64)
@@ -277,11 +277,10 @@ def line_put(t, number, output, start):
         return Outcome(8)
     if number >= len(lines(t)):
         return Outcome(12)
-    line = lines(t)[number]
-    return put(line, len(line), output, start)
+    return put(lines(t)[number], output, start)
 
 
 def listed(t, output, start):
     if sound_edits(t) is None:
         return Outcome(8)
-    return put(b"".join(lines(t)), LONGEST_LIST, output, start)
+    return put(b"".join(lines(t)), output, start)

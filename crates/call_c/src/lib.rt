@@ -152,8 +152,7 @@ pub extern "C" fn spireslate_line(
 }
 
 #[no_mangle]
-// Puts all lines of the list into out from the start on, if there is room for the longest list; refused, everything
-// stays as it was.
+// Puts all lines of the list into out from the start on, if they have room there; refused, everything stays as it was.
 pub extern "C" fn spireslate_list(
     c: Counters,
     records: &[u8],

@@ -31,8 +31,11 @@ module _ (file : List ℕ) (a i : ℕ) (t : Tables) (h : replayed a i t ≡ read
       rw (ap (λ (r : Replayed). r .after) h)
       (accepted-sound (emptyDrawing 0) file (sym (ap (λ (r : Replayed). r .answer) h) ∙ z))
 
--- bytes put behind none are those in front
-pub in-front : {before b after : List ℕ} {k r : ℕ} → Behind before 0 b k after r → (take r after ≡ b) × (r ≤ k)
-in-front {before} {b} f =
+-- bytes put behind none where the most of them have room are those in front
+pub in-front :
+    {before b after : List ℕ} {k r : ℕ} → k ≤ length before → Behind before 0 b k after r →
+    (take r after ≡ b) × (r ≤ k)
+in-front {before} {b} room f =
     let end = 0 + length b in
-    (rw (f .put, f .end) (take-at b (drop end before) end (omega arith)), omega (arith, f .end, f .few))
+    let put = f .put (omega (arith, room, f .few)) in
+    (rw (put, f .end) (take-at b (drop end before) end (omega arith)), omega (arith, f .end, f .few))

@@ -37,5 +37,5 @@ pub fn print_file(out: &mut [u8], file: &[u8]) -> usize
         return put_refusal(out, number as u32);
     }
     let c = r.counters;
-    put_list(out, 0, c, &records, &objects, &groups)
+    put_list(out, c, &records, &objects, &groups)
 }

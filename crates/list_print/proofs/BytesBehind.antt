@@ -1,12 +1,15 @@
 -- Bytes put behind bytes in an output, and lines joined. Assumes nothing.
 use mathlib.Core.Path.{_≡_, refl, sym, ap, _∙_}
+use mathlib.Core.Bool.{false}
 use mathlib.Core.List.{List, [], _∷_, _++_, map, map-append, append-nil, append-assoc}
 use Prim.Native.Nat.{ℕ, _+_, _-_, _*_, _≤_, _<_}
 use native.Mathlib.Nat.{add-zero, suc-mul}
 use native.Mathlib.Numerals.{add-one}
 use native.Mathlib.Omega.{arith}
+use lib.Dec.{leb}
 use lib.ListN.{length, getD, take, drop, length-append, length-drop, take-append-drop}
 use lib.Seq.{length-take-le, take-at, drop-at, drop-drop, take-suc}
+use borrow.Author.Tests.{leb-false}
 use borrow.Rule.Slice.PartMut.{midOf, putMid}
 use Rattle.table_output.specs.Output.{placed}
 use Rattle.table_output.proofs.OutputOutcomes.{lent-back}
@@ -42,17 +45,23 @@ module _ (out : List ℕ) (n : ℕ) where
 
   none-behind : Behind out n [] 0 out n
   none-behind = record {
-    put = sym (rw (add-zero n) (take-append-drop n out));
+    put = λ _. sym (rw (add-zero n) (take-append-drop n out));
     end = omega arith;
     few = omega arith;
   }
 
   pub more-behind :
-      {a b o p : List ℕ} {k l w r : ℕ} → n + length a ≤ length out → Behind out n a k o w → Behind o w b l p r →
+      {a b o p : List ℕ} {k l w r : ℕ} → Behind out n a k o w → Behind o w b l p r →
       Behind out n (a ++ b) (k + l) p r
-  more-behind {a} {b} fits f g =
+  more-behind {a} {b} {o} {p} {w = w} f g =
+      let put : n + length (a ++ b) ≤ length out → p ≡ placed out n (a ++ b) =
+      λ room.
+      let fits : n + length a ≤ length out = omega (arith, room, length-append a b) in
+      let there : w + length b ≤ length o =
+      rw (f .put fits) (omega (arith, room, f .end, length-append a b, placed-length a fits)) in
+      g .put there ∙ rw (f .put fits, f .end) (placed-more a b fits) in
       record {
-        put = g .put ∙ rw (f .put, f .end) (placed-more a b fits);
+        put = put;
         end = omega (arith, f .end, g .end, length-append a b);
         few = omega (arith, f .few, g .few, length-append a b);
       }
@@ -60,18 +69,28 @@ module _ (out : List ℕ) (n : ℕ) where
   pub fewer-behind : {b o : List ℕ} {k l r : ℕ} → k ≤ l → Behind out n b k o r → Behind out n b l o r
   fewer-behind h f = record { put = f .put; end = f .end; few = omega (arith, f .few) }
 
-  -- what is lent from n on comes back with the first k bytes of src in front, which are b
-  pub copied-behind :
-      (src b : List ℕ) (k m : ℕ) {r : List ℕ} → take k src ≡ b → k ≤ length src → k ≤ m →
-      r ≡ take k src ++ drop k (midOf n (length out - n) out) → Behind out n b m (putMid n (length out - n) out r)
-      (n + k)
-  copied-behind src b k m same fits few e =
-      let long : length b ≡ k = rw (← same) (length-take-le k src fits) in
-      record {
-        put = lent-back out n k b (e ∙ rw same) ∙ rw long;
-        end = rw long;
-        few = omega arith;
-      }
+  module _ (src : List ℕ) (k : ℕ) (there : k ≤ length src) where
+    -- what is lent from n on comes back with the first k bytes of src in front
+    pub copied-behind :
+        {r : List ℕ} → r ≡ take k src ++ drop k (midOf n (length out - n) out) →
+        Behind out n (take k src) k (putMid n (length out - n) out r) (n + k)
+    copied-behind e =
+        let long = length-take-le k src there in
+        record {
+          put = λ _. lent-back out n k (take k src) e ∙ rw long;
+          end = rw long;
+          few = omega (arith, long);
+        }
+
+    -- nothing is put where they have no room
+    pub left-out : leb (n + k) (length out) ≡ false → Behind out n (take k src) k out (n + k)
+    left-out full =
+        let long = length-take-le k src there in
+        record {
+          put = λ room. absurd (omega (arith, leb-false, room, long));
+          end = rw long;
+          few = omega (arith, long);
+        }
 
 -- ---- joined lines
 
@@ -96,12 +115,12 @@ module _ (f : ℕ → List ℕ) (m : ℕ) (out xs : List ℕ) (n : ℕ) where
   no-piece = none-behind out n
 
   pub piece-behind :
-      (i : ℕ) {o p : List ℕ} {w r : ℕ} → i < length xs → n + (i * m + m) ≤ length out →
+      (i : ℕ) {o p : List ℕ} {w r : ℕ} → i < length xs →
       Behind out n (pieces i) (i * m) o w → Behind o w (f (getD xs i 0)) m p r →
       Behind out n (pieces (i + 1)) ((i + 1) * m) p r
-  piece-behind i low fits a b =
+  piece-behind i low a b =
       let more : pieces (i + 1) ≡ pieces i ++ f (getD xs i 0) =
       rw (add-one, take-suc xs i 0 low, map-append f (take i xs) (getD xs i 0 ∷ []))
       (joined-snoc (map f (take i xs)) (f (getD xs i 0))) in
       let room : (i + 1) * m ≡ i * m + m = rw add-one (suc-mul i m) in
-      rw (more, room) (more-behind out n (omega (arith, a .few)) a b)
+      rw (more, room) (more-behind out n a b)

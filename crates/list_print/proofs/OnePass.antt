@@ -12,7 +12,7 @@ use Rattle.table_drawing.specs.Tables.{Tables}
 use Rattle.table_soundness.specs.Sound.{sound}
 use Rattle.table_output.specs.Output.{Writing, writing, placed, writtenAt}
 use Rattle.list_lines.specs.List.{linesOf}
-use Rattle.list_print.specs.Printing.{joined, listOf}
+use Rattle.list_print.specs.Printing.{joined, listOf, listingOf}
 use Rattle.list_lines.specs.LineByNumber.{lineOf}
 use Rattle.list_print.proofs.BytesBehind.{placed-more, placed-length, joined-append, joined-snoc}
 
@@ -75,8 +75,10 @@ module _ (t : Tables) (ok : sound t ≡ true) (out : List ℕ) (start : ℕ)
   one-by-one zero h = ap (writing 0 0) (sym (rw (add-zero start) (take-append-drop start out)))
   one-by-one (suc n) h = ap (printedBehind t n start) (one-by-one n (omega arith)) ∙ line-behind n (omega arith)
 
-  -- the outcome is that of `listingOf` where there is room for the longest list
-  pub one-pass :
-      printedOneByOne t (length lines) out start ≡ writing 0 (length (listOf t)) (placed out start (listOf t))
-  unfolding listOf
-  one-pass = one-by-one (length lines) (omega arith) ∙ rw (take-all (length lines) lines (omega arith))
+  -- where they have room, all lines are printed as each by its number behind those before it
+  pub one-pass : printedOneByOne t (length lines) out start ≡ listingOf t out start
+  unfolding listOf listingOf writtenAt
+  one-pass =
+      let whole : front (length lines) ≡ listOf t = ap joined (take-all (length lines) lines (omega arith)) in
+      one-by-one (length lines) (omega arith)
+      ∙ rw (whole, ok, le-leb (start + length (listOf t)) (length out) room)

@@ -1,14 +1,11 @@
--- Printing all lines in their order at a start in a longer output: 8, then 11. It asks for room for the longest list,
--- so that nothing is written in part. Assumes nothing.
+-- Printing all lines in their order at a start in a longer output: 8, then 11 where they have no room. Assumes nothing.
 use mathlib.Core.Bool.{cond}
 use mathlib.Core.List.{List, [], _∷_, _++_}
 use Prim.Native.Nat.{ℕ, _+_, _*_}
-use lib.ListN.{length}
-use lib.Dec.{leb}
 use Rattle.group_step.specs.GroupRows.{mostObjects, mostGroups}
 use Rattle.table_drawing.specs.Tables.{Tables}
 use Rattle.table_soundness.specs.Sound.{sound}
-use Rattle.table_output.specs.Output.{Writing, writing, placed}
+use Rattle.table_output.specs.Output.{Writing, writing, writtenAt}
 use Rattle.list_line.specs.Line.{lineLength}
 use Rattle.list_lines.specs.List.{linesOf}
 
@@ -20,14 +17,11 @@ joined (line ∷ lines) = line ++ joined lines
 unfoldable pub listOf : Tables → List ℕ
 listOf t = joined (linesOf t)
 
--- the bytes that a list has at most: line 0 is no longer than another line may be
+unfoldable pub listingOf : Tables → List ℕ → ℕ → Writing
+listingOf t out start = cond (sound t) (writtenAt out start (listOf t)) (writing 8 0 out)
+
+-- ---- how long a list is at most
+
+-- line 0 is no longer than another line may be
 abbrev pub listLength : ℕ
 listLength = (1 + mostObjects * mostGroups) * lineLength
-
-unfoldable pub listingOf : Tables → List ℕ → ℕ → Writing
-listingOf t out start =
-    cond (sound t)
-    (cond (leb (start + listLength) (length out))
-    (writing 0 (length (listOf t)) (placed out start (listOf t)))
-    (writing 11 0 out))
-    (writing 8 0 out)

@@ -1,4 +1,5 @@
-// All lines, put into the output one behind another.
+// All lines, put at the front of the output one behind another where they have room.
+use super::object_lines::put_behind;
 use super::object_lines::put_versions;
 use edit_history::RECORDS;
 use edit_walk::PLACES;
@@ -12,7 +13,6 @@ use list_objects::order::sort_objects;
 use list_objects::put_chained;
 use table_drawing::Counters;
 use table_index::chain::CHAINS;
-use table_output::copy_in;
 ghost use mathlib.Core.Path.{_≡_};
 ghost use mathlib.Core.Bool.{true};
 ghost use Prim.Native.Nat.{_+_, _*_, _≤_, _<_};
@@ -28,17 +28,13 @@ ghost use Rattle.list_print.specs.Printing.{joined, listOf, listLength};
 ghost use Rattle.list_lines.specs.LinesForms.{headOf};
 ghost use Rattle.list_print.specs.PrintForms.{allLines, Behind};
 
-// Puts line 0 behind the first n bytes; says how many bytes stand there then. The line is formed in a buffer of its
-// own.
-fn put_head(out: &mut [u8], line: &mut [u8], n: usize, c: Counters, objects: &[u16]) -> usize
-    requires { ⌜ (c .objects ≤ mostObjects)
-        × (n + lineLength ≤ length (now out))
-        × (lineLength ≤ length (now line)) ⌝ }
-    ensures { λ r. ⌜ Behind (now (out .entry)) n (headOf c (now (objects .entry))) lineLength (now (out .exit)) r ⌝ }
+// Puts line 0 at the front; says where it ends. The line is formed in a buffer of its own.
+fn put_head(out: &mut [u8], line: &mut [u8], c: Counters, objects: &[u16]) -> usize
+    requires { ⌜ (c .objects ≤ mostObjects) × (lineLength ≤ length (now line)) ⌝ }
+    ensures { λ r. ⌜ Behind (now (out .entry)) 0 (headOf c (now (objects .entry))) lineLength (now (out .exit)) r ⌝ }
 {
     let k = head(line, c, objects);
-    copy_in(&mut out[n..], line, k);
-    n + k
+    put_behind(out, 0, line, k)
 }
 
 // Puts the lines of object o behind the first n bytes; what is lent besides is work space, which is made once, and the
@@ -60,7 +56,7 @@ fn put_object(
     requires { ⌜ (sound (tablesOf c (now records) (now objects) (now groups)) ≡ true)
         × Chained (now records) (c .records) (now chain)
         × (o < c .objects)
-        × (n + mostGroups * lineLength ≤ length (now out))
+        × (n + mostGroups * lineLength ≤ listLength)
         × (lineLength ≤ length (now line))
         × (mostSets ≤ length (now disputes))
         × (mostSets ≤ length (now stamps))
@@ -99,7 +95,7 @@ fn put_objects(
 ) -> usize
     requires { ⌜ (sound (tablesOf c (now records) (now objects) (now groups)) ≡ true)
         × Chained (now records) (c .records) (now chain)
-        × (n + mostObjects * (mostGroups * lineLength) ≤ length (now out))
+        × (n + mostObjects * (mostGroups * lineLength) ≤ listLength)
         × (lineLength ≤ length (now line)) ⌝ }
     ensures { λ r. ⌜ Behind (now (out .entry)) n
         (allLines (tablesOf c (now (records .entry)) (now (objects .entry)) (now (groups .entry))))
@@ -135,10 +131,9 @@ fn put_objects(
     w
 }
 
-// Puts all lines behind the first n bytes, by the index of the records' places.
+// Puts all lines at the front, by the index of the records' places; says how many bytes they have.
 pub fn put_list_by(
     out: &mut [u8],
-    n: usize,
     c: Counters,
     records: &[u8],
     objects: &[u16],
@@ -146,14 +141,13 @@ pub fn put_list_by(
     places: &[u16],
 ) -> usize
     requires { ⌜ (sound (tablesOf c (now records) (now objects) (now groups)) ≡ true)
-        × Indexed (now records) (c .records) (now places)
-        × (n + listLength ≤ length (now out)) ⌝ }
-    ensures { λ r. ⌜ Behind (now (out .entry)) n
+        × Indexed (now records) (c .records) (now places) ⌝ }
+    ensures { λ r. ⌜ Behind (now (out .entry)) 0
         (listOf (tablesOf c (now (records .entry)) (now (objects .entry)) (now (groups .entry))))
         listLength (now (out .exit)) r ⌝ }
 {
     let mut line = [0u8; LINE];
-    let w = put_head(out, &mut line, n, c, objects);
+    let w = put_head(out, &mut line, c, objects);
     // what work space holds at first does not matter; zeros would be set by memset (docs/DECISIONS.md, 24)
     let mut chain = [1u16; RECORDS];
     table_sets::chain_sets(records, c.records as usize, places, &mut chain);
@@ -163,15 +157,13 @@ pub fn put_list_by(
 // The same, and the index is made first.
 pub fn put_list(
     out: &mut [u8],
-    n: usize,
     c: Counters,
     records: &[u8],
     objects: &[u16],
     groups: &[u64],
 ) -> usize
-    requires { ⌜ (sound (tablesOf c (now records) (now objects) (now groups)) ≡ true)
-        × (n + listLength ≤ length (now out)) ⌝ }
-    ensures { λ r. ⌜ Behind (now (out .entry)) n
+    requires { ⌜ sound (tablesOf c (now records) (now objects) (now groups)) ≡ true ⌝ }
+    ensures { λ r. ⌜ Behind (now (out .entry)) 0
         (listOf (tablesOf c (now (records .entry)) (now (objects .entry)) (now (groups .entry))))
         listLength (now (out .exit)) r ⌝ }
 {
@@ -189,5 +181,5 @@ pub fn put_list(
         &mut counts,
         &mut chains,
     );
-    put_list_by(out, n, c, records, objects, groups, &places)
+    put_list_by(out, c, records, objects, groups, &places)
 }

@@ -1,19 +1,33 @@
-// The lines of a gathered object, put into the output one behind another.
+// The lines of a gathered object, put into the output one behind another where they have room.
 use list_line::put_line;
 use list_objects::Gathered;
 use table_output::copy_in;
+use table_output::has_room;
 ghost use mathlib.Core.List.{map};
 ghost use Prim.Native.Nat.{_+_, _*_, _≤_, _<_};
 ghost use lib.ListN.{length, take};
 ghost use Rattle.group_step.specs.GroupRows.{mostSets, mostGroups};
 ghost use Rattle.list_line.specs.Line.{lineLength};
-ghost use Rattle.list_print.specs.Printing.{joined};
+ghost use Rattle.list_print.specs.Printing.{joined, listLength};
 ghost use Rattle.list_lines.specs.LinesForms.{Ready, lineIn};
 ghost use Rattle.list_print.specs.PrintForms.{Behind};
 
-// Puts the line of the version v of the object gathered into out behind the first n bytes; says how many bytes stand
-// there then. The line is formed in a buffer of its own, so that no other byte of out changes.
-fn put_behind(
+// Puts the first k bytes of a line behind the first n bytes of out, if they have room there; says where they end, room
+// or none. So one pass serves to print a list and to tell how long it is.
+pub fn put_behind(out: &mut [u8], n: usize, line: &[u8], k: usize) -> usize
+    requires { ⌜ (k ≤ length (now line)) × (n + k ≤ listLength) ⌝ }
+    ensures { λ r. ⌜ Behind (now (out .entry)) n (take k (now (line .entry))) k (now (out .exit)) r ⌝ }
+{
+    if !has_room(out.len(), n, k) {
+        return n + k;
+    }
+    copy_in(&mut out[n..], line, k);
+    n + k
+}
+
+// Puts the line of the version v of the object gathered behind the first n bytes. The line is formed in a buffer of its
+// own, so that no other byte of out changes.
+fn put_version(
     out: &mut [u8],
     line: &mut [u8],
     n: usize,
@@ -26,14 +40,13 @@ fn put_behind(
         × (g .disputes ≤ mostSets)
         × (g .sets ≤ length (now stamps))
         × (g .sets ≤ mostSets)
-        × (n + lineLength ≤ length (now out))
+        × (n + lineLength ≤ listLength)
         × (lineLength ≤ length (now line)) ⌝ }
     ensures { λ r. ⌜ Behind (now (out .entry)) n
         (lineIn g (now (disputes .entry)) (now (stamps .entry)) v) lineLength (now (out .exit)) r ⌝ }
 {
     let k = put_line(line, g.site, g.seq, disputes, g.disputes, stamps, g.sets, v);
-    copy_in(&mut out[n..], line, k);
-    n + k
+    put_behind(out, n, line, k)
 }
 
 // Puts the lines of all versions behind the first n bytes.
@@ -48,7 +61,7 @@ pub fn put_versions(
 ) -> usize
     requires { ⌜ Ready g (now disputes) (now stamps) (now versions)
         × (g .count ≤ mostGroups)
-        × (n + mostGroups * lineLength ≤ length (now out))
+        × (n + mostGroups * lineLength ≤ listLength)
         × (lineLength ≤ length (now line)) ⌝ }
     ensures { λ r. ⌜ Behind (now (out .entry)) n
         (joined (map (lineIn g (now (disputes .entry)) (now (stamps .entry)))
@@ -57,7 +70,7 @@ pub fn put_versions(
     let mut w = n;
     let mut v: usize = 0;
     while v < g.count {
-        w = put_behind(out, line, w, g, disputes, stamps, versions[v]);
+        w = put_version(out, line, w, g, disputes, stamps, versions[v]);
         v += 1;
     }
     w

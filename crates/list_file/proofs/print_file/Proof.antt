@@ -64,11 +64,9 @@ put-list-requires c κs =
     let test = c .before .before .before .before .before in
     let n = test .before in
     let r = n .before .before .before .before in
-    let s = r .before .before .before .before .before .before in (
-      tables-sound (now (s .args .file)) (numberOf (r .read-file .result .answer)) (r .read-file .result .index) _
-          (r .read-file .ensures) (sym (n .number .ensures) ∙ test .if1 .left),
-      omega (arith, s .pre),
-    )
+    let s = r .before .before .before .before .before .before in
+    tables-sound (now (s .args .file)) (numberOf (r .read-file .result .answer)) (r .read-file .result .index) _
+    (r .read-file .ensures) (sym (n .number .ensures) ∙ test .if1 .left)
 
 same-length-2 : tie.Need-same-length-2
 same-length-2 c = search needs
@@ -80,8 +78,9 @@ returns-2 c =
     let test = p .before .before .before .before .before .before in
     let n = test .before in
     let r = n .before .before .before .before in
-    let a = r .before .before .before .before .before .before .args in
-    let (front, few) = in-front (p .put-list .ensures) in (
+    let start = r .before .before .before .before .before .before in
+    let a = start .args in
+    let (front, few) = in-front (omega (arith, start .pre)) (p .put-list .ensures) in (
       front
           ∙ list-printed (now (a .file)) (numberOf (r .read-file .result .answer)) (r .read-file .result .index) _
           (r .read-file .ensures) (sym (n .number .ensures) ∙ test .if1 .left),

@@ -28,7 +28,7 @@ build-requires c κs =
     let start = c .before .before .before .before .before .before .before .before .before in
     let a = start .args in
     let t = tablesOf (a .c) (now (a .records)) (now (a .objects)) (now (a .groups)) in
-    ((a .c, holds t (start .pre .0), refl), refl, refl, refl, refl)
+    ((a .c, holds t (start .pre), refl), refl, refl, refl, refl)
 
 slice-aggregate-put-list-by : tie.Need-slice-aggregate-put-list-by
 slice-aggregate-put-list-by c = search needs
@@ -37,7 +37,7 @@ put-list-by-requires : tie.Need-put-list-by-requires
 put-list-by-requires c κs =
     let s8 = c .before .before .before .before .before .before .before .before in
     let s16 = s8 .before .before .before .before .before .before .before .before in
-    (s16 .pre .0, c .before .before .before .before .before .before .build .ensures .indexed, s16 .pre .1)
+    (s16 .pre, c .before .before .before .before .before .before .build .ensures .indexed)
 
 same-length : tie.Need-same-length
 same-length c = search needs

@@ -19,7 +19,7 @@ put-head-requires c κs =
     let start = c .before .before .before .before .before .before .before in
     let a = start .args in
     let t = tablesOf (a .c) (now (a .records)) (now (a .objects)) (now (a .groups)) in
-    (sound-at t (start .pre .0) .few-objects, omega (arith, start .pre .2), search needs)
+    (sound-at t (start .pre .0) .few-objects, search needs)
 
 cast-chain-sets : tie.Need-cast-chain-sets
 cast-chain-sets c = search needs
@@ -54,7 +54,7 @@ put-objects-requires c κs =
     let h = s8 .before .before .put-head in (
       start .pre .0,
       c .before .before .before .before .chain-sets .ensures,
-      omega (arith, start .pre .2, h .kept .0, h .ensures .end, h .ensures .few),
+      omega (arith, h .ensures .end, h .ensures .few),
       omega (arith, h .kept .1 .0),
     )
 
@@ -70,9 +70,8 @@ returns c =
     let t = tablesOf (a .c) (now (a .records)) (now (a .objects)) (now (a .groups)) in
     let h = s8 .before .before .before .before .before .before .put-head in
     rw (list-split t)
-    (fewer-behind (now (a .out)) (a .n) (omega arith)
-    (more-behind (now (a .out)) (a .n) (omega (arith, start .pre .2, h .ensures .few)) (h .ensures)
-    (c .before .before .before .put-objects .ensures)))
+    (fewer-behind (now (a .out)) 0 (omega arith)
+    (more-behind (now (a .out)) 0 (h .ensures) (c .before .before .before .put-objects .ensures)))
 
 pub put-list-by-spec : {M : Type 1} → statement M
 put-list-by-spec =

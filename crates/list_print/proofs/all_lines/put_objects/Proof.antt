@@ -108,7 +108,7 @@ put-object-requires c κs =
       start .pre .0,
       start .pre .1,
       sorted-low t f _ (sorted .sort-objects .ensures ∙ in-order t f) (l .i) (omega (arith, more)),
-      omega (arith, more, f .few-objects, start .pre .2, l .inv .1, l .inv .6 .end, l .inv .6 .few),
+      omega (arith, more, f .few-objects, start .pre .2, l .inv .6 .end, l .inv .6 .few),
       omega (arith, start .pre .3, l .inv .2),
       omega (arith, l .inv .3),
       omega (arith, l .inv .4),
@@ -140,8 +140,7 @@ loop-again c =
       p .kept .1 .1 .1 .0 ∙ l .inv .4,
       p .kept .1 .1 .1 .1 .0 ∙ l .inv .5,
       piece-behind (λ o. joined (linesFor t o)) (mostGroups * lineLength) (now (a .out)) _ (a .n) (l .i)
-          (omega (arith, few, more, s16 .sort-objects .kept .0)) (omega (arith, few, more, start .pre .2)) (l .inv .6)
-          (p .ensures),
+          (omega (arith, few, more, s16 .sort-objects .kept .0)) (l .inv .6) (p .ensures),
     )
 
 same-length : tie.Need-same-length Inv-loop μ-loop

@@ -29,16 +29,16 @@ loop-holds c =
     let text = lineIn (a .g) (now (a .disputes)) (now (a .stamps)) in
     (search needs, refl, refl, no-piece text lineLength (now (a .out)) (now (a .versions)) (a .n))
 
-mul-put-behind : tie.Need-mul-put-behind Inv-loop μ-loop
-mul-put-behind c = search needs
+mul-put-version : tie.Need-mul-put-version Inv-loop μ-loop
+mul-put-version c = search needs
 
-shared-slice-read-put-behind : tie.Need-shared-slice-read-put-behind Inv-loop μ-loop
-shared-slice-read-put-behind c =
+shared-slice-read-put-version : tie.Need-shared-slice-read-put-version Inv-loop μ-loop
+shared-slice-read-put-version c =
     let s8 = c .before .before .before .before .before .before .before .before in
     omega (arith, s8 .before .before .before .pre .1, s8 .before .before .before .pre .0 .versions-long)
 
-put-behind-requires : tie.Need-put-behind-requires Inv-loop μ-loop
-put-behind-requires c κs =
+put-version-requires : tie.Need-put-version-requires Inv-loop μ-loop
+put-version-requires c κs =
     let p = c .before .before .before .before .before .before .before .before .before .before .before .pre in
     let l = c .before .before .before .before .before .loop in
     let r = p .0 in (
@@ -46,7 +46,7 @@ put-behind-requires c κs =
       r .disputed,
       omega (arith, r .few, r .stamps-long),
       r .few,
-      omega (arith, p .1, p .2, l .inv .1, l .inv .3 .end, l .inv .3 .few),
+      omega (arith, p .1, p .2, l .inv .3 .end, l .inv .3 .few),
       omega (arith, p .3, l .inv .2),
     )
 
@@ -60,7 +60,7 @@ loop-again : tie.Need-loop-again Inv-loop μ-loop
 loop-again c =
     let s8 = c .before .before .before .before .before .before .before .before in
     let s16 = s8 .before .before .before .before .before .before .before .before in
-    let p = c .before .before .before .before .put-behind in
+    let p = c .before .before .before .before .put-version in
     let l = s8 .before .before .loop in
     let start = s16 in
     let a = start .args in
@@ -69,8 +69,7 @@ loop-again c =
       p .kept .0 ∙ l .inv .1,
       p .kept .1 .0 ∙ l .inv .2,
       piece-behind text lineLength (now (a .out)) (now (a .versions)) (a .n) (l .v)
-          (omega (arith, start .pre .0 .versions-long, start .pre .1)) (omega (arith, start .pre .1, start .pre .2))
-          (l .inv .3) (p .ensures),
+          (omega (arith, start .pre .0 .versions-long, start .pre .1)) (l .inv .3) (p .ensures),
     )
 
 same-length : tie.Need-same-length Inv-loop μ-loop
@@ -92,9 +91,9 @@ put-versions-spec =
     Inv-loop
     μ-loop
     loop-holds
-    mul-put-behind
-    shared-slice-read-put-behind
-    put-behind-requires
+    mul-put-version
+    shared-slice-read-put-version
+    put-version-requires
     add-v
     loop-less
     loop-again
