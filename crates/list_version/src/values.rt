@@ -11,10 +11,12 @@ use edit_record::AT_SITE;
 use edit_record::KEYS;
 use edit_record::PLACE;
 ghost use mathlib.Core.Path.{_≡_};
-ghost use Prim.Native.Nat.{_+_, _*_, _-_, _≤_, _<_};
+ghost use mathlib.Core.Bool.{_||_};
+ghost use Prim.Native.Nat.{ℕ, _+_, _*_, _-_, _≤_, _<_, max};
 ghost use lib.ListN.{length, take};
 ghost use Rattle.edit_record.specs.Layout.{mostSites, keys, twoBytes};
 ghost use Rattle.edit_history.specs.EditsHeld.{recordAt};
+ghost use Rattle.math_maximal.specs.Groups.{bit};
 ghost use Rattle.group_step.specs.GroupRows.{mostSets};
 ghost use Rattle.list_version.specs.Identifier.{siteNumbers};
 ghost use Rattle.list_version.specs.VersionForms.{setsAt, stampOf, values, placings, Small, Stamped, LargestOf};
@@ -77,4 +79,34 @@ pub fn largest(stamps: &[u64], t: usize, g: u64) -> [u64; ALL_KEYS]
         i += 1;
     }
     best
+}
+
+// The larger of two numbers.
+fn larger(a: u64, b: u64) -> u64
+    ensures { λ r. ⌜ r ≡ max a b ⌝ }
+{
+    if a < b { b } else { a }
+}
+
+// The same with the members of `more` besides, where `best` has the largest stamps of the others.
+pub fn largest_with(best: [u64; ALL_KEYS], stamps: &[u64], t: usize, more: u64) -> [u64; ALL_KEYS]
+    requires { ⌜ (t ≤ length (now stamps)) × (t ≤ mostSets) ⌝ }
+    ensures { λ r.
+        ⌜ ((g others : ℕ) → LargestOf best (take t (now (stamps .entry))) others →
+        ((i : ℕ) → i < t → bit g i ≡ (bit others i || bit more i)) →
+        LargestOf r (take t (now (stamps .entry))) g) ⌝ }
+{
+    let mut found = best;
+    let mut left = more;
+    while left != 0 {
+        let i = u64::trailing_zeros(left) as usize;
+        if i < t {
+            let s = stamps[i];
+            let k = (s / PLACINGS) as usize;
+            found[k] = larger(found[k], s);
+        }
+        let own = group_step::only(i);
+        left = group_step::without(left, own);
+    }
+    found
 }
