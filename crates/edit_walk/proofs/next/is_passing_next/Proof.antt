@@ -7,36 +7,30 @@ use native.Mathlib.Omega.{arith}
 use lib.Seq.{take-all}
 use lib.ListN.{length, take, drop, length-drop}
 use denote.Ref.{now}
-use borrow.Author.Needs.{needs}
 use Rattle.edit_record.specs.Layout.{placeLength}
 use Rattle.edit_history.specs.EditsHeld.{recordAt}
 use Rattle.edit_walk.proofs.NextDecides.{next-not-past, next-decides}
+use borrow.Author.Needs.{needs}
 use Rattle.edit_walk.proofs.next.is_passing_next.Statement.{statement}
 use Rattle.edit_walk.proofs.next.is_passing_next.Tie as tie
 
 mul-at : tie.Need-mul-at
 mul-at c = search needs
 
-sub-is-following : tie.Need-sub-is-following
-sub-is-following c = search needs
+sub-rec : tie.Need-sub-rec
+sub-rec c = search needs
 
-part-is-following-start : tie.Need-part-is-following-start
-part-is-following-start c = search needs
+part-rec-start : tie.Need-part-rec-start
+part-rec-start c = search needs
 
-part-is-following-end : tie.Need-part-is-following-end
-part-is-following-end c = search needs
+part-rec-end : tie.Need-part-rec-end
+part-rec-end c = search needs
 
-is-following-requires : tie.Need-is-following-requires
-is-following-requires c κs = search needs
+likely-before-requires : tie.Need-likely-before-requires
+likely-before-requires c κs = search needs
 
-sub-is-fit-and-aimed : tie.Need-sub-is-fit-and-aimed
-sub-is-fit-and-aimed c = search needs
-
-part-is-fit-and-aimed-start : tie.Need-part-is-fit-and-aimed-start
-part-is-fit-and-aimed-start c = search needs
-
-part-is-fit-and-aimed-end : tie.Need-part-is-fit-and-aimed-end
-part-is-fit-and-aimed-end c = search needs
+is-next-at-requires : tie.Need-is-next-at-requires
+is-next-at-requires c κs = search needs
 
 is-fit-and-aimed-requires : tie.Need-is-fit-and-aimed-requires
 is-fit-and-aimed-requires c κs = search needs
@@ -51,12 +45,14 @@ returns c =
     let rest : _≡_ {A = List ℕ} (take (length rs - at) (drop at rs)) (drop at rs)
     = take-all (length rs - at) (drop at rs) (simp length-drop (omega arith)) in
     let e = recordAt rs (a .p) in
-    let t = rw rest at (c .before .before .before .is-following .ensures (c .before .before .if1 .taken)) in
-    let past = next-not-past (a .sites) (ok .few) rs (a .p) (ok .pass) e (t .last) (t .before) (t .grown) in
+    let r = c .before .before .before .likely-before .result in
+    let (before, grown) = rw rest at (c .before .before .is-next-at .ensures (c .before .if1 .taken)) in
+    let (_, next) = rw rest at (c .before .before .before .likely-before .ensures before) in
+    let past = next-not-past (a .sites) (ok .few) rs (a .p) (ok .pass) e r before grown in
     (rw rest at (c .is-fit-and-aimed .ensures)) past
     ∙ sym
     (next-decides (a .sites) (ok .few) rs (a .p) (ok .pass) (now (a .places)) (ok .indexed) (now (a .held))
-    (ok .counted) e (t .last) (t .before) (t .grown) (t .next))
+    (ok .counted) e r before grown next)
 
 is-passing-at-requires : tie.Need-is-passing-at-requires
 is-passing-at-requires c κs = search needs
@@ -69,13 +65,11 @@ is-passing-next-spec =
     tie.close
     (tie.spec
     mul-at
-    sub-is-following
-    part-is-following-start
-    part-is-following-end
-    is-following-requires
-    sub-is-fit-and-aimed
-    part-is-fit-and-aimed-start
-    part-is-fit-and-aimed-end
+    sub-rec
+    part-rec-start
+    part-rec-end
+    likely-before-requires
+    is-next-at-requires
     is-fit-and-aimed-requires
     returns
     is-passing-at-requires
