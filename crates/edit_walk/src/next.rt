@@ -1,5 +1,6 @@
 // The short way through 1 to 5 that most records take: a record whose vector is that of one before it, with one edit
 // more of its own, has seen nothing that was not tested with that one.
+use super::is_passing;
 use super::is_passing_at;
 use super::is_target_held;
 use super::is_torn_by_news;
@@ -191,4 +192,27 @@ pub fn is_passing_next(sites: u8, held: &[u16], recs: &[u8], places: &[u16], p: 
         return is_fit_and_aimed(sites, held, recs, places, rec);
     }
     is_passing_at(sites, held, recs, places, p)
+}
+
+// The same of a record that is there whole and stands anywhere, after the first p records.
+pub fn is_passing_after(
+    sites: u8,
+    held: &[u16],
+    recs: &[u8],
+    places: &[u16],
+    p: usize,
+    rec: &[u8],
+) -> bool
+    requires { ⌜ (p ≤ mostRecords)
+        × (recordLength ≤ length (now rec))
+        × (length (now held) ≡ mostSites)
+        × Passing sites (now held) (now recs) p (now places) ⌝ }
+    ensures { λ r. ⌜ r
+        ≡ passesAgainst sites (now (held .entry)) (now (recs .entry)) (now (places .entry))
+        (decodeOf (now (rec .entry))) ⌝ }
+{
+    if is_following(held, recs, places, p, rec) {
+        return is_fit_and_aimed(sites, held, recs, places, rec);
+    }
+    is_passing(sites, held, recs, places, rec)
 }
