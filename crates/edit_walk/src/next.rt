@@ -159,12 +159,6 @@ fn is_fit_and_aimed(sites: u8, held: &[u16], recs: &[u8], places: &[u16], rec: &
         && not (targetHeld (now (held .entry)) (now (recs .entry)) (now (places .entry))
         (decodeOf (now (rec .entry)))))) ⌝ }
 {
-    if rec[AT_KIND] == SET {
-        if is_set_unfit(sites, rec) {
-            return false;
-        }
-        return is_target_held(held, recs, places, rec);
-    }
     if edit_record::is_body_unfit(sites, rec) {
         return false;
     }
@@ -172,6 +166,24 @@ fn is_fit_and_aimed(sites: u8, held: &[u16], recs: &[u8], places: &[u16], rec: &
         return is_target_held(held, recs, places, rec);
     }
     true
+}
+
+// The same of a plain Set, as most records are. It has one caller, which so takes it in: a call costs more than what is
+// asked here.
+fn is_set_fit_and_aimed(sites: u8, held: &[u16], recs: &[u8], places: &[u16], rec: &[u8]) -> bool
+    requires { ⌜ (recordLength ≤ length (now rec)) × (decodeOf (now rec) .kind ≡ setKind) ⌝ }
+    ensures { λ r.
+        ⌜ ((leb sites (decodeOf (now (rec .entry)) .site .0) ≡ false →
+        nonzeroPast sites (decodeOf (now (rec .entry)) .vector) ≡ false) →
+        r ≡ not (unfit sites (decodeOf (now (rec .entry)))
+        || isAimed (decodeOf (now (rec .entry)))
+        && not (targetHeld (now (held .entry)) (now (recs .entry)) (now (places .entry))
+        (decodeOf (now (rec .entry)))))) ⌝ }
+{
+    if is_set_unfit(sites, rec) {
+        return false;
+    }
+    is_target_held(held, recs, places, rec)
 }
 
 // Whether none of 1 to 5 is given to the record in place p, where those before it pass and the counts and the index are
@@ -189,6 +201,9 @@ pub fn is_passing_next(sites: u8, held: &[u16], recs: &[u8], places: &[u16], p: 
     let rec = &recs[at..];
     let r = likely_before(held, recs, places, p, rec);
     if is_next_at(recs, p, r, rec) {
+        if rec[AT_KIND] == SET {
+            return is_set_fit_and_aimed(sites, held, recs, places, rec);
+        }
         return is_fit_and_aimed(sites, held, recs, places, rec);
     }
     is_passing_at(sites, held, recs, places, p)
@@ -211,7 +226,8 @@ pub fn is_passing_after(
         ≡ passesAgainst sites (now (held .entry)) (now (recs .entry)) (now (places .entry))
         (decodeOf (now (rec .entry))) ⌝ }
 {
-    if is_following(held, recs, places, p, rec) {
+    let r = likely_before(held, recs, places, p, rec);
+    if is_next_at(recs, p, r, rec) {
         return is_fit_and_aimed(sites, held, recs, places, rec);
     }
     is_passing(sites, held, recs, places, rec)

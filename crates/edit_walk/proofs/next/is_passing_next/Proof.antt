@@ -1,6 +1,5 @@
 -- `edit_walk::next::is_passing_next` meets its contract: where the record follows one before it, 1 and 5
 -- decide. Assumes nothing.
-use mathlib.Core.Path.{_≡_, sym, _∙_}
 use mathlib.Core.List.{List}
 use Prim.Native.Nat.{ℕ, _*_, _-_}
 use native.Mathlib.Omega.{arith}
@@ -9,7 +8,7 @@ use lib.ListN.{length, take, drop, length-drop}
 use denote.Ref.{now}
 use Rattle.edit_record.specs.Layout.{placeLength}
 use Rattle.edit_history.specs.EditsHeld.{recordAt}
-use Rattle.edit_walk.proofs.NextDecides.{next-not-past, next-decides}
+use Rattle.edit_walk.proofs.NextDecides.{next-tells}
 use borrow.Author.Needs.{needs}
 use Rattle.edit_walk.proofs.next.is_passing_next.Statement.{statement}
 use Rattle.edit_walk.proofs.next.is_passing_next.Tie as tie
@@ -32,33 +31,46 @@ likely-before-requires c κs = search needs
 is-next-at-requires : tie.Need-is-next-at-requires
 is-next-at-requires c κs = search needs
 
-is-fit-and-aimed-requires : tie.Need-is-fit-and-aimed-requires
-is-fit-and-aimed-requires c κs = search needs
+shared-slice-read-if2 : tie.Need-shared-slice-read-if2
+shared-slice-read-if2 c = search needs
+
+is-set-fit-and-aimed-requires : tie.Need-is-set-fit-and-aimed-requires
+is-set-fit-and-aimed-requires c κs = search needs
 
 returns : tie.Need-returns
 returns c =
-    let z = c .before .before .before .before .before .before .before .before in
-    let a = z .args in
-    let ok = z .pre .3 in
+    let s = c .before .before .before .before .before .before .before .before .before .before in
+    let a = s .args in
     let rs = now (a .recs) in
     let at = a .p * placeLength in
     let rest : _≡_ {A = List ℕ} (take (length rs - at) (drop at rs)) (drop at rs)
     = take-all (length rs - at) (drop at rs) (simp length-drop (omega arith)) in
-    let e = recordAt rs (a .p) in
-    let r = c .before .before .before .likely-before .result in
-    let (before, grown) = rw rest at (c .before .before .is-next-at .ensures (c .before .if1 .taken)) in
-    let (_, next) = rw rest at (c .before .before .before .likely-before .ensures before) in
-    let past = next-not-past (a .sites) (ok .few) rs (a .p) (ok .pass) e r before grown in
-    (rw rest at (c .is-fit-and-aimed .ensures)) past
-    ∙ sym
-    (next-decides (a .sites) (ok .few) rs (a .p) (ok .pass) (now (a .places)) (ok .indexed) (now (a .held))
-    (ok .counted) e r before grown next)
+    let (before, grown) = rw rest at (c .before .before .before .before .is-next-at .ensures (c .before .before .before .if1 .taken)) in
+    let (_, next) = rw rest at (c .before .before .before .before .before .likely-before .ensures before) in
+    next-tells (a .sites) (s .pre .3) (recordAt rs (a .p)) (c .before .before .before .before .before .likely-before .result) before grown next
+    (rw rest at (c .is-set-fit-and-aimed .ensures))
+
+is-fit-and-aimed-requires : tie.Need-is-fit-and-aimed-requires
+is-fit-and-aimed-requires c κs = search needs
+
+returns-2 : tie.Need-returns-2
+returns-2 c =
+    let s = c .before .before .before .before .before .before .before .before .before .before in
+    let a = s .args in
+    let rs = now (a .recs) in
+    let at = a .p * placeLength in
+    let rest : _≡_ {A = List ℕ} (take (length rs - at) (drop at rs)) (drop at rs)
+    = take-all (length rs - at) (drop at rs) (simp length-drop (omega arith)) in
+    let (before, grown) = rw rest at (c .before .before .before .before .is-next-at .ensures (c .before .before .before .if1 .taken)) in
+    let (_, next) = rw rest at (c .before .before .before .before .before .likely-before .ensures before) in
+    next-tells (a .sites) (s .pre .3) (recordAt rs (a .p)) (c .before .before .before .before .before .likely-before .result) before grown next
+    (rw rest at (c .is-fit-and-aimed .ensures))
 
 is-passing-at-requires : tie.Need-is-passing-at-requires
 is-passing-at-requires c κs = search needs
 
-returns-2 : tie.Need-returns-2
-returns-2 c = search needs
+returns-3 : tie.Need-returns-3
+returns-3 c = search needs
 
 pub is-passing-next-spec : {M : Type 1} → statement M
 is-passing-next-spec =
@@ -70,7 +82,10 @@ is-passing-next-spec =
     part-rec-end
     likely-before-requires
     is-next-at-requires
-    is-fit-and-aimed-requires
+    shared-slice-read-if2
+    is-set-fit-and-aimed-requires
     returns
+    is-fit-and-aimed-requires
+    returns-2
     is-passing-at-requires
-    returns-2)
+    returns-3)
