@@ -11,9 +11,9 @@ use lib.Count.{trailingZeros}
 use lib.ListN.{length, getD, set}
 use lib.Seq.{getD-set-same, getD-set-other}
 use borrow.Author.Tests.{ne-eqb}
-use Rattle.math_lists.proofs.Booleans.{clash, both, and-on, eqb-self}
+use Rattle.math_lists.proofs.Booleans.{clash, both, eqb-self}
 use Rattle.math_maximal.specs.Groups.{bit}
-use Rattle.math_maximal.proofs.Bits.{bit-none, bit-below, bit-and, bit-minus, bit-power}
+use Rattle.math_maximal.proofs.Bits.{bit-none, bit-below, bit-minus, bit-power}
 use Rattle.math_maximal.proofs.FirstMember.{first-member}
 use Rattle.group_limited.specs.LimitedForms.{withMark}
 
@@ -24,14 +24,6 @@ pub first-left :
 first-left {left} {n} some part small fits =
     let b = first-member 64 left (omega arith) (omega arith) in
     (b, bit-below n left (omega arith) (trailingZeros 64 left) b)
-
--- there are fewer without it
-pub less-left : (left j : ℕ) → (left ≡ 0 → ⊥) → bit left j ≡ true → left - bitAnd left (2 ^ j) < left
-less-left left j some b =
-    let common : bitAnd left (2 ^ j) ≡ 0 → ⊥ = λ e.
-    clash (bit-and left (2 ^ j) j ∙ and-on (bit left j) (bit (2 ^ j) j) b (bit-power j j ∙ eqb-self j))
-    (rw e (bit-none j)) in
-    omega arith
 
 -- of a Set that is still to come, the number is as it was
 pub record MarkedBut (left n row : ℕ) (before now : List ℕ) : Type 0 where

@@ -141,7 +141,7 @@ pub fn is_sound_with(
     if !rest_sound(c, held, places, records, objects, groups) {
         return false;
     }
-    group_named::are_all_named(records, c.records as usize)
+    group_named::are_all_named(records, c.records as usize, places)
 }
 
 // Whether the tables are sound, whatever stands in them.

@@ -107,27 +107,28 @@ cast-are-all-named c = search needs
 
 are-all-named-requires : tie.Need-are-all-named-requires
 are-all-named-requires c κs =
-    let y = c .before .before .rest-sound in
-    let x = c .before .before .before .before .before .before .before .before .before .before .before .before in
+    let y = c .before .before .before .rest-sound in
+    let x = c .before .before .before .before .before .before .before .before .before .before .before .before .before in
     let a = x .before .before .before .before .before .before .before .before .before .before .before .args in
     let v = x .before .before .before .before .within-limits in
     let limits : withinLimits (a .c) ≡ true = sym (v .ensures) ∙ not-false (v .result) (x .before .before .before .if2 .left) in
-    (few (a .c) limits .0, y .ensures .1 (not-false (y .result) (c .before .if5 .left)))
+    (few (a .c) limits .0, y .ensures .1 (not-false (y .result) (c .before .before .if5 .left)))
 
 same-length-3 : tie.Need-same-length-3
 same-length-3 c = search needs
 
 returns-6 : tie.Need-returns-6
 returns-6 c =
-    let y = c .before .before .before .rest-sound in
-    let w = c .before .before .before .before .before .before .before .before .before .before .walk in
-    let x = c .before .before .before .before .before .before .before .before .before .before .before .before .before in
+    let y = c .before .before .before .before .rest-sound in
+    let w = c .before .before .before .before .before .before .before .before .before .before .before .walk in
+    let x = c .before .before .before .before .before .before .before .before .before .before .before .before .before .before in
     let a = x .before .before .before .before .before .before .before .before .before .before .before .args in
     let v = x .before .before .before .before .within-limits in
     let limits : withinLimits (a .c) ≡ true = sym (v .ensures) ∙ not-false (v .result) (x .before .before .before .if2 .left) in
-    let ok = not-false (w .result .ok) (c .before .before .before .before .before .before .if4 .left) in
-    let named = c .are-all-named .ensures (a .c .sites) (few-sites (a .c) limits) (w .ensures .passed ok) in
-    let yes = not-false (y .result) (c .before .before .if5 .left) in
+    let ok = not-false (w .result .ok) (c .before .before .before .before .before .before .before .if4 .left) in
+    let named = c .are-all-named .ensures (a .c .sites) (few-sites (a .c) limits) (w .ensures .passed ok)
+    (w .ensures .indexed ok) in
+    let yes = not-false (y .result) (c .before .before .before .if5 .left) in
     (named ∙ (rw yes at (y .ensures .0)), λ z. w .ensures .indexed ok)
 
 pub is-sound-with-spec : {M : Type 1} → statement M

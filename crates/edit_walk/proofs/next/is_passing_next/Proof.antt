@@ -1,5 +1,6 @@
 -- `edit_walk::next::is_passing_next` meets its contract: where the record follows one before it, 1 and 5
 -- decide. Assumes nothing.
+use mathlib.Core.Path.{_≡_}
 use mathlib.Core.List.{List}
 use Prim.Native.Nat.{ℕ, _*_, _-_}
 use native.Mathlib.Omega.{arith}
