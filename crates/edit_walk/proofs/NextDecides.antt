@@ -182,7 +182,3 @@ next-tells sites {counts} {rs} {ps} {n} ok e x before grown next told =
     told (next-not-past sites (ok .few) rs n (ok .pass) e x before grown)
     ∙ sym
     (next-decides sites (ok .few) rs n (ok .pass) ps (ok .indexed) counts (ok .counted) e x before grown next)
-
-pub twice-not : (b : Bool) → b ≡ not (not b)
-twice-not true = refl
-twice-not false = refl

@@ -15,13 +15,13 @@ use lib.Pow.{pow-mono}
 use borrow.Author.Tests.{eq-eqb, ne-eqb, eqb-true, not-true}
 use Rattle.math_lists.specs.NumbersBelow.{some}
 use Rattle.math_lists.proofs.Booleans.{clash, off, same-test, both, and-on, either, neither, or-left, or-right}
-use Rattle.math_lists.proofs.Booleans.{then-off, eqb-self}
+use Rattle.math_lists.proofs.Booleans.{then-off, and-true, eqb-self}
 use Rattle.math_lists.proofs.NumbersBelow.{some-on, some-at, some-same, none-at, mask-below}
 use Rattle.math_maximal.specs.Groups.{bit}
 use Rattle.math_maximal.specs.Step.{compatible}
 use Rattle.math_maximal.proofs.MaximalSets.{same-set}
 use Rattle.math_maximal.proofs.Bits.{bit-none, bit-below, bit-or, bit-and, bit-minus, bit-power, same-bits, some-common}
-use Rattle.math_maximal.proofs.FirstMember.{first-member}
+use Rattle.math_maximal.proofs.OneMemberLess.{fewer, bit-fewer}
 use Rattle.math_contexts.specs.Box.{Box}
 use Rattle.math_contexts.specs.Contexts.{context}
 use Rattle.math_contexts.proofs.ContextMembers.{contexts-hold, context-below}
@@ -34,21 +34,6 @@ use Rattle.group_context.proofs.ReachedByRows.{held-at}
 use Rattle.group_context.proofs.NextByRows.{context-of-next}
 
 -- ---- gone through
-
--- the first of those that are left
-pub first-left : (left : ℕ) → (left ≡ 0 → ⊥) → left < 2 ^ 64 →
-    (bit left (trailingZeros 64 left) ≡ true) × (trailingZeros 64 left < mostSets)
-first-left left some fits =
-    let b = first-member 64 left (omega arith) fits in
-    (b, bit-below 64 left fits (trailingZeros 64 left) b)
-
--- there are fewer without it
-pub less-left : (left j : ℕ) → (left ≡ 0 → ⊥) → bit left j ≡ true → left - bitAnd left (2 ^ j) < left
-less-left left j some b =
-    let common : bitAnd left (2 ^ j) ≡ 0 → ⊥ = λ e.
-    clash (bit-and left (2 ^ j) j ∙ and-on (bit left j) (bit (2 ^ j) j) b (bit-power j j ∙ eqb-self j))
-    (rw e (bit-none j)) in
-    omega arith
 
 -- j is a member of m that is not left
 abbrev pub gone : ℕ → ℕ → ℕ → Bool
@@ -69,27 +54,14 @@ none-gone m h =
 pub all-gone : (m left : ℕ) (h : ℕ → Bool) → left ≡ 0 → someGone m left h ≡ some mostSets (λ j. bit m j && h j)
 all-gone m left h z =
     some-same mostSets (λ j. gone m left j && h j) (λ j. bit m j && h j)
-    (λ j l. rw (z, bit-none j) (ap (λ (t : Bool). t && h j) (and-same (bit m j))))
-  where
-    and-same : (b : Bool) → (b && true) ≡ b
-    and-same true = refl
-    and-same false = refl
+    (λ j l. rw (z, bit-none j) (ap (λ (t : Bool). t && h j) (and-true (bit m j))))
 
 -- one more is gone
 module _ (m left i : ℕ) (few : i < mostSets) (here : bit left i ≡ true) (its : bit m i ≡ true) where
-  abbrev fewer : ℕ
-  fewer = left - bitAnd left (2 ^ i)
-
-  still : (j : ℕ) → bit fewer j ≡ (bit left j && not (eqb j i))
-  still j = bit-minus left (2 ^ i) j ∙ rw (bit-power i j)
-
-  pub still-left : (j : ℕ) → bit fewer j ≡ true → bit left j ≡ true
-  still-left j b = both (bit left j) (not (eqb j i)) (sym (still j) ∙ b) .0
-
-  gone-more : (j : ℕ) → gone m fewer j ≡ (gone m left j || eqb j i)
+  gone-more : (j : ℕ) → gone m (fewer left i) j ≡ (gone m left j || eqb j i)
   gone-more j = elim (ℕ-discrete j i) [
-    | yes e ↦ rw (e, still i, here, its, eqb-self i)
-    | no d ↦ rw (still j, ne-eqb j i d) (kept (bit m j) (bit left j))
+    | yes e ↦ rw (e, bit-fewer left i i, here, its, eqb-self i)
+    | no d ↦ rw (bit-fewer left i j, ne-eqb j i d) (kept (bit m j) (bit left j))
   ]
     where
       kept : (a b : Bool) → (a && not (b && true)) ≡ (a && not b || false)
@@ -97,21 +69,21 @@ module _ (m left i : ℕ) (few : i < mostSets) (here : bit left i ≡ true) (its
       kept true false = refl
       kept false b = refl
 
-  pub some-more : (h : ℕ → Bool) → (someGone m left h || h i) ≡ someGone m fewer h
+  pub some-more : (h : ℕ → Bool) → (someGone m left h || h i) ≡ someGone m (fewer left i) h
   some-more h =
-      same-test (someGone m left h || h i) (someGone m fewer h)
+      same-test (someGone m left h || h i) (someGone m (fewer left i) h)
       (λ t. elim (either (someGone m left h) (h i) t) [
         | inl a ↦
             (let (j, l, p) = some-at mostSets (λ j. gone m left j && h j) a in
             let (g, q) = both (gone m left j) (h j) p in
-            some-on mostSets (λ j. gone m fewer j && h j) j l
-            (and-on (gone m fewer j) (h j) (gone-more j ∙ or-left (gone m left j) (eqb j i) g) q))
+            some-on mostSets (λ j. gone m (fewer left i) j && h j) j l
+            (and-on (gone m (fewer left i) j) (h j) (gone-more j ∙ or-left (gone m left j) (eqb j i) g) q))
         | inr q ↦
-            some-on mostSets (λ j. gone m fewer j && h j) i few
-            (and-on (gone m fewer i) (h i) (gone-more i ∙ or-right (gone m left i) (eqb i i) (eqb-self i)) q)
+            some-on mostSets (λ j. gone m (fewer left i) j && h j) i few
+            (and-on (gone m (fewer left i) i) (h i) (gone-more i ∙ or-right (gone m left i) (eqb i i) (eqb-self i)) q)
       ])
-      (λ t. let (j, l, p) = some-at mostSets (λ j. gone m fewer j && h j) t in
-      let (g, q) = both (gone m fewer j) (h j) p in
+      (λ t. let (j, l, p) = some-at mostSets (λ j. gone m (fewer left i) j && h j) t in
+      let (g, q) = both (gone m (fewer left i) j) (h j) p in
       elim (either (gone m left j) (eqb j i) (sym (gone-more j) ∙ g)) [
         | inl a ↦
             or-left (someGone m left h) (h i)

@@ -32,7 +32,7 @@ use Rattle.edit_history.proofs.EditsHeld.{any-edit-on, target-parts}
 use Rattle.edit_history.proofs.RecordsPassed.{target-before}
 use Rattle.group_true.proofs.ProperSets.{plain-named}
 use Rattle.group_limited.specs.LimitedForms.{namedInTurn}
-use Rattle.group_named.specs.ChainForms.{Aimed}
+use Rattle.group_named.specs.ChainForms.{TargetsHeld}
 use Rattle.group_named.specs.NamedForms.{isNamedAt}
 
 -- ---- the Sets of one object
@@ -148,7 +148,7 @@ module _ (rs : List ℕ) where
         (λ p l. ap not (records-then (all-at n (isNamedAt rs n) h) p l)))
 
     -- each Set has its Create before it
-    pub aimed : Aimed rs n
+    pub aimed : TargetsHeld rs n
     aimed q l set =
         let e = recordAt rs q in
         let (t, before, target) = target-before sites rs n pass q l (set-aimed e set) in

@@ -18,7 +18,7 @@ use Rattle.edit_record.proofs.WellFormed.{set-not-create}
 use Rattle.edit_causal.specs.Causal.{sameEdit}
 use Rattle.edit_history.specs.EditsHeld.{recordAt}
 use Rattle.edit_walk.specs.WalkForms.{Indexed}
-use Rattle.group_named.specs.ChainForms.{put, aimOf, linkedWith, Follows, isOn, Chained, Aimed}
+use Rattle.group_named.specs.ChainForms.{put, aimOf, linkedWith, Follows, isOn, ByteChained, TargetsHeld}
 use Rattle.group_named.proofs.NumbersFrom.{from, Above, from-above, from-first, from-more, from-same, from-none}
 
 -- ---- what is written elsewhere
@@ -72,7 +72,7 @@ LinkedFrom rs n i ch =
 pub linked-none : (rs : List ℕ) (n : ℕ) (ch : List ℕ) → ((i : ℕ) → i < n → getD ch i 0 ≡ 0) → LinkedFrom rs n n ch
 linked-none rs n ch zeros x l create = rw (from-none (isOn rs x) n) (zeros x l)
 
-pub linked-all : (rs : List ℕ) (n i : ℕ) (ch : List ℕ) → i ≡ 0 → LinkedFrom rs n i ch → Chained rs n ch
+pub linked-all : (rs : List ℕ) (n i : ℕ) (ch : List ℕ) → i ≡ 0 → LinkedFrom rs n i ch → ByteChained rs n ch
 linked-all rs n i ch e h x l create =
     let all : n - i ≡ n = omega arith in
     let f = isOn rs x in
@@ -89,7 +89,7 @@ not-linked rs n q ch l unset h x m create =
     let none : f q ≡ false = rw unset in
     subst (Follows ch (getD ch x 0)) (sym (from-same f q n l none)) (h x m create)
 
-module _ (rs ps : List ℕ) (n : ℕ) (index : Indexed rs n ps) (targets : Aimed rs n) (q : ℕ) (l : q < n) where
+module _ (rs ps : List ℕ) (n : ℕ) (index : Indexed rs n ps) (targets : TargetsHeld rs n) (q : ℕ) (l : q < n) where
   abbrev aim : ℕ
   aim = aimOf rs ps q
 

@@ -21,7 +21,7 @@ use Rattle.edit_record.specs.Answer1.{isCreate}
 use Rattle.edit_history.specs.EditsHeld.{recordAt, editsOf, isSetOn, setsOn}
 use Rattle.group_step.specs.GroupRows.{mostSets}
 use Rattle.group_limited.specs.LimitedForms.{setsIn}
-use Rattle.group_named.specs.ChainForms.{Follows, isOn, Chained}
+use Rattle.group_named.specs.ChainForms.{Follows, isOn, ByteChained}
 
 -- of any places l that the chain goes through from p: the first k are put down in out, and the chain goes on with v
 abbrev pub FollowedTo : List ℕ → ℕ → ℕ → ℕ → List ℕ → Type 0
@@ -108,7 +108,7 @@ module _ (rs : List ℕ) (p : ℕ) where
 
   -- what was put down from a Create
   pub gathered :
-      (n k : ℕ) (ch out : List ℕ) → p < n → isCreate (recordAt rs p) ≡ true → Chained rs n ch →
+      (n k : ℕ) (ch out : List ℕ) → p < n → isCreate (recordAt rs p) ≡ true → ByteChained rs n ch →
       length (setsOn (recordAt rs p .site) (recordAt rs p .seq) (editsOf rs n)) ≤ mostSets →
       ((l : List ℕ) → Follows ch (getD ch p 0) l → length l ≤ mostSets → take k out ≡ l) →
       setsIn rs out k ≡ setsOn (recordAt rs p .site) (recordAt rs p .seq) (editsOf rs n)

@@ -34,12 +34,12 @@ abbrev pub isOn : List ℕ → ℕ → ℕ → Bool
 isOn rs p q = isSetOn (recordAt rs p .site) (recordAt rs p .seq) (recordAt rs q)
 
 -- from each Create of the first n records it goes through the places of the Sets on it
-abbrev pub Chained : List ℕ → ℕ → List ℕ → Type 0
-Chained rs n ch = (p : ℕ) → p < n → isCreate (recordAt rs p) ≡ true → Follows ch (getD ch p 0) (keep n (isOn rs p))
+abbrev pub ByteChained : List ℕ → ℕ → List ℕ → Type 0
+ByteChained rs n ch = (p : ℕ) → p < n → isCreate (recordAt rs p) ≡ true → Follows ch (getD ch p 0) (keep n (isOn rs p))
 
 -- each Set among the first n records has its Create before it
-abbrev pub Aimed : List ℕ → ℕ → Type 0
-Aimed rs n =
+abbrev pub TargetsHeld : List ℕ → ℕ → Type 0
+TargetsHeld rs n =
     (q : ℕ) →
     q < n →
     isSet (recordAt rs q) ≡ true →

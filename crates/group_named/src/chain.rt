@@ -12,7 +12,7 @@ ghost use lib.ListN.{length, getD, take};
 ghost use Rattle.edit_history.specs.EditsHeld.{mostRecords};
 ghost use Rattle.edit_walk.specs.WalkForms.{Indexed};
 ghost use Rattle.group_step.specs.GroupRows.{mostSets};
-ghost use Rattle.group_named.specs.ChainForms.{put, linkedWith, Follows, Aimed, Chained};
+ghost use Rattle.group_named.specs.ChainForms.{put, linkedWith, Follows, TargetsHeld, ByteChained};
 
 // Puts the Set in place q before those on the Create in place p that are in the chain.
 fn link(chain: &mut [u8], p: usize, q: usize)
@@ -43,8 +43,8 @@ pub fn chain_sets(chain: &mut [u8], recs: &[u8], n: usize, places: &[u16])
         × (n ≤ length (now chain))
         × ((i : ℕ) → i < n → getD (now chain) i 0 ≡ 0) ⌝ }
     ensures { λ r.
-        ⌜ (Indexed (now (recs .entry)) n (now (places .entry)) → Aimed (now (recs .entry)) n →
-        Chained (now (recs .entry)) n (now (chain .exit))) ⌝ }
+        ⌜ (Indexed (now (recs .entry)) n (now (places .entry)) → TargetsHeld (now (recs .entry)) n →
+        ByteChained (now (recs .entry)) n (now (chain .exit))) ⌝ }
 {
     let mut i = n;
     while 0 < i {

@@ -22,7 +22,7 @@ ghost use Rattle.edit_history.specs.Answers2to5.{recordsPass};
 ghost use Rattle.edit_history.specs.Answer16.{recordsNamed};
 ghost use Rattle.edit_walk.specs.WalkForms.{Indexed};
 ghost use Rattle.group_step.specs.GroupRows.{mostSets};
-ghost use Rattle.group_named.specs.ChainForms.{Aimed, Chained};
+ghost use Rattle.group_named.specs.ChainForms.{TargetsHeld, ByteChained};
 ghost use Rattle.group_named.specs.NamedForms.{FewSets, LawfulSets, isNamedAt};
 
 // Whether one of the first n records is a limited Set; only the kinds are read.
@@ -59,7 +59,7 @@ fn are_named_at(
         × (mostSets ≤ length (now ctx))
         × (mostSets ≤ length (now names)) ⌝ }
     ensures { λ r.
-        ⌜ (Chained (now (recs .entry)) n (now (chain .entry)) → LawfulSets (editsOf (now (recs .entry)) n) →
+        ⌜ (ByteChained (now (recs .entry)) n (now (chain .entry)) → LawfulSets (editsOf (now (recs .entry)) n) →
         r ≡ isNamedAt (now (recs .entry)) n p) ⌝ }
 {
     if edit_history::kind_at(recs, p) != CREATE {
@@ -89,7 +89,7 @@ fn are_named_each(
         × (mostSets ≤ length (now ctx))
         × (mostSets ≤ length (now names)) ⌝ }
     ensures { λ r.
-        ⌜ (Chained (now (recs .entry)) n (now (chain .entry)) → LawfulSets (editsOf (now (recs .entry)) n) →
+        ⌜ (ByteChained (now (recs .entry)) n (now (chain .entry)) → LawfulSets (editsOf (now (recs .entry)) n) →
         r ≡ all n (isNamedAt (now (recs .entry)) n)) ⌝ }
 {
     let mut named = true;
@@ -106,7 +106,7 @@ fn are_named_each(
 fn are_boxes_named(recs: &[u8], n: usize, places: &[u16]) -> bool
     requires { ⌜ (n ≤ mostRecords) × FewSets (editsOf (now recs) n) ⌝ }
     ensures { λ r.
-        ⌜ (Indexed (now (recs .entry)) n (now (places .entry)) → Aimed (now (recs .entry)) n →
+        ⌜ (Indexed (now (recs .entry)) n (now (places .entry)) → TargetsHeld (now (recs .entry)) n →
         LawfulSets (editsOf (now (recs .entry)) n) → r ≡ all n (isNamedAt (now (recs .entry)) n)) ⌝ }
 {
     let mut chain = [0u8; RECORDS];

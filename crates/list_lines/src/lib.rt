@@ -35,14 +35,14 @@ ghost use Rattle.list_lines.specs.LineByNumber.{lineOf};
 ghost use Rattle.list_lines.specs.LinesForms.{Ready, lineIn, headOf, FoundIn, NumberedAs};
 
 // Where a line of a version is found: whether there is one, the object, and which of its versions it is.
-struct Found {
+struct LinePlace {
     ok: bool,
     object: usize,
     version: usize,
 }
 
 // A line put at the front of a buffer: whether there is one of that number, and how many bytes it has.
-struct Numbered {
+struct PutLine {
     ok: bool,
     bytes: usize,
 }
@@ -71,7 +71,7 @@ pub fn head(out: &mut [u8], c: Counters, objects: &[u16]) -> usize
 }
 
 // Where the k-th line of a version is found, line 0 left out.
-fn find(c: Counters, records: &[u8], objects: &[u16], groups: &[u64], k: usize) -> Found
+fn find(c: Counters, records: &[u8], objects: &[u16], groups: &[u64], k: usize) -> LinePlace
     requires { ⌜ sound (tablesOf c (now records) (now objects) (now groups)) ≡ true ⌝ }
     ensures { λ r.
         ⌜ FoundIn (tablesOf c (now (records .entry)) (now (objects .entry)) (now (groups .entry))) k r ⌝ }
@@ -90,7 +90,7 @@ fn find(c: Counters, records: &[u8], objects: &[u16], groups: &[u64], k: usize) 
         let o = at16(&order, i) as usize;
         let count = at16(objects, o * ENTRY + 2) as usize;
         if left < count {
-            return Found {
+            return LinePlace {
                 ok: true,
                 object: o,
                 version: left,
@@ -99,7 +99,7 @@ fn find(c: Counters, records: &[u8], objects: &[u16], groups: &[u64], k: usize) 
         left = left - count;
         i += 1;
     }
-    Found {
+    LinePlace {
         ok: false,
         object: 0,
         version: 0,
@@ -188,7 +188,7 @@ fn put_numbered(
     objects: &[u16],
     groups: &[u64],
     k: usize,
-) -> Numbered
+) -> PutLine
     requires { ⌜ (sound (tablesOf c (now records) (now objects) (now groups)) ≡ true)
         × (lineLength + pieceLength ≤ length (now out)) ⌝ }
     ensures { λ r. ⌜ NumberedAs
@@ -197,17 +197,17 @@ fn put_numbered(
 {
     if k == 0 {
         let bytes = head(out, c, objects);
-        return Numbered { ok: true, bytes };
+        return PutLine { ok: true, bytes };
     }
     let f = find(c, records, objects, groups, k - 1);
     if !f.ok {
-        return Numbered {
+        return PutLine {
             ok: false,
             bytes: 0,
         };
     }
     let bytes = put_found(out, c, records, objects, groups, f.object, f.version);
-    Numbered { ok: true, bytes }
+    PutLine { ok: true, bytes }
 }
 
 // Puts line k into out from the start on; refused, everything stays as it was.

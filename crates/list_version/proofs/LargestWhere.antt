@@ -11,10 +11,11 @@ use lib.Dec.{eqb}
 use lib.ListN.{length, getD, set}
 use lib.Seq.{getD-set-same, getD-set-other}
 use borrow.Author.Tests.{ne-eqb, eqb-true, eqb-false}
-use Rattle.math_lists.proofs.Booleans.{both, eqb-self}
+use Rattle.math_lists.proofs.Booleans.{and-true, or-false, or-true, eqb-self}
 use Rattle.edit_record.specs.Layout.{keys}
 use Rattle.math_maximal.specs.Groups.{bit}
-use Rattle.math_maximal.proofs.Bits.{bit-none, bit-minus, bit-power}
+use Rattle.math_maximal.proofs.Bits.{bit-none, bit-minus}
+use Rattle.math_maximal.proofs.OneMemberLess.{fewer, still-left, own-gone, others-left}
 use Rattle.list_version.specs.VersionForms.{placings, largestBelow, LargestOf}
 
 unfoldable pub largestWhere : (ℕ → Bool) → List ℕ → ℕ → ℕ → ℕ
@@ -22,14 +23,6 @@ largestWhere f stamps k zero = 0
 largestWhere f stamps k (suc n) =
     cond (f n && eqb (getD stamps n 0 / placings) k) (max (largestWhere f stamps k n) (getD stamps n 0))
     (largestWhere f stamps k n)
-
-or-none : (b : Bool) → (b || false) ≡ b
-or-none true = refl
-or-none false = refl
-
-or-all : (b : Bool) → (b || true) ≡ true
-or-all true = refl
-or-all false = refl
 
 -- a number that was counted changes nothing when it is counted again
 once :
@@ -82,12 +75,12 @@ module _ (stamps : List ℕ) (k : ℕ) where
     one-more (suc n) l = elim (ℕ-discrete n i) [
       | yes q ↦
           let rest : largestWhere withOne stamps k n ≡ largestWhere f stamps k n
-          = same-where withOne f n (λ j l. rw (ne-eqb j i (λ e. omega arith)) (or-none (f j))) in
-          let in-it : (f n || eqb n i) ≡ true = rw (q, eqb-self i) (or-all (f i)) in
+          = same-where withOne f n (λ j l. rw (ne-eqb j i (λ e. omega arith)) (or-false (f j))) in
+          let in-it : (f n || eqb n i) ≡ true = rw (q, eqb-self i) (or-true (f i)) in
           rw (in-it, rest, ← q)
           (once (f n) (eqb (getD stamps n 0 / placings) k) (largestWhere f stamps k n) (getD stamps n 0))
       | no d ↦
-          rw (ne-eqb n i d, or-none (f n), one-more n (omega arith))
+          rw (ne-eqb n i d, or-false (f n), one-more n (omega arith))
           (apart (f n && eqb (getD stamps n 0 / placings) k) (largestWhere f stamps k n) (getD stamps n 0))
     ]
 
@@ -117,35 +110,18 @@ module _ (stamps : List ℕ) (others more : ℕ) where
   all-gone g left best z e h k low =
       h k low
       ∙ same-where stamps k (goneThrough left) (bit g) (length stamps)
-      (λ i l. rw (z, bit-none i, e i l) (ap (λ (c : Bool). bit others i || c) (go (bit more i))))
+      (λ i l. rw (z, bit-none i, e i l) (ap (λ (c : Bool). bit others i || c) (and-true (bit more i))))
       ∙ sym (by-members stamps k g (length stamps))
-    where
-      go : (c : Bool) → (c && not false) ≡ c
-      go true = refl
-      go false = refl
 
   -- Set j is gone through
   module _ (left j : ℕ) (part : (i : ℕ) → bit left i ≡ true → bit more i ≡ true) (h : bit left j ≡ true) where
-    abbrev pub fewer : ℕ
-    fewer = left - bitAnd left (2 ^ j)
+    pub still-part : (i : ℕ) → bit (fewer left j) i ≡ true → bit more i ≡ true
+    still-part i b = part i (still-left left j i b)
 
-    other : (i : ℕ) → (i ≡ j → ⊥) → bit fewer i ≡ bit left i
-    other i d = bit-minus left (2 ^ j) i ∙ rw (bit-power j i, ne-eqb i j d) (and-all (bit left i))
-      where
-        and-all : (b : Bool) → (b && not false) ≡ b
-        and-all true = refl
-        and-all false = refl
-
-    own-gone : bit fewer j ≡ false
-    own-gone = bit-minus left (2 ^ j) j ∙ rw (bit-power j j, eqb-self j) (and-false (bit left j))
-
-    pub still-part : (i : ℕ) → bit fewer i ≡ true → bit more i ≡ true
-    still-part i b = part i (both (bit left i) _ (sym (bit-minus left (2 ^ j) i) ∙ b) .0)
-
-    now-gone : (i : ℕ) → goneThrough fewer i ≡ (goneThrough left i || eqb i j)
+    now-gone : (i : ℕ) → goneThrough (fewer left j) i ≡ (goneThrough left i || eqb i j)
     now-gone i = elim (ℕ-discrete i j) [
-      | yes q ↦ rw (q, own-gone, part j h, eqb-self j) (end (bit others j) (true && not (bit left j)))
-      | no d ↦ rw (other i d, ne-eqb i j d) (sym (or-none (goneThrough left i)))
+      | yes q ↦ rw (q, own-gone left j, part j h, eqb-self j) (end (bit others j) (true && not (bit left j)))
+      | no d ↦ rw (others-left left j i d, ne-eqb i j d) (sym (or-false (goneThrough left i)))
     ]
       where
         end : (b c : Bool) → (b || true) ≡ ((b || c) || true)
@@ -153,18 +129,18 @@ module _ (stamps : List ℕ) (others more : ℕ) where
         end false true = refl
         end false false = refl
 
-    pub one-past : (best : List ℕ) → length stamps ≤ j → LargestBut left best → LargestBut fewer best
+    pub one-past : (best : List ℕ) → length stamps ≤ j → LargestBut left best → LargestBut (fewer left j) best
     one-past best past e k low =
         e k low
-        ∙ same-where stamps k (goneThrough left) (goneThrough fewer) (length stamps)
-        (λ i l. sym (now-gone i ∙ rw (ne-eqb i j (λ q. omega arith)) (or-none (goneThrough left i))))
+        ∙ same-where stamps k (goneThrough left) (goneThrough (fewer left j)) (length stamps)
+        (λ i l. sym (now-gone i ∙ rw (ne-eqb i j (λ q. omega arith)) (or-false (goneThrough left i))))
 
     pub one-gone :
         (best : List ℕ) (s : ℕ) → getD stamps j 0 ≡ s → j < length stamps → length best ≡ keys → s / placings < keys →
-        LargestBut left best → LargestBut fewer (set best (s / placings) (max (getD best (s / placings) 0) s))
+        LargestBut left best → LargestBut (fewer left j) (set best (s / placings) (max (getD best (s / placings) 0) s))
     one-gone best s here l long small e k low =
         go (eqb (s / placings) k) refl
-        ∙ sym (same-where stamps k (goneThrough fewer) _ (length stamps) (λ i m. now-gone i)
+        ∙ sym (same-where stamps k (goneThrough (fewer left j)) _ (length stamps) (λ i m. now-gone i)
         ∙ one-more stamps k (goneThrough left) j (length stamps) l ∙ rw here)
       where
         m : ℕ
@@ -189,8 +165,4 @@ shared-and-rest g c part i = rw (bit-minus g c i) (go (bit c i) refl)
   where
     go : (b : Bool) → bit c i ≡ b → bit g i ≡ (b || bit g i && not b)
     go true e = part i e
-    go false e = sym (all (bit g i))
-      where
-        all : (b : Bool) → (b && true) ≡ b
-        all true = refl
-        all false = refl
+    go false e = sym (and-true (bit g i))

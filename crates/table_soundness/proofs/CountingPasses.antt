@@ -18,7 +18,7 @@ use Rattle.edit_record.specs.Answer1.{isCreate, isSet}
 use Rattle.edit_history.specs.EditsHeld.{recordAt, editsOf, creates, mostRecords}
 use Rattle.edit_history.proofs.EditsHeld.{chosen-more, chosen-few}
 use Rattle.edit_walk.specs.WalkForms.{placeOf}
-use Rattle.table_soundness.specs.SoundnessForms.{Targeted, Numbered, aimsAt, Aimed}
+use Rattle.table_soundness.specs.SoundnessForms.{Targeted, CreatesBefore, aimsAt, Tallying}
 
 -- ---- those of the first n records that pass f
 
@@ -45,10 +45,10 @@ creates-le rs n = chosen-few isCreate rs n
 
 pub numbered-more :
     (rs ns : List ℕ) (n k : ℕ) →
-    Numbered rs n ns →
+    CreatesBefore rs n ns →
     k ≡ length (creates (editsOf rs n)) →
     n < length ns →
-    Numbered rs (n + 1) (set ns n k)
+    CreatesBefore rs (n + 1) (set ns n k)
 numbered-more rs ns n k h e l =
     below-more (λ p. getD (set ns n k) p 0 ≡ length (creates (editsOf rs p))) n
     (λ p m. getD-set-other ns n p k 0 (λ q. absurd (omega arith)) ∙ h p m)
@@ -56,7 +56,7 @@ numbered-more rs ns n k h e l =
 
 -- ---- the Sets, by the index ps of places
 
-pub aimed-none : (rs ps : List ℕ) → Aimed rs 0 ps (replicate mostRecords 0)
+pub aimed-none : (rs ps : List ℕ) → Tallying rs 0 ps (replicate mostRecords 0)
 unfolding editsOf filter
 aimed-none rs ps = (length-replicate {A = ℕ} mostRecords 0, λ p l. getD-replicate mostRecords p 0 0 l)
 
@@ -74,7 +74,7 @@ chosen-fewer f rs (suc n) h = rw (chosen-more f rs (suc n)) (go (f (recordAt rs 
 
 -- a tally below the last record has room for one more in a byte
 pub aimed-low :
-    (rs ps ts : List ℕ) (m n p : ℕ) → m ≤ mostRecords → n < m → Targeted rs m → Aimed rs n ps ts → p < mostRecords →
+    (rs ps ts : List ℕ) (m n p : ℕ) → m ≤ mostRecords → n < m → Targeted rs m → Tallying rs n ps ts → p < mostRecords →
     getD ts p 0 + 1 < mostRecords
 aimed-low rs ps ts m zero p few l targets h k =
     omega (arith, h .1 p k, chosen-few (aimsAt ps p) rs 0)
@@ -101,10 +101,10 @@ raise-at ts p q b l = go (ℕ-discrete q p)
 
 pub aimed-more :
     (rs ps ts : List ℕ) (n : ℕ) →
-    Aimed rs n ps ts →
+    Tallying rs n ps ts →
     let e = recordAt rs n in
     let p = placeOf ps (e .tsite .0) (e .tseq .0) in
-    Aimed rs (n + 1) ps (set ts p (getD ts p 0 + cond (isSet e) 1 0))
+    Tallying rs (n + 1) ps (set ts p (getD ts p 0 + cond (isSet e) 1 0))
 aimed-more rs ps ts n (l, h) =
     let e = recordAt rs n in
     let p = placeOf ps (e .tsite .0) (e .tseq .0) in (

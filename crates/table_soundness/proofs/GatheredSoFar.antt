@@ -13,7 +13,7 @@ use Rattle.edit_record.specs.Answer1.{isCreate}
 use Rattle.edit_history.specs.EditsHeld.{recordAt, editsOf, creates, mostRecords}
 use Rattle.edit_sum.specs.WordSum.{sumHeld}
 use Rattle.table_soundness.specs.Sound.{restZero}
-use Rattle.table_soundness.specs.SoundnessForms.{Numbered, Aimed}
+use Rattle.table_soundness.specs.SoundnessForms.{CreatesBefore, Tallying}
 use Rattle.table_soundness.proofs.CountingPasses.{creates-none, creates-more, numbered-more, aimed-none}
 
 pub record Gathering (rs : List ℕ) (i : ℕ) (ps : List ℕ) (total many : ℕ) (ns ts : List ℕ) : Type 0 where
@@ -21,8 +21,8 @@ pub record Gathering (rs : List ℕ) (i : ℕ) (ps : List ℕ) (total many : ℕ
   pub sum : total ≡ sumHeld i rs
   pub made : many ≡ length (creates (editsOf rs i))
   pub long : length ns ≡ mostRecords
-  pub numbered : Numbered rs i ns
-  pub aimed : Aimed rs i ps ts
+  pub numbered : CreatesBefore rs i ns
+  pub aimed : Tallying rs i ps ts
 
 pub gathering-starts :
     (rs ps ns : List ℕ) → length ns ≡ mostRecords → Gathering rs 0 ps 0 0 ns (replicate mostRecords 0)
@@ -41,7 +41,7 @@ gathering-starts rs ps ns long =
 pub gathering-more :
     {rs : List ℕ} {i : ℕ} {ps : List ℕ} {total many : ℕ} {ns ts : List ℕ} → Gathering rs i ps total many ns ts →
     i < mostRecords → restZero rs i ≡ true → (more : ℕ) → more ≡ sumHeld (i + 1) rs →
-    (ts′ : List ℕ) → Aimed rs (i + 1) ps ts′ →
+    (ts′ : List ℕ) → Tallying rs (i + 1) ps ts′ →
     Gathering rs (i + 1) ps more (many + cond (isCreate (recordAt rs i)) 1 0) (set ns i many) ts′
 unfolding all
 gathering-more {rs} {i} {ps} {total} {many} {ns} {ts} g few rest more added ts′ aimed =

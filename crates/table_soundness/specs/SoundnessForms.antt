@@ -20,7 +20,7 @@ use Rattle.edit_walk.specs.WalkForms.{placeOf, Indexed}
 use Rattle.group_step.specs.GroupRows.{mostSets}
 use Rattle.table_drawing.specs.Tables.{Tables, heldBy, lengthsRight}
 use Rattle.table_soundness.specs.Sound.{withinLimits, restZero}
-use Rattle.table_soundness.specs.declared.Gathered.{Gathered}
+use Rattle.table_soundness.specs.declared.Tally.{Tally}
 
 -- ---- what is known of the targets
 
@@ -39,8 +39,8 @@ Targeted rs n =
 -- ---- what is counted
 
 -- ns has how many Creates stand before each of the first n records
-abbrev pub Numbered : List ℕ → ℕ → List ℕ → Type 0
-Numbered rs n ns = (p : ℕ) → p < n → getD ns p 0 ≡ length (creates (editsOf rs p))
+abbrev pub CreatesBefore : List ℕ → ℕ → List ℕ → Type 0
+CreatesBefore rs n ns = (p : ℕ) → p < n → getD ns p 0 ≡ length (creates (editsOf rs p))
 
 -- ts has how many Sets there are on each of the first n records
 abbrev pub Tallied : List ℕ → ℕ → List ℕ → Type 0
@@ -52,18 +52,18 @@ abbrev pub aimsAt : List ℕ → ℕ → Edit → Bool
 aimsAt ps p e = isSet e && eqb (placeOf ps (e .tsite .0) (e .tseq .0)) p
 
 -- ts has how many of the first n records are Sets that the index ps has aimed at each place
-abbrev pub Aimed : List ℕ → ℕ → List ℕ → List ℕ → Type 0
-Aimed rs n ps ts =
+abbrev pub Tallying : List ℕ → ℕ → List ℕ → List ℕ → Type 0
+Tallying rs n ps ts =
     (length ts ≡ mostRecords)
     × ((p : ℕ) → p < mostRecords → getD ts p 0 ≡ length (filter (aimsAt ps p) (editsOf rs n)))
 
 -- g is what is gathered from the first n records, with the numbers ns and the tallies ts; nothing is said of these where
 -- a place is not zero past its record
-pub record GatheredOver (rs : List ℕ) (n : ℕ) (g : Gathered) (ns ts : List ℕ) : Type 0 where
+pub record GatheredOver (rs : List ℕ) (n : ℕ) (g : Tally) (ns ts : List ℕ) : Type 0 where
   pub rests : g .rests ≡ all n (restZero rs)
   pub sum : g .rests ≡ true → g .sum ≡ sumHeld n rs
   pub made : g .rests ≡ true → g .creates ≡ length (creates (editsOf rs n))
-  pub numbered : g .rests ≡ true → Numbered rs n ns
+  pub numbered : g .rests ≡ true → CreatesBefore rs n ns
   pub tallied : g .rests ≡ true → Tallied rs n ts
 
 -- no object has more Sets, among the first n records, than it may have

@@ -1,6 +1,6 @@
 // What is gathered from records that pass, in one pass over them: whether each place is zero past its record, the sum of
 // their words, how many Creates stand before each, and how many Sets there are on each.
-use super::Gathered;
+use super::Tally;
 use super::unused::is_rest_zero;
 use edit_history::RECORDS;
 use edit_record::CREATE;
@@ -12,7 +12,7 @@ ghost use Rattle.edit_record.specs.Layout.{placeLength};
 ghost use Rattle.edit_history.specs.EditsHeld.{mostRecords};
 ghost use Rattle.edit_sum.specs.WordSum.{ListsFit};
 ghost use Rattle.edit_walk.specs.WalkForms.{Indexed};
-ghost use Rattle.table_soundness.specs.SoundnessForms.{Targeted, Aimed, GatheredOver};
+ghost use Rattle.table_soundness.specs.SoundnessForms.{Targeted, Tallying, GatheredOver};
 
 // How many times b holds.
 fn one_if(b: bool) -> u8
@@ -27,8 +27,8 @@ fn tally_set(tallies: &mut [u8], recs: &[u8], m: usize, i: usize, places: &[u16]
     requires { ⌜ (m ≤ mostRecords)
         × (i < m)
         × Targeted (now recs) m
-        × Aimed (now recs) i (now places) (now tallies) ⌝ }
-    ensures { λ r. ⌜ Aimed (now (recs .entry)) (i + 1) (now (places .entry)) (now (tallies .exit)) ⌝ }
+        × Tallying (now recs) i (now places) (now tallies) ⌝ }
+    ensures { λ r. ⌜ Tallying (now (recs .entry)) (i + 1) (now (places .entry)) (now (tallies .exit)) ⌝ }
 {
     let kind = edit_history::kind_at(recs, i);
     let p = edit_walk::target_place(recs, places, i) as usize;
@@ -45,7 +45,7 @@ pub fn gather(
     places: &[u16],
     earlier: &mut [u8],
     tallies: &mut [u8],
-) -> Gathered
+) -> Tally
     requires { ⌜ (n ≤ mostRecords)
         × (n * placeLength ≤ length (now recs))
         × ListsFit (now recs) n
@@ -60,7 +60,7 @@ pub fn gather(
     let mut i: usize = 0;
     while i < n {
         if !is_rest_zero(recs, i) {
-            return Gathered {
+            return Tally {
                 rests: false,
                 sum,
                 creates,
@@ -73,7 +73,7 @@ pub fn gather(
         creates = creates + one_if(kind == CREATE) as u16;
         i += 1;
     }
-    Gathered {
+    Tally {
         rests: true,
         sum,
         creates,

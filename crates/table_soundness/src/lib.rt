@@ -29,7 +29,7 @@ ghost use Rattle.table_soundness.specs.SoundnessForms.{Passed, FewSets};
 
 // What one pass over the records gathers: whether every place is zero past its record, and then the sum of their words
 // and how many of them are Creates.
-pub struct Gathered {
+pub struct Tally {
     pub rests: bool,
     pub sum: u32,
     pub creates: u16,

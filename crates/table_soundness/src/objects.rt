@@ -16,7 +16,7 @@ ghost use Rattle.edit_record.specs.Layout.{twoBytes};
 ghost use Rattle.group_step.specs.GroupRows.{mostObjects, mostGroups};
 ghost use Rattle.table_drawing.specs.Tables.{groupsLength};
 ghost use Rattle.table_soundness.specs.Sound.{slotSound, rowSound, entrySound, objectSound};
-ghost use Rattle.table_soundness.specs.SoundnessForms.{Numbered, Tallied};
+ghost use Rattle.table_soundness.specs.SoundnessForms.{CreatesBefore, Tallied};
 
 // Whether the group g, which has room for SETS bits, has none at or past k.
 fn is_below(g: u64, k: u64) -> bool
@@ -69,7 +69,7 @@ fn entry_sound(
     p: usize,
     k: usize,
 ) -> bool
-    requires { ⌜ (p < twoBytes) × Numbered (now recs) n (now numbers) × Tallied (now recs) n (now tallies) ⌝ }
+    requires { ⌜ (p < twoBytes) × CreatesBefore (now recs) n (now numbers) × Tallied (now recs) n (now tallies) ⌝ }
     ensures { λ r. ⌜ r ≡ entrySound (now (recs .entry)) n o p k ⌝ }
 {
     let kind = edit_history::kind_at(recs, p);
@@ -88,7 +88,7 @@ fn object_sound(
     tallies: &[u8],
     o: usize,
 ) -> bool
-    requires { ⌜ (o < mostObjects) × (length (now groups) ≡ groupsLength) × Numbered (now recs) n (now numbers)
+    requires { ⌜ (o < mostObjects) × (length (now groups) ≡ groupsLength) × CreatesBefore (now recs) n (now numbers)
         × Tallied (now recs) n (now tallies) ⌝ }
     ensures { λ r. ⌜ r ≡ objectSound (now (recs .entry)) n (now (objects .entry)) (now (groups .entry)) o ⌝ }
 {
@@ -111,7 +111,7 @@ pub fn objects_sound(
     tallies: &[u8],
     m: usize,
 ) -> bool
-    requires { ⌜ (m ≤ mostObjects) × (length (now groups) ≡ groupsLength) × Numbered (now recs) n (now numbers)
+    requires { ⌜ (m ≤ mostObjects) × (length (now groups) ≡ groupsLength) × CreatesBefore (now recs) n (now numbers)
         × Tallied (now recs) n (now tallies) ⌝ }
     ensures { λ r. ⌜ r ≡ all m (objectSound (now (recs .entry)) n (now (objects .entry)) (now (groups .entry))) ⌝ }
 {

@@ -10,13 +10,10 @@ use Rattle.edit_record.specs.declared.Edit.{Edit}
 use Rattle.edit_record.specs.RecordBytes.{decodeOf}
 use Rattle.edit_record.specs.Answer1.{isAimed, unfit}
 use Rattle.edit_history.specs.SurveyForms.{repeatedAgainst, earlyAgainst}
+use Rattle.math_lists.proofs.Booleans.{not-not}
 use Rattle.edit_walk.specs.WalkForms.{tornByNews, targetHeld, inTurnAgainst, passesAgainst}
 use Rattle.edit_walk.proofs.is_passing.Statement.{statement}
 use Rattle.edit_walk.proofs.is_passing.Tie as tie
-
-twice : (b : Bool) → b ≡ not (not b)
-twice true = refl
-twice false = refl
 
 -- one of 1 to 3 applies, or none of them does, by the test of all three
 on : (n : ℕ) (held : List ℕ) (e : Edit) (r : Bool) → r ≡ inTurnAgainst n held e → not r ≡ true →

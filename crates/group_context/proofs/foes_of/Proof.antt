@@ -9,9 +9,9 @@ use lib.ListN.{getD}
 use denote.Ref.{now}
 use Rattle.math_maximal.specs.Groups.{bit}
 use Rattle.math_maximal.specs.Step.{compatible}
+use Rattle.math_maximal.proofs.OneMemberLess.{first-left, less-left, still-left}
 use Rattle.math_maximal.proofs.Bits.{bit-none, bit-or}
-use Rattle.group_context.proofs.FoesOfMembers.{first-left, less-left, someGone, none-gone, all-gone}
-use Rattle.group_context.proofs.FoesOfMembers.{still-left, some-more}
+use Rattle.group_context.proofs.FoesOfMembers.{someGone, none-gone, all-gone, some-more}
 use borrow.Author.Needs.{needs}
 use Rattle.group_context.proofs.foes_of.Statement.{statement}
 use Rattle.group_context.proofs.foes_of.Tie as tie
@@ -40,7 +40,7 @@ cast-j : tie.Need-cast-j Inv-loop μ-loop
 cast-j c =
     let l = c .before .loop in
     let s = c .before .before .before in
-    let (_, few) = first-left (l .left) (c .loop-test .taken) (omega (arith, l .inv .0, s .fits .m .fits)) in
+    let (_, few) = first-left {n = 64} (c .loop-test .taken) (l .inv .0) (s .fits .m .fits) (s .fits .m .fits) in
     record { fits = omega arith }
 
 row-at-requires : tie.Need-row-at-requires Inv-loop μ-loop
@@ -50,7 +50,7 @@ only-requires : tie.Need-only-requires Inv-loop μ-loop
 only-requires c κs =
     let l = c .before .before .loop in
     let s = c .before .before .before .before in
-    let (_, few) = first-left (l .left) (c .before .loop-test .taken) (omega (arith, l .inv .0, s .fits .m .fits)) in
+    let (_, few) = first-left {n = 64} (c .before .loop-test .taken) (l .inv .0) (s .fits .m .fits) (s .fits .m .fits) in
     few
 
 without-requires : tie.Need-without-requires Inv-loop μ-loop
@@ -61,7 +61,7 @@ loop-less c =
     let l = c .before .before .before .before .loop in
     let s = c .before .before .before .before .before .before in
     let some = c .before .before .before .loop-test .taken in
-    let (here, _) = first-left (l .left) some (omega (arith, l .inv .0, s .fits .m .fits)) in
+    let (here, _) = first-left {n = 64} some (l .inv .0) (s .fits .m .fits) (s .fits .m .fits) in
     rw (c .without .ensures, c .before .only .ensures) (less-left (l .left) _ some here)
 
 loop-again : tie.Need-loop-again Inv-loop μ-loop
@@ -71,13 +71,13 @@ loop-again c =
     let a = s .args in
     let ps = now (a .plain) in
     let some = c .before .before .before .loop-test .taken in
-    let (here, few) = first-left (l .left) some (omega (arith, l .inv .0, s .fits .m .fits)) in
+    let (here, few) = first-left {n = 64} some (l .inv .0) (s .fits .m .fits) (s .fits .m .fits) in
     let i = trailingZeros 64 (l .left) in
     let its = l .inv .1 i here in
     let row = c .before .before .row-at in
     rw (c .without .ensures, c .before .only .ensures) (
       omega (arith, l .inv .0),
-      λ j h. l .inv .1 j (still-left (a .m) (l .left) i few here its j h),
+      λ j h. l .inv .1 j (still-left (l .left) i j h),
       λ y. bit-or (l .foes) (row .result) y
           ∙ ap₂ (λ (p q : Bool). p || q) (l .inv .2 y) (ap (λ (x : ℕ). bit x y) (row .ensures))
           ∙ some-more (a .m) (l .left) i few here its (λ j. bit (getD ps j 0) y),

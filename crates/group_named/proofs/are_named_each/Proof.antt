@@ -6,7 +6,7 @@ use native.Mathlib.Omega.{arith}
 use lib.ListN.{length}
 use Rattle.math_lists.specs.NumbersBelow.{all}
 use Rattle.edit_history.specs.EditsHeld.{editsOf}
-use Rattle.group_named.specs.ChainForms.{Chained}
+use Rattle.group_named.specs.ChainForms.{ByteChained}
 use Rattle.group_named.specs.NamedForms.{LawfulSets, isNamedAt}
 use borrow.Author.Needs.{needs}
 use Rattle.group_named.proofs.are_named_each.Statement.{statement}
@@ -19,7 +19,7 @@ Inv-loop members₀ plain₀ ctx₀ names₀ recs n chain named₀ i₀ members 
     × (length plain ≡ length plain₀)
     × (length ctx ≡ length ctx₀)
     × (length names ≡ length names₀)
-    × (Chained recs n chain → LawfulSets (editsOf recs n) → named ≡ all i (isNamedAt recs n))
+    × (ByteChained recs n chain → LawfulSets (editsOf recs n) → named ≡ all i (isNamedAt recs n))
 
 abbrev μ-loop : tie.MeasureT-loop
 μ-loop members₀ plain₀ ctx₀ names₀ recs n chain named₀ i₀ members plain ctx names named i = n - i

@@ -1,7 +1,7 @@
 -- `edit_walk::next::is_fit_and_aimed` meets its contract. Assumes nothing.
 use mathlib.Core.Path.{sym, _∙_}
 use borrow.Author.Needs.{needs}
-use Rattle.edit_walk.proofs.NextDecides.{twice-not}
+use Rattle.math_lists.proofs.Booleans.{not-not}
 use Rattle.edit_walk.proofs.next.is_fit_and_aimed.Statement.{statement}
 use Rattle.edit_walk.proofs.next.is_fit_and_aimed.Tie as tie
 
@@ -26,7 +26,7 @@ returns-2 : tie.Need-returns-2
 returns-2 c h =
     let u = sym (c .before .before .before .before .before .is-body-unfit .ensures h) ∙ c .before .before .before .before .if1 .left in
     let t = sym (c .before .before .is-aimed-kind .ensures) ∙ c .before .if2 .taken in
-    rw (u, t, c .is-target-held .ensures) (twice-not _)
+    rw (u, t, c .is-target-held .ensures) (not-not _)
 
 returns-3 : tie.Need-returns-3
 returns-3 c h =

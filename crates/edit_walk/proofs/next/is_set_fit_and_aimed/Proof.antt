@@ -5,7 +5,7 @@ use denote.Ref.{now}
 use Rattle.edit_record.specs.RecordBytes.{decodeOf}
 use Rattle.edit_record.specs.Answer1.{isAimed}
 use borrow.Author.Needs.{needs}
-use Rattle.edit_walk.proofs.NextDecides.{twice-not}
+use Rattle.math_lists.proofs.Booleans.{not-not}
 use Rattle.edit_walk.proofs.next.is_set_fit_and_aimed.Statement.{statement}
 use Rattle.edit_walk.proofs.next.is_set_fit_and_aimed.Tie as tie
 
@@ -24,7 +24,7 @@ returns-2 : tie.Need-returns-2
 returns-2 c h =
     let u = sym (c .before .before .is-set-unfit .ensures h) ∙ c .before .if1 .left in
     let t : isAimed (decodeOf (now (c .before .before .before .before .before .before .before .args .rec))) ≡ true = rw (c .before .before .before .before .before .before .before .pre .1) refl in
-    rw (u, t, c .is-target-held .ensures) (twice-not _)
+    rw (u, t, c .is-target-held .ensures) (not-not _)
 
 pub is-set-fit-and-aimed-spec : {M : Type 1} → statement M
 is-set-fit-and-aimed-spec =

@@ -7,7 +7,7 @@ use native.Mathlib.Omega.{arith}
 use lib.ListN.{length}
 use denote.Ref.{now}
 use Rattle.edit_walk.specs.WalkForms.{Indexed}
-use Rattle.group_named.specs.ChainForms.{Aimed}
+use Rattle.group_named.specs.ChainForms.{TargetsHeld}
 use Rattle.group_named.proofs.SetsChained.{LinkedFrom, linked-none, linked-all, linked-with}
 use borrow.Author.Needs.{needs}
 use Rattle.group_named.proofs.chain.chain_sets.Statement.{statement}
@@ -17,7 +17,7 @@ abbrev Inv-loop : tie.InvT-loop
 Inv-loop chain₀ recs n places i₀ chain i =
     (i ≤ n)
     × (length chain ≡ length chain₀)
-    × (Indexed recs n places → Aimed recs n → LinkedFrom recs n i chain)
+    × (Indexed recs n places → TargetsHeld recs n → LinkedFrom recs n i chain)
 
 abbrev μ-loop : tie.MeasureT-loop
 μ-loop chain₀ recs n places i₀ chain i = i

@@ -12,7 +12,7 @@ use lib.Seq.{getD-take, length-take-le}
 use Rattle.edit_record.specs.Layout.{keys}
 use Rattle.math_maximal.specs.Groups.{bit}
 use Rattle.list_version.specs.VersionForms.{placings, LargestOf}
-use Rattle.group_limited.proofs.MarkedRows.{first-left, less-left}
+use Rattle.math_maximal.proofs.OneMemberLess.{first-left, less-left}
 use Rattle.list_version.proofs.LargestWhere.{LargestBut, none-gone, all-gone, still-part, one-past, one-gone}
 use Rattle.list_version.proofs.values.largest_with.Statement.{statement}
 use Rattle.list_version.proofs.values.largest_with.Tie as tie
