@@ -8,7 +8,6 @@ use Prim.Native.Nat.{ℕ, _-_, _^_, _≤_, _<_}
 use native.Mathlib.Omega.{arith}
 use native.Mathlib.Decide.{ℕ-discrete}
 use lib.Bits.{bitAnd, bitOr, and-le-l}
-use lib.Count.{trailingZeros}
 use lib.Dec.{eqb}
 use lib.ListN.{getD}
 use lib.Pow.{pow-mono}
@@ -20,7 +19,7 @@ use Rattle.math_lists.proofs.NumbersBelow.{some-on, some-at, some-same, none-at
 use Rattle.math_maximal.specs.Groups.{bit}
 use Rattle.math_maximal.specs.Step.{compatible}
 use Rattle.math_maximal.proofs.MaximalSets.{same-set}
-use Rattle.math_maximal.proofs.Bits.{bit-none, bit-below, bit-or, bit-and, bit-minus, bit-power, same-bits, some-common}
+use Rattle.math_maximal.proofs.Bits.{bit-none, bit-below, bit-or, bit-and, bit-minus, same-bits, some-common}
 use Rattle.math_maximal.proofs.OneMemberLess.{fewer, bit-fewer}
 use Rattle.math_contexts.specs.Box.{Box}
 use Rattle.math_contexts.specs.Contexts.{context}

@@ -1,19 +1,16 @@
 -- The rows of the Sets before Set n, with it marked in those of the members of `row` that have been gone through; the
 -- members of `left` are still to come. Assumes nothing.
 use mathlib.Core.Path.{_≡_, refl, sym, _∙_}
-use mathlib.Core.Bool.{Bool, true, false, _&&_, and-false}
+use mathlib.Core.Bool.{true, false}
 use mathlib.Core.List.{List}
-use Prim.Native.Nat.{ℕ, _-_, _^_, _≤_, _<_}
-use native.Mathlib.Omega.{arith}
+use Prim.Native.Nat.{ℕ, _^_, _<_}
 use native.Mathlib.Decide.{ℕ-discrete}
-use lib.Bits.{bitAnd, bitOr}
-use lib.Count.{trailingZeros}
+use lib.Bits.{bitOr}
 use lib.ListN.{length, getD, set}
 use lib.Seq.{getD-set-same, getD-set-other}
-use borrow.Author.Tests.{ne-eqb}
-use Rattle.math_lists.proofs.Booleans.{clash, both, eqb-self}
+use Rattle.math_lists.proofs.Booleans.{clash}
 use Rattle.math_maximal.specs.Groups.{bit}
-use Rattle.math_maximal.proofs.Bits.{bit-none, bit-below, bit-minus, bit-power}
+use Rattle.math_maximal.proofs.Bits.{bit-none}
 use Rattle.math_maximal.proofs.OneMemberLess.{fewer, still-left, own-gone, others-left}
 use Rattle.group_limited.specs.LimitedForms.{withMark}
 

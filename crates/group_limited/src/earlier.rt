@@ -10,12 +10,16 @@ use edit_causal::is_conflict_in;
 use edit_history::marked_if;
 use edit_record::AT_COUNT;
 use edit_record::AT_KIND;
+use edit_record::AT_MEMBERS;
 use edit_record::AT_SEQ;
 use edit_record::AT_SITE;
 use edit_record::LIMITED;
+use edit_record::MEMBER;
 use edit_record::MEMBERS;
 use edit_record::PLACE;
 use edit_record::RECORD;
+use edit_record::SEQ_NUMBERS;
+use edit_record::SITE_NUMBERS;
 use edit_record::SITES;
 ghost use mathlib.Core.Path.{_≡_};
 ghost use mathlib.Core.Bool.{true};
@@ -44,11 +48,6 @@ ghost use Rattle.group_limited.specs.LimitedForms.{
   marksOfName,
   isUnseen,
 };
-
-// The sequence numbers that two bytes have, and the sites that one has.
-const SEQ_NUMBERS: u32 = 65536;
-
-const SITE_NUMBERS: u32 = 256;
 
 // The vector of the edit of rec.
 fn vector_in(rec: &[u8]) -> [u16; SITES]
@@ -210,11 +209,6 @@ fn listed(count: u32) -> usize
         count as usize
     }
 }
-
-// A list stands behind its count, of four bytes, and each member has as many.
-const AT_MEMBERS: usize = AT_COUNT + 4;
-
-const MEMBER: usize = 4;
 
 // Member i of a limited Set, read where it stands: there are as many as the first two bytes of the count say.
 fn member_of(rec: &[u8], i: usize) -> u32

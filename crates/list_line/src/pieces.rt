@@ -2,6 +2,7 @@
 // of each key, and the names of the Sets in dispute. A piece is formed anew only where the last one in its place was told
 // by another number. It is copied whole, with what stands behind it: that is written over next.
 use edit_causal::shown;
+use edit_record::VALUES;
 use group_step::SETS;
 use list_text::PLUS;
 use list_text::SPACE;
@@ -12,7 +13,6 @@ use list_version::ALL_KEYS;
 use list_version::SEQ_NUMBERS;
 use list_version::SITE_NUMBERS;
 use list_version::sets::NUMBERS;
-use list_version::values::VALUES;
 use table_output::copy_in;
 ghost use mathlib.Core.Path.{_≡_};
 ghost use mathlib.Core.Bool.{not, _&&_};

@@ -2,14 +2,15 @@
 // that is never 0 for a key: the largest stamp of the members with a key is that of the last one. The stamps of an
 // object's Sets are made once; one pass over the members of a version finds the largest of each key.
 use super::ALL_KEYS;
-use super::AT_VALUE;
 use super::SITE_NUMBERS;
 use super::sets::is_member;
 use edit_causal::vector_sum;
 use edit_record::AT_KEY;
 use edit_record::AT_SITE;
+use edit_record::AT_VALUE;
 use edit_record::KEYS;
 use edit_record::PLACE;
+use edit_record::VALUES;
 ghost use mathlib.Core.Path.{_≡_};
 ghost use mathlib.Core.Bool.{_||_};
 ghost use Prim.Native.Nat.{ℕ, _+_, _*_, _-_, _≤_, _<_, max};
@@ -20,9 +21,6 @@ ghost use Rattle.math_maximal.specs.Groups.{bit};
 ghost use Rattle.group_step.specs.GroupRows.{mostSets};
 ghost use Rattle.list_version.specs.Identifier.{siteNumbers};
 ghost use Rattle.list_version.specs.VersionForms.{setsAt, stampOf, values, placings, Small, Stamped, LargestOf};
-
-// The values that four bytes have.
-pub const VALUES: u64 = 4294967296;
 
 // A number above each place in the total order with a value behind it.
 const PLACINGS: u64 = 1152921504606846976;

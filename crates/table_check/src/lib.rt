@@ -10,7 +10,7 @@ use table_drawing::Answer;
 use table_drawing::Counters;
 use table_drawing::ENTRY;
 use table_drawing::entries::at16;
-use table_sets::by_key::CHAINS;
+use table_sets::by_key::KEY_CHAINS;
 use table_sets::by_key::take_set;
 ghost use mathlib.Core.Path.{_≡_};
 ghost use mathlib.Core.Bool.{true, false};
@@ -72,7 +72,7 @@ fn step_plainly(gs: &mut [u64], recs: &[u8], places: &[u16], k: usize) -> usize
         × TellsIn (now recs) (now places) k ⌝ }
     ensures { λ r. ⌜ WorkedOut (groupsIn (now (recs .entry)) (now (places .entry)) k) (now (gs .exit)) r ⌝ }
 {
-    let mut latest = [0u8; CHAINS];
+    let mut latest = [0u8; KEY_CHAINS];
     // what work space holds at first does not matter; zeros would be set by memset (docs/DECISIONS.md, 24)
     let mut earlier = [1u8; SETS];
     let mut tolds = [1u64; SETS];

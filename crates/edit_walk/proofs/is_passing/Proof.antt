@@ -1,5 +1,5 @@
 -- `edit_walk::is_passing` meets its contract. Assumes nothing.
-use mathlib.Core.Path.{_≡_, refl, sym, ap, _∙_}
+use mathlib.Core.Path.{_≡_, sym, ap, _∙_}
 use mathlib.Core.Bool.{Bool, true, false, not, _||_}
 use mathlib.Core.List.{List}
 use Prim.Native.Nat.{ℕ}
@@ -85,7 +85,7 @@ returns-3 c =
     ∙ y .if2 .left in
     let s : isAimed e ≡ true = sym (c .before .before .is-aimed-kind .ensures) ∙ c .before .if3 .taken in
     rw (none (a .sites) (now (a .held)) e (i .result) (i .ensures) (z .if1 .left), t, s, c .is-target-held .ensures)
-    (twice (targetHeld (now (a .held)) (now (a .recs)) (now (a .places)) e))
+    (not-not (targetHeld (now (a .held)) (now (a .recs)) (now (a .places)) e))
 
 returns-4 : tie.Need-returns-4
 unfolding passesAgainst
