@@ -11,7 +11,7 @@ INSET, CUT, BAR = 8, 7, 5
 LOWEST = 2 * svg.LINE + 2 * INSET
 # how many signs a line of names in an edit has, unless one name is longer
 FOLD = 24
-# blue and vermillion are told apart by those who see no red or no green; what is in dispute is dashed as well
+# blue and vermilion are told apart by those who see no red or no green; what is in dispute is dashed as well
 BLUE, VERMILLION, GREY, DARK = "#0072B2", "#D55E00", "#7b868f", "#1d2429"
 STYLE = """
 text { fill: %(DARK)s; }

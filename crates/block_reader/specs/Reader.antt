@@ -10,7 +10,7 @@ use denote.Ref.{now}
 use Rattle.edit_record.specs.RecordBytes.{decodeOf}
 use Rattle.edit_form.specs.OldForm.{lengthFrom, longFrom}
 use Rattle.block_reader.specs.declared.Given.{Given}
-use Rattle.block_reader.specs.declared.Taken.{Taken}
+use Rattle.block_reader.specs.declared.TakenNext.{TakenNext}
 use Rattle.block_reader.specs.declared.Reader.{Reader}
 
 -- the record that starts at a place
@@ -22,7 +22,7 @@ abbrev pub endMark : Given
 endMark = record { found = false; edit = decodeOf [] }
 
 -- what is given, and the place after it
-unfoldable pub takenAt : List ℕ → ℕ → ℕ → Taken
+unfoldable pub takenAt : List ℕ → ℕ → ℕ → TakenNext
 takenAt s form p =
     let next = p + lengthFrom form (drop p s) in
     cond (leb next (length s)) (record { given = recordAtPlace s form p; place = next })

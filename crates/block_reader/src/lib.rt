@@ -18,7 +18,7 @@ pub struct Given {
 }
 
 // What was given, and the place after it.
-pub struct Taken {
+pub struct TakenNext {
     pub given: Given,
     pub place: usize,
 }
@@ -52,18 +52,18 @@ fn bytes_at(stretch: &[u8], form: u8, place: usize) -> usize
 
 // The record at a place, or the end mark where fewer bytes than that record's are left, and the place after it. The
 // part of the stretch from the place on is handed to the decoder of its form.
-pub fn take(stretch: &[u8], form: u8, place: usize) -> Taken
+pub fn take(stretch: &[u8], form: u8, place: usize) -> TakenNext
     ensures { λ r. ⌜ r ≡ takenAt (now (stretch .entry)) form place ⌝ }
 {
     let bytes = bytes_at(stretch, form, place);
     if !is_left(stretch.len(), place, bytes) {
         let edit = edit_record::decode(&stretch[..0]);
         let given = Given { found: false, edit };
-        return Taken { given, place };
+        return TakenNext { given, place };
     }
     let edit = edit_form::edit_from(&stretch[place..], form);
     let given = Given { found: true, edit };
-    Taken {
+    TakenNext {
         given,
         place: place + bytes,
     }

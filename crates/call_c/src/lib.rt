@@ -202,7 +202,7 @@ pub extern "C" fn spireslate_groups(
 
 // The number of the answer to a file, what its trailer says, and where the stretch of its records starts.
 #[repr(C)]
-pub struct Located {
+pub struct LocateAnswer {
     pub number: u8,
     pub sites: u8,
     pub form: u8,
@@ -212,13 +212,13 @@ pub struct Located {
 
 #[no_mangle]
 // Locates the block of a file, any bytes: 10, then 9; refused, N, the form, the records and the start are 0.
-pub extern "C" fn spireslate_locate(file: &[u8]) -> Located
+pub extern "C" fn spireslate_locate(file: &[u8]) -> LocateAnswer
     ensures { λ r. ⌜ (found (r .number) (r .sites) (r .form) (r .records) ≡ located (now (file .entry)) .trailer)
         × (r .start ≡ located (now (file .entry)) .start) ⌝ }
 {
     let t = block_trailer::read_trailer(file);
     let said = t.answer;
-    Located {
+    LocateAnswer {
         number: table_drawing::number(said),
         sites: t.sites,
         form: t.form,

@@ -43,7 +43,7 @@ use Rattle.group_true.proofs.TrueGroups.{groups-same, groups-first}
 use Rattle.group_true.proofs.ProperSets.{Orderly, orderly-none, orderly-more}
 use Rattle.math_lists.specs.Rearranged.{Mem}
 use Rattle.demand_any_order.specs.Settled.{named, AllAccepted, MayPrecede, Causal, Differ, Apart}
-use Rattle.demand_any_order.specs.Settled.{Numbered, Known, Settled}
+use Rattle.demand_any_order.specs.Settled.{SeqsFit, Known, Settled}
 use Rattle.math_lists.proofs.ListMembers.{any-at, chosen-at, split-mem, mem-along, mem-middle, fronts}
 use Rattle.math_lists.proofs.PairsInList.{pairs-snoc, pairs-cross, pairs-weaken}
 use Rattle.demand_any_order.proofs.Identities.{same-at, seen-on, one-object}
@@ -134,7 +134,7 @@ module _ (n : ℕ) (few : n ≤ mostSites) (es : List Edit) (t : AllAccepted n e
       over Orderly orderly-none
       (λ us x f o. orderly-more n few us x o (fine-passes n us x f) (f .names))
 
-  numbered : Numbered es
+  numbered : SeqsFit es
   numbered e m =
       let (us, vs, q) = split-mem m in
       let f = fine-at n us e (t us vs e q) in

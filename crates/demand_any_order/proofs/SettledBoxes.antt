@@ -32,7 +32,7 @@ use Rattle.edit_history.specs.EditsHeld.{isSetOn, setsOn}
 use Rattle.edit_history.specs.Answers2to5.{largerSomewhere, tears}
 use Rattle.group_true.proofs.ProperSets.{seen-agrees}
 use Rattle.math_lists.specs.Rearranged.{Mem}
-use Rattle.demand_any_order.specs.Settled.{MayPrecede, Causal, Apart, Numbered, Known, Settled}
+use Rattle.demand_any_order.specs.Settled.{MayPrecede, Causal, Apart, SeqsFit, Known, Settled}
 use Rattle.demand_any_order.proofs.Identities.{same-on, one-edit}
 
 -- what is asked of the edits, in any order
@@ -40,7 +40,7 @@ pub record Ordered (n : ℕ) (es : List Edit) : Type 0 where
   pub fit : (e : Edit) → Mem e es → unfit n e ≡ false
   pub apart : Apart es
   pub whole : (a e : Edit) → Mem a es → Mem e es → tears e a ≡ false
-  pub numbered : Numbered es
+  pub numbered : SeqsFit es
   pub known : Known es
 
 pub ordered : (n : ℕ) (es : List Edit) → Settled n es → Ordered n es

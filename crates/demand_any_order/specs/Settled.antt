@@ -97,8 +97,8 @@ abbrev pub Apart : List Edit → Type 0
 Apart es = Asc Differ es
 
 -- every sequence number fits two bytes
-abbrev pub Numbered : List Edit → Type 0
-Numbered es = (e : Edit) → Mem e es → e .seq .0 < twoBytes
+abbrev pub SeqsFit : List Edit → Type 0
+SeqsFit es = (e : Edit) → Mem e es → e .seq .0 < twoBytes
 
 -- each name that a limited Set lists is that of a Set of its object that it has seen
 abbrev pub Known : List Edit → Type 0
@@ -121,7 +121,7 @@ pub record Settled (n : ℕ) (es : List Edit) : Type 0 where
   pub whole : (a e : Edit) → Mem a es → Mem e es → tears e a ≡ false
   -- a Set or a layer edit has seen its Create
   pub aimed : (e : Edit) → Mem e es → isAimed e ≡ true → (c : Edit) × Mem c es × (isTarget e c ≡ true)
-  pub numbered : Numbered es
+  pub numbered : SeqsFit es
   pub known : Known es
   pub versions : Named es
   pub few-records : length es ≤ mostRecords

@@ -106,30 +106,6 @@ well-formed n e h =
       key = leb-false keys (e .key) key-off;
     }
 
--- a Create that is no misfit has no target
-pub create-aims-nowhere : (n : ℕ) (e : Edit) → unfit n e ≡ false → isCreate e ≡ true → e .tseq .0 ≡ 0
-unfolding unfit
-create-aims-nowhere n e h create =
-    let rest =
-    not (isCreate e || isAimed e)
-    || leb n (e .site .0)
-    || nonzeroPast n (e .vector)
-    || eqb (e .seq .0) 0
-    || not (eqb (e .seq .0) (entryOf (e .vector) (e .site) .0))
-    || leb keys (e .key)
-    || isAimed e && eqb (e .tseq .0) 0 in
-    let zeros = lastEightZero e in
-    let create-off = isCreate e && not zeros in
-    let layer = isLayer e && not (eqb (e .key) 0 && eqb (e .value) 0) in
-    let (most, _) = neither (rest || create-off || layer) (isLimited e && listUnfit e) h in
-    let (start, _) = neither (rest || create-off) layer most in
-    let (_, last) = neither rest create-off start in
-    let front = eqb (e .tsite .0) 0 && eqb (e .key) 0 in
-    let seq = eqb (e .tseq .0) 0 in
-    let (three, _) = both (front && seq) (eqb (e .value) 0) (not-false zeros (rw create at last)) in
-    let (_, zero) = both front seq three in
-    eqb-true (e .tseq .0) 0 zero
-
 -- what tells by itself that an edit is unfit: a site that the drawing has not, or an entry of such a site
 pub outside-unfit : (n : ℕ) (e : Edit) → n ≤ e .site .0 → unfit n e ≡ true
 outside-unfit n e h =

@@ -50,7 +50,7 @@ pub const AT_KEY: usize = AT_TARGET + 1;
 
 pub const AT_TARGET_SEQ: usize = AT_TARGET + 2;
 
-const AT_VALUE: usize = AT_TARGET + 4;
+pub const AT_VALUE: usize = AT_TARGET + 4;
 
 // The bytes of a record, but that a limited Set goes on.
 pub const RECORD: usize = AT_VALUE + 4;
@@ -58,15 +58,22 @@ pub const RECORD: usize = AT_VALUE + 4;
 // Where a limited Set has the count of its members, with two zero bytes, and where the members.
 pub const AT_COUNT: usize = RECORD;
 
-const AT_MEMBERS: usize = AT_COUNT + 4;
+pub const AT_MEMBERS: usize = AT_COUNT + 4;
 
 // The bytes of a member, and the most members.
-const MEMBER: usize = 4;
+pub const MEMBER: usize = 4;
 
 pub const MEMBERS: usize = 16;
 
 // The bytes of a place in the table of records, which has room for the longest.
 pub const PLACE: usize = AT_MEMBERS + MEMBER * MEMBERS;
+
+// The numbers that one, two and four bytes have: those of sites, of edits of a site, and of values.
+pub const SITE_NUMBERS: u32 = 256;
+
+pub const SEQ_NUMBERS: u32 = 65536;
+
+pub const VALUES: u64 = 4294967296;
 
 // The number of a laptop. It is never taken for a sequence number.
 pub struct Site(pub u8);

@@ -1,11 +1,15 @@
 // The sum of document 02's Req 11: the words of the records, added up and wrapped at 32 bits.
+use edit_record::AT_KIND;
+use edit_record::LIMITED;
 use edit_record::PLACE;
+use edit_record::RECORD;
 ghost use mathlib.Core.Path.{_≡_};
-ghost use Prim.Native.Nat.{_*_, _+_, _≤_};
+ghost use Prim.Native.Nat.{_*_, _+_, _≤_, _<_};
 ghost use lib.ListN.{length};
-ghost use Rattle.edit_record.specs.Layout.{placeLength};
+ghost use Rattle.edit_record.specs.Layout.{mostMembers, placeLength};
 ghost use Rattle.edit_record.specs.RecordBytes.{spanOf};
-ghost use Rattle.edit_sum.specs.WordSum.{wordLength, recordWords, wordAt, wrapped, sumOf, sumHeld, ListsFit};
+ghost use Rattle.edit_history.specs.EditsHeld.{mostRecords, recordAt};
+ghost use Rattle.edit_sum.specs.WordSum.{wordLength, recordWords, wordAt, wrapped, sumOf, sumHeld};
 
 // The bytes of a word.
 const WORD: usize = 4;
@@ -41,25 +45,26 @@ fn sum_words(s: &[u8], n: usize) -> u32
     sum
 }
 
-// The words of the record at the front of rec added up, wrapped at the top.
+// The words of the record at the front of rec added up, wrapped at the top. Most records are no limited Sets, and have a
+// number of words that is known beforehand.
 pub fn sum_record(rec: &[u8]) -> u32
     requires { ⌜ spanOf (now rec) ≤ length (now rec) ⌝ }
     ensures { λ r. ⌜ r ≡ sumOf (recordWords (now (rec .entry))) (now (rec .entry)) ⌝ }
 {
-    sum_words(rec, edit_record::span_of(rec) / WORD)
+    if edit_record::byte_at(rec, AT_KIND) == LIMITED {
+        return sum_words(rec, edit_record::span_of(rec) / WORD);
+    }
+    sum_words(rec, RECORD / WORD)
 }
 
-// The words of the first n records of a table added up, wrapped at the top. Each has room in its place.
-pub fn sum_records(recs: &[u8], n: usize) -> u32
-    requires { ⌜ (n * placeLength ≤ length (now recs)) × ListsFit (now recs) n ⌝ }
-    ensures { λ r. ⌜ r ≡ sumHeld n (now (recs .entry)) ⌝ }
+// The sum of the first i + 1 records of a table by that of the first i. The last has room in its place.
+pub fn sum_more(sum: u32, recs: &[u8], i: usize) -> u32
+    requires { ⌜ (sum ≡ sumHeld i (now recs))
+        × (i * placeLength + placeLength ≤ length (now recs))
+        × (i < mostRecords)
+        × (recordAt (now recs) i .count ≤ mostMembers) ⌝ }
+    ensures { λ r. ⌜ r ≡ sumHeld (i + 1) (now (recs .entry)) ⌝ }
 {
-    let mut sum: u32 = 0;
-    let mut i: usize = 0;
-    while i < n {
-        let at = i * PLACE;
-        sum = added(sum, sum_record(&recs[at..]));
-        i += 1;
-    }
-    sum
+    let at = i * PLACE;
+    added(sum, sum_record(&recs[at..]))
 }

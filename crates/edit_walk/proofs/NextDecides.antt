@@ -11,10 +11,9 @@ use native.Mathlib.Decide.{ℕ-discrete}
 use lib.Dec.{eqb, leb, ltb}
 use lib.ListN.{getD}
 use lib.Seq.{getD-set-other}
-use borrow.Author.Tests.{eqb-true, eqb-false, ne-eqb, eq-eqb, leb-true, leb-false, le-leb, lt-leb, le-ltb, ltb-true}
+use borrow.Author.Tests.{eqb-true, eqb-false, eq-eqb, leb-true, leb-false, lt-leb, le-ltb, ltb-true}
 use borrow.Author.Tests.{not-true}
-use Rattle.math_lists.specs.NumbersBelow.{all, some}
-use Rattle.math_lists.proofs.Booleans.{clash, decide, off, both, either, off-where, or-off}
+use Rattle.math_lists.proofs.Booleans.{decide, off, both, either, off-where, or-off}
 use Rattle.math_lists.proofs.NumbersBelow.{all-at, some-at, some-off}
 use Rattle.edit_record.specs.declared.Edit.{Edit}
 use Rattle.edit_record.specs.Layout.{mostSites}
@@ -26,7 +25,7 @@ use Rattle.edit_history.specs.SurveyForms.{Counted, aheadElsewhere, repeatedAga
 use Rattle.edit_history.proofs.EditsHeld.{count-grows}
 use Rattle.edit_history.proofs.RecordsPassed.{InTurn, passed-at, seq-held}
 use Rattle.edit_walk.specs.WalkForms.{placeOf, Indexed, tornBy, tornByNews, targetHeld, passesAgainst}
-use Rattle.edit_walk.specs.WalkForms.{sameBut, isNext}
+use Rattle.edit_walk.specs.WalkForms.{sameBut, isNext, Passing}
 use Rattle.edit_walk.proofs.LatestDecides.{latestSeen, tornAt, tornByLatest, one-before, torn-same}
 use Rattle.edit_walk.proofs.NewsDecide.{seen-through, news-same}
 
@@ -170,3 +169,16 @@ next-decides sites few rs n pass ps ix counts counted e x lx grown next = go (de
             off-where (not (eqb t (e .site .0))) (ltb (getD counts t 0) (getD (e .vector) t 0)) (λ y.
             le-ltb (getD counts t 0) (getD (e .vector) t 0)
             (rw (counted t l) (turn .others t l (eqb-false t (e .site .0) (not-true (eqb t (e .site .0)) y)))))))
+
+-- what says so of a record with no entry past the sites says it of one that follows
+pub next-tells :
+    (sites : ℕ) {counts rs ps : List ℕ} {n : ℕ} → Passing sites counts rs n ps → (e : Edit) (x : ℕ) {b : Bool} →
+    x < n → isNext (recordAt rs x .vector) (e .vector) (e .site .0) ≡ true →
+    e .seq .0 ≡ getD counts (e .site .0) 0 + 1 →
+    ((leb sites (e .site .0) ≡ false → nonzeroPast sites (e .vector) ≡ false) →
+    b ≡ not (unfit sites e || isAimed e && not (targetHeld counts rs ps e))) →
+    b ≡ passesAgainst sites counts rs ps e
+next-tells sites {counts} {rs} {ps} {n} ok e x before grown next told =
+    told (next-not-past sites (ok .few) rs n (ok .pass) e x before grown)
+    ∙ sym
+    (next-decides sites (ok .few) rs n (ok .pass) ps (ok .indexed) counts (ok .counted) e x before grown next)

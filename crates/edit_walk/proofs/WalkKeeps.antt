@@ -1,45 +1,51 @@
 -- What the walk keeps: the records walked over pass, and the counts and the index are theirs. One record more is
 -- decided by them, and they stay true. Assumes no more sites than entries, and room in the index for the record.
-use mathlib.Core.Path.{_≡_, refl, ap, sym, _∙_}
+use mathlib.Core.Path.{_≡_, refl, sym, _∙_}
 use mathlib.Core.Logic.{_⊎_, inl, inr}
-use mathlib.Core.Bool.{Bool, true, false}
+use mathlib.Core.Bool.{true, false}
 use mathlib.Core.List.{List}
-use Prim.Native.Nat.{ℕ, suc, _≤_, _<_}
+use Prim.Native.Nat.{ℕ, suc, _+_, _≤_, _<_}
 use native.Mathlib.Omega.{arith}
+use native.Mathlib.Decide.{ℕ-discrete}
 use lib.ListN.{length, getD, set, replicate, length-set}
+use lib.Seq.{getD-set-same, getD-set-other}
 use Rattle.math_lists.specs.NumbersBelow.{all}
-use Rattle.math_lists.proofs.Booleans.{clash, off, and-on}
+use Rattle.math_lists.proofs.Booleans.{clash, and-on}
 use Rattle.math_lists.proofs.LastBelow.{last}
-use Rattle.math_lists.proofs.NumbersBelow.{all-at}
-use Rattle.edit_record.specs.declared.Edit.{Edit}
+use Rattle.math_lists.proofs.NumbersBelow.{all-at, sum-past}
 use Rattle.edit_record.specs.Layout.{mostSites}
 use Rattle.edit_history.specs.EditsHeld.{recordAt, editsOf}
 use Rattle.edit_history.specs.Answers2to5.{passes, recordsPass}
 use Rattle.edit_history.specs.SurveyForms.{bump, Counted}
 use Rattle.edit_walk.specs.WalkForms.{placesLength, slotOf, placeOf, Indexed, SameStarts, countIn, Spaced}
-use Rattle.edit_walk.specs.WalkForms.{passesAgainst}
+use Rattle.edit_walk.specs.WalkForms.{passesAgainst, Roomy}
 use Rattle.edit_history.proofs.EditsHeld.{edits-length, count-grows}
 use Rattle.edit_history.proofs.ByCounts.{counted-none, counted-few, counted-more}
 use Rattle.edit_history.proofs.RecordsPassed.{formed-at, seq-held, seq-later}
 use Rattle.edit_walk.proofs.NewsDecide.{news-decide}
-use Rattle.edit_walk.proofs.RoomInIndex.{spaced-same, slot-within, starts-stay, put-here, put-elsewhere}
+use Rattle.edit_walk.proofs.RoomInIndex.{spaced-same, slot-within, starts-stay, put-here, put-elsewhere, counts-few}
 
-pub record Walking (sites : ℕ) (rs : List ℕ) (m n : ℕ) (held ps : List ℕ) : Type 0 where
+pub record Walking (sites : ℕ) (room : ℕ → ℕ) (rs : List ℕ) (n : ℕ) (held ps : List ℕ) : Type 0 where
   pub pass : recordsPass sites rs n ≡ true
   pub wide : length held ≡ mostSites
-  pub spaced : Spaced (countIn rs m) ps
+  pub spaced : Spaced room ps
+  pub fits : Roomy room rs n
   pub counted : Counted held (editsOf rs n)
   pub indexed : Indexed rs n ps
 
+no-edits : (rs : List ℕ) (s : ℕ) → countIn rs 0 s ≤ 0
+no-edits rs s = omega (arith, counts-few (editsOf rs 0) (suc s), sum-past s (suc s) (countIn rs 0) (omega arith), edits-length rs 0)
+
 pub walking-starts :
-    (sites : ℕ) (rs ps : List ℕ) (m : ℕ) → Spaced (countIn rs m) ps →
-    Walking sites rs m 0 (replicate mostSites 0) ps
+    (sites : ℕ) (room : ℕ → ℕ) (rs ps : List ℕ) → Spaced room ps →
+    Walking sites room rs 0 (replicate mostSites 0) ps
 unfolding recordsPass all
-walking-starts sites rs ps m spaced =
+walking-starts sites room rs ps spaced =
     record {
       pass = refl;
       wide = refl;
       spaced = spaced;
+      fits = λ s l. omega (arith, no-edits rs s);
       counted = unfold editsOf in counted-none;
       indexed = λ p l. absurd (omega arith);
     }
@@ -106,11 +112,15 @@ module _
 
 module _
     {sites : ℕ}
+    {room : ℕ → ℕ}
     {rs : List ℕ}
-    {m n : ℕ}
+    {n : ℕ}
     {held ps : List ℕ}
     (few : sites ≤ mostSites)
-    (w : Walking sites rs m n held ps) where
+    (w : Walking sites room rs n held ps) where
+  abbrev own : ℕ
+  own = recordAt rs n .site .0
+
   -- the counts and the index decide about the next record
   decided : passesAgainst sites held rs ps (recordAt rs n) ≡ passes sites (editsOf rs n) (recordAt rs n)
   decided =
@@ -118,36 +128,61 @@ module _
 
   -- records of which this one does not pass do not pass
   pub refused :
-      n < m → passesAgainst sites held rs ps (recordAt rs n) ≡ false → recordsPass sites rs m ≡ false
+      (m : ℕ) → n < m → passesAgainst sites held rs ps (recordAt rs n) ≡ false → recordsPass sites rs m ≡ true → ⊥
   unfolding recordsPass
-  refused l h =
-      off (recordsPass sites rs m)
-      (λ y. clash (all-at m (λ p. passes sites (editsOf rs p) (recordAt rs p)) y n l) (sym decided ∙ h))
+  refused m l h y = clash (all-at m (λ p. passes sites (editsOf rs p) (recordAt rs p)) y n l) (sym decided ∙ h)
 
   -- no count is above the number of records
   pub held-few : (s : ℕ) → getD held s 0 ≤ n
   held-few s = omega (arith, counted-few held (editsOf rs n) (w .wide) (w .counted) s, edits-length rs n)
 
-  module _ (l : n < m) (next : passesAgainst sites held rs ps (recordAt rs n) ≡ true) where
+  counted-next : Counted (bump held (recordAt rs n .site)) (editsOf rs (suc n))
+  counted-next = unfold editsOf in counted-more held (editsOf rs n) (w .wide) (w .counted) (recordAt rs n)
+
+  module _ (next : passesAgainst sites held rs ps (recordAt rs n) ≡ true) where
     pass-more : recordsPass sites rs (suc n) ≡ true
     unfolding recordsPass all
     pass-more =
         and-on (recordsPass sites rs n) (passes sites (editsOf rs n) (recordAt rs n)) (w .pass) (sym decided ∙ next)
 
-    fit : (s : ℕ) → s < mostSites → countIn rs (suc n) s ≤ countIn rs m s
-    fit s k = count-grows s rs (suc n) m l
+    pub own-low : own < mostSites
+    own-low = omega (arith, formed-at sites rs (suc n) pass-more n (omega arith) .site)
 
-    pub slot-more : slotOf ps (recordAt rs n .site .0) (recordAt rs n .seq .0) < placesLength
-    slot-more = slot-low sites few rs n pass-more (countIn rs m) fit ps (w .spaced)
+    one-more : countIn rs (suc n) own ≡ getD held own 0 + 1
+    one-more =
+        sym (counted-next own own-low)
+        ∙ getD-set-same held own (getD held own 0 + 1) 0 (omega (arith, w .wide, own-low))
 
-    pub walking-more :
-        Walking sites rs m (suc n) (bump held (recordAt rs n .site))
-        (set ps (slotOf ps (recordAt rs n .site .0) (recordAt rs n .seq .0)) n)
-    walking-more =
-        record {
-          pass = pass-more;
-          wide = simp length-set (w .wide);
-          spaced = spaced-more sites few rs n pass-more (countIn rs m) fit ps (w .spaced);
-          counted = unfold editsOf in counted-more held (editsOf rs n) (w .wide) (w .counted) (recordAt rs n);
-          indexed = indexed-more sites few rs n pass-more (countIn rs m) fit ps (w .spaced) (w .indexed);
-        }
+    -- where there is no room for it there is none for all records
+    pub crowded : (m : ℕ) → n < m → room own ≤ getD held own 0 → Roomy room rs m → ⊥
+    crowded m l none roomy = omega (arith, roomy own own-low, one-more, count-grows own rs (suc n) m l)
+
+    module _ (free : getD held own 0 < room own) where
+      fits-more : Roomy room rs (suc n)
+      fits-more s l = elim (ℕ-discrete s own) [
+        | yes y ↦ rw y (omega (arith, one-more))
+        | no d ↦
+            omega (
+              arith,
+              counted-next s l,
+              getD-set-other held own s (getD held own 0 + 1) 0 d,
+              w .counted s l,
+              w .fits s l,
+            )
+      ]
+
+      pub slot-more : slotOf ps own (recordAt rs n .seq .0) < placesLength
+      slot-more = slot-low sites few rs n pass-more room fits-more ps (w .spaced)
+
+      pub walking-more :
+          Walking sites room rs (suc n) (bump held (recordAt rs n .site))
+          (set ps (slotOf ps own (recordAt rs n .seq .0)) n)
+      walking-more =
+          record {
+            pass = pass-more;
+            wide = simp length-set (w .wide);
+            spaced = spaced-more sites few rs n pass-more room fits-more ps (w .spaced);
+            fits = fits-more;
+            counted = counted-next;
+            indexed = indexed-more sites few rs n pass-more room fits-more ps (w .spaced) (w .indexed);
+          }

@@ -3,7 +3,7 @@
 use Prim.Native.Nat.{ℕ, _+_, _-_, _≤_, _<_}
 use mathlib.Core.Path.{_≡_}
 use mathlib.Core.List.{List}
-use mathlib.Core.Bool.{Bool, true, not, _&&_, _||_, cond}
+use mathlib.Core.Bool.{Bool, true, false, not, _&&_, _||_, cond}
 use lib.ListN.{getD, set, length, replicate}
 use lib.Dec.{eqb, leb, ltb}
 use Rattle.math_lists.specs.NumbersBelow.{all, some}
@@ -106,14 +106,6 @@ sameBut v w s = all mostSites (λ t. eqb t s || eqb (getD v t 0) (getD w t 0))
 unfoldable pub isNext : List ℕ → List ℕ → ℕ → Bool
 isNext v w s = eqb (getD w s 0) (getD v s 0 + 1) && sameBut v w s
 
--- e is the next of its author after the first n records, and its vector is that of one of them with one edit more of
--- its own
-pub record Following (counts rs : List ℕ) (n : ℕ) (e : Edit) : Type 0 where
-  pub next : e .seq .0 ≡ getD counts (e .site .0) 0 + 1
-  pub last : ℕ
-  pub before : last < n
-  pub grown : isNext (recordAt rs last .vector) (e .vector) (e .site .0) ≡ true
-
 -- the first n records pass, and the counts and the index are theirs
 pub record Passing (sites : ℕ) (counts rs : List ℕ) (n : ℕ) (ps : List ℕ) : Type 0 where
   pub few : sites ≤ mostSites
@@ -121,10 +113,16 @@ pub record Passing (sites : ℕ) (counts rs : List ℕ) (n : ℕ) (ps : List ℕ
   pub counted : Counted counts (editsOf rs n)
   pub indexed : Indexed rs n ps
 
--- ---- the walk over the first n records: whether they pass, and then the counts and the index that they give
+-- ---- the walk over the first n records
 
-pub record WalkedOver (sites : ℕ) (rs : List ℕ) (n : ℕ) (w : Walked) (ps : List ℕ) : Type 0 where
-  pub ok : w .ok ≡ recordsPass sites rs n
+-- room has a place for each edit of the first n records
+abbrev pub Roomy : (ℕ → ℕ) → List ℕ → ℕ → Type 0
+Roomy room rs n = (s : ℕ) → s < mostSites → countIn rs n s ≤ room s
+
+-- whether they pass and there is room for them, and then the counts and the index that they give
+pub record WalkedOver (sites : ℕ) (room : ℕ → ℕ) (rs : List ℕ) (n : ℕ) (w : Walked) (ps : List ℕ) : Type 0 where
+  pub passed : w .ok ≡ true → recordsPass sites rs n ≡ true
+  pub refused : w .ok ≡ false → recordsPass sites rs n ≡ true → Roomy room rs n → ⊥
   pub wide : length (w .held) ≡ mostSites
   pub entries : length ps ≡ placesLength
   pub counted : w .ok ≡ true → Counted (w .held) (editsOf rs n)

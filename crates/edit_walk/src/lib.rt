@@ -241,27 +241,31 @@ fn is_passing_at(sites: u8, held: &[u16], recs: &[u8], places: &[u16], p: usize)
     is_passing(sites, held, recs, places, &recs[at..])
 }
 
-// The first n records in turn: whether each passes 1 to 5 after those before it, and then their counts and index.
-pub fn walk(sites: u8, recs: &[u8], n: usize, places: &mut [u16]) -> Walked
+// The first n records in turn, where the index has room for so many edits of each site: whether each passes 1 to 5 after
+// those before it and has room, and then their counts and index.
+pub fn walk(sites: u8, room: [u16; SITES], recs: &[u8], n: usize, places: &mut [u16]) -> Walked
     requires { ⌜ (sites ≤ mostSites)
+        × (sum mostSites (λ s. getD room s 0) ≤ mostRecords)
         × (n ≤ mostRecords)
         × (n * placeLength ≤ length (now recs))
         × (length (now places) ≡ placesLength) ⌝ }
-    ensures { λ r. ⌜ WalkedOver sites (now (recs .entry)) n r (now (places .exit)) ⌝ }
+    ensures { λ r. ⌜ WalkedOver sites (λ s. getD room s 0) (now (recs .entry)) n r (now (places .exit)) ⌝ }
 {
-    start_places(recs, n, places);
+    space_places(room, places);
     let mut held = [0u16; SITES];
     let mut i: usize = 0;
     while i < n {
         if !next::is_passing_next(sites, &held, recs, places, i) {
             return Walked { ok: false, held };
         }
+        let own = edit_record::byte_at(recs, i * PLACE + AT_SITE) as usize;
+        let have = held[own];
+        if room[own] <= have {
+            return Walked { ok: false, held };
+        }
         let at = spot(recs, places, i);
         places[at] = i as u16;
-        let own = edit_record::byte_at(recs, i * PLACE + AT_SITE) as usize;
-        if own < SITES {
-            held[own] = held[own] + 1;
-        }
+        held[own] = have + 1;
         i += 1;
     }
     Walked { ok: true, held }

@@ -1,14 +1,20 @@
 // The short way through 1 to 5 that most records take: a record whose vector is that of one before it, with one edit
 // more of its own, has seen nothing that was not tested with that one.
+use super::is_passing;
 use super::is_passing_at;
 use super::is_target_held;
 use super::is_torn_by_news;
 use super::place_at;
+use edit_record::AT_KEY;
 use edit_record::AT_KIND;
 use edit_record::AT_SEQ;
 use edit_record::AT_SITE;
+use edit_record::AT_TARGET;
+use edit_record::AT_TARGET_SEQ;
 use edit_record::AT_VECTOR;
+use edit_record::KEYS;
 use edit_record::PLACE;
+use edit_record::SET;
 use edit_record::SITES;
 use edit_record::Seq;
 use edit_record::Site;
@@ -16,14 +22,14 @@ ghost use mathlib.Core.Path.{_≡_};
 ghost use mathlib.Core.Bool.{true, false, not, _&&_, _||_};
 ghost use Prim.Native.Nat.{ℕ, _+_, _*_, _≤_, _<_};
 ghost use lib.Dec.{leb};
-ghost use lib.ListN.{length};
-ghost use Rattle.edit_record.specs.Layout.{mostSites, recordLength, placeLength};
+ghost use lib.ListN.{length, getD};
+ghost use Rattle.edit_record.specs.Layout.{mostSites, setKind, recordLength, placeLength};
 ghost use Rattle.edit_record.specs.RecordBytes.{decodeOf};
 ghost use Rattle.edit_record.specs.Answer1.{isAimed, nonzeroPast, unfit};
 ghost use Rattle.edit_history.specs.EditsHeld.{mostRecords, recordAt, editsOf};
 ghost use Rattle.edit_history.specs.Answers2to5.{isTorn};
 ghost use Rattle.edit_walk.specs.WalkForms.{targetHeld, inTurnAgainst, passesAgainst};
-ghost use Rattle.edit_walk.specs.WalkForms.{sameBut, isNext, Following, Passing};
+ghost use Rattle.edit_walk.specs.WalkForms.{sameBut, isNext, Passing};
 
 // Whether rec has in every entry but that of the site s what x has; both are there whole.
 fn is_same_but(x: &[u8], rec: &[u8], s: u8) -> bool
@@ -55,45 +61,54 @@ fn is_next_to(x: &[u8], rec: &[u8], s: u8) -> bool
     is_same_but(x, rec, s)
 }
 
-// The place of the record that rec may follow, of site s with so many edits among the first p records: the last of
-// these, if rec has seen that, else the author's own before it. Whether it follows is for others to test.
-fn likely_before(recs: &[u8], places: &[u16], p: usize, rec: &[u8], s: u8, have: u16) -> usize
-    requires { ⌜ (0 < p)
-        × (p ≤ mostRecords)
-        × (p * placeLength ≤ length (now recs))
-        × (recordLength ≤ length (now rec)) ⌝ }
+// The place of the record that rec may follow, if rec, which is there whole, is the next of its author after the first
+// p records: the last of these, where rec has seen that, else the author's own before it, or where there is none, the
+// target of rec. Whether it follows is for others to test; p is none.
+fn likely_before(held: &[u16], recs: &[u8], places: &[u16], p: usize, rec: &[u8]) -> usize
+    requires { ⌜ (p ≤ mostRecords) × (recordLength ≤ length (now rec)) ⌝ }
+    ensures { λ r.
+        ⌜ (r < p → (p * placeLength ≤ length (now (recs .entry)))
+        × (decodeOf (now (rec .entry)) .seq .0
+        ≡ getD (now (held .entry)) (decodeOf (now (rec .entry)) .site .0) 0 + 1)) ⌝ }
 {
+    if p == 0 {
+        return p;
+    }
+    if recs.len() < p * PLACE {
+        return p;
+    }
+    let s = rec[AT_SITE];
+    let have = edit_history::held_from(held, Site(s));
+    if edit_record::pair_at(rec, AT_SEQ) as u32 != have as u32 + 1 {
+        return p;
+    }
     let last = (p - 1) * PLACE;
     let seen = edit_record::own_entry(rec, recs[last + AT_SITE]);
     if edit_record::pair_at(recs, last + AT_SEQ) <= seen {
         return p - 1;
     }
+    if have == 0 {
+        let seq = edit_record::pair_at(rec, AT_TARGET_SEQ);
+        return place_at(places, Site(rec[AT_TARGET]), Seq(seq)) as usize;
+    }
     place_at(places, Site(s), Seq(have)) as usize
 }
 
-// Whether rec, which is there whole, is the next of its author after the first p records, and is found to have the
-// vector of one of them with one edit more of its own.
-fn is_following(held: &[u16], recs: &[u8], places: &[u16], p: usize, rec: &[u8]) -> bool
-    requires { ⌜ (p ≤ mostRecords) × (recordLength ≤ length (now rec)) ⌝ }
-    ensures { λ r. ⌜ (r ≡ true → Following (now (held .entry)) (now (recs .entry)) p (decodeOf (now (rec .entry)))) ⌝ }
+// Whether the record in place r is one of the first p, and rec has its vector with one edit more of its own. Apart from
+// the choice of r, so that a caller takes that in and makes one call.
+fn is_next_at(recs: &[u8], p: usize, r: usize, rec: &[u8]) -> bool
+    requires { ⌜ (p ≤ mostRecords)
+        × (recordLength ≤ length (now rec))
+        × (r < p → p * placeLength ≤ length (now recs)) ⌝ }
+    ensures { λ b. ⌜ (b ≡ true → (r < p)
+        × (isNext (recordAt (now (recs .entry)) r .vector) (decodeOf (now (rec .entry)) .vector)
+        (decodeOf (now (rec .entry)) .site .0) ≡ true)) ⌝ }
 {
-    if p == 0 {
-        return false;
-    }
-    if recs.len() < p * PLACE {
-        return false;
-    }
-    let s = rec[AT_SITE];
-    let have = edit_history::held_from(held, Site(s));
-    if edit_record::pair_at(rec, AT_SEQ) as u32 != have as u32 + 1 {
-        return false;
-    }
-    let r = likely_before(recs, places, p, rec, s, have);
     if p <= r {
         return false;
     }
     let from = r * PLACE;
-    is_next_to(&recs[from..], rec, s)
+    is_next_to(&recs[from..], rec, rec[AT_SITE])
 }
 
 // Whether answer 4 is given to rec, to which none of 1 to 3 is given and which is there whole, where the first p
@@ -105,11 +120,31 @@ pub fn is_torn_next(held: &[u16], recs: &[u8], places: &[u16], p: usize, rec: &[
         × (inTurnAgainst sites (now held) (decodeOf (now rec)) ≡ true)) ⌝ }
     ensures { λ r. ⌜ r ≡ isTorn (editsOf (now (recs .entry)) p) (decodeOf (now (rec .entry))) ⌝ }
 {
-    if is_following(held, recs, places, p, rec) {
+    let r = likely_before(held, recs, places, p, rec);
+    if is_next_at(recs, p, r, rec) {
         return false;
     }
     let v = edit_record::vector_of(rec);
     is_torn_by_news(recs, places, v, Site(rec[AT_SITE]))
+}
+
+// What `is_body_unfit` says of a plain Set, as most records are: little is asked, and it is asked without a call.
+fn is_set_unfit(n: u8, rec: &[u8]) -> bool
+    requires { ⌜ (recordLength ≤ length (now rec)) × (decodeOf (now rec) .kind ≡ setKind) ⌝ }
+    ensures { λ r.
+        ⌜ ((leb n (decodeOf (now (rec .entry)) .site .0) ≡ false →
+        nonzeroPast n (decodeOf (now (rec .entry)) .vector) ≡ false) →
+        r ≡ unfit n (decodeOf (now (rec .entry)))) ⌝ }
+{
+    let site = rec[AT_SITE];
+    if n <= site {
+        return true;
+    }
+    let key = rec[AT_KEY];
+    let seq = edit_record::pair_at(rec, AT_SEQ);
+    let tseq = edit_record::pair_at(rec, AT_TARGET_SEQ);
+    let own = edit_record::own_entry(rec, site);
+    (seq == 0) | (seq != own) | (KEYS <= key) | (tseq == 0)
 }
 
 // Whether none of 1 to 5 is given to a record that is there whole and follows one of those before it, by the counts
@@ -133,6 +168,24 @@ fn is_fit_and_aimed(sites: u8, held: &[u16], recs: &[u8], places: &[u16], rec: &
     true
 }
 
+// The same of a plain Set, as most records are. It has one caller, which so takes it in: a call costs more than what is
+// asked here.
+fn is_set_fit_and_aimed(sites: u8, held: &[u16], recs: &[u8], places: &[u16], rec: &[u8]) -> bool
+    requires { ⌜ (recordLength ≤ length (now rec)) × (decodeOf (now rec) .kind ≡ setKind) ⌝ }
+    ensures { λ r.
+        ⌜ ((leb sites (decodeOf (now (rec .entry)) .site .0) ≡ false →
+        nonzeroPast sites (decodeOf (now (rec .entry)) .vector) ≡ false) →
+        r ≡ not (unfit sites (decodeOf (now (rec .entry)))
+        || isAimed (decodeOf (now (rec .entry)))
+        && not (targetHeld (now (held .entry)) (now (recs .entry)) (now (places .entry))
+        (decodeOf (now (rec .entry)))))) ⌝ }
+{
+    if is_set_unfit(sites, rec) {
+        return false;
+    }
+    is_target_held(held, recs, places, rec)
+}
+
 // Whether none of 1 to 5 is given to the record in place p, where those before it pass and the counts and the index are
 // theirs.
 pub fn is_passing_next(sites: u8, held: &[u16], recs: &[u8], places: &[u16], p: usize) -> bool
@@ -145,8 +198,37 @@ pub fn is_passing_next(sites: u8, held: &[u16], recs: &[u8], places: &[u16], p: 
         (recordAt (now (recs .entry)) p) ⌝ }
 {
     let at = p * PLACE;
-    if is_following(held, recs, places, p, &recs[at..]) {
-        return is_fit_and_aimed(sites, held, recs, places, &recs[at..]);
+    let rec = &recs[at..];
+    let r = likely_before(held, recs, places, p, rec);
+    if is_next_at(recs, p, r, rec) {
+        if rec[AT_KIND] == SET {
+            return is_set_fit_and_aimed(sites, held, recs, places, rec);
+        }
+        return is_fit_and_aimed(sites, held, recs, places, rec);
     }
     is_passing_at(sites, held, recs, places, p)
+}
+
+// The same of a record that is there whole and stands anywhere, after the first p records.
+pub fn is_passing_after(
+    sites: u8,
+    held: &[u16],
+    recs: &[u8],
+    places: &[u16],
+    p: usize,
+    rec: &[u8],
+) -> bool
+    requires { ⌜ (p ≤ mostRecords)
+        × (recordLength ≤ length (now rec))
+        × (length (now held) ≡ mostSites)
+        × Passing sites (now held) (now recs) p (now places) ⌝ }
+    ensures { λ r. ⌜ r
+        ≡ passesAgainst sites (now (held .entry)) (now (recs .entry)) (now (places .entry))
+        (decodeOf (now (rec .entry))) ⌝ }
+{
+    let r = likely_before(held, recs, places, p, rec);
+    if is_next_at(recs, p, r, rec) {
+        return is_fit_and_aimed(sites, held, recs, places, rec);
+    }
+    is_passing(sites, held, recs, places, rec)
 }

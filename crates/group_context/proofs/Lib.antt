@@ -6,3 +6,4 @@ pub mod NextByRows
 pub mod ConflictRows
 pub mod RowsOfArrival
 pub mod NamedByRows
+pub mod FoesOfMembers

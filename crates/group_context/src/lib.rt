@@ -4,10 +4,12 @@
 // its own numbers: bit j of `seen` says that its author had seen j, bit j of `named` that it lists j, and `limited`
 // that it is of kind 3. It may come after as many Sets as an object has at most.
 ghost use mathlib.Core.Path.{_≡_};
-ghost use mathlib.Core.Bool.{Bool};
+ghost use mathlib.Core.Bool.{Bool, true, _&&_};
 ghost use Prim.Native.Nat.{ℕ, _≤_, _<_};
 ghost use lib.ListN.{length, take, getD};
-ghost use Rattle.math_lists.specs.NumbersBelow.{mask};
+ghost use Rattle.math_lists.specs.NumbersBelow.{some, mask};
+ghost use Rattle.math_maximal.specs.Groups.{bit};
+ghost use Rattle.math_maximal.specs.Step.{compatible};
 ghost use Rattle.math_contexts.specs.Box.{Box};
 ghost use Rattle.math_contexts.specs.Contexts.{contexts, context, conflicts};
 ghost use Rattle.math_contexts.specs.MaskForms.{maskConflicts, maskNames};
@@ -112,16 +114,52 @@ pub fn put_conflicts(out: &mut [u64], plain: &[u64], ctx: &[u64], n: usize)
     }
 }
 
+// Row j, and 0 past their end.
+fn row_at(rows: &[u64], j: usize) -> u64
+    ensures { λ r. ⌜ r ≡ getD (now (rows .entry)) j 0 ⌝ }
+{
+    if j < rows.len() { rows[j] } else { 0 }
+}
+
+// The Sets that conflict with some of others by document 01's rule, and whether one of the others conflicts with none of
+// those that were seen.
+struct Met {
+    foes: u64,
+    unmet: bool,
+}
+
+// What the rows of the members of m tell, where those of v were seen: only these rows are read.
+fn foes_of(plain: &[u64], m: u64, v: u64) -> Met
+    ensures { λ r.
+        ⌜ ((y : ℕ) → bit (r .foes) y ≡ some mostSets (λ j. bit m j && bit (getD (now (plain .entry)) j 0) y))
+        × (r .unmet ≡ some mostSets (λ j. bit m j && compatible v (getD (now (plain .entry)) j 0))) ⌝ }
+{
+    let mut foes: u64 = 0;
+    let mut unmet = false;
+    let mut left = m;
+    while left != 0 {
+        let j = u64::trailing_zeros(left) as usize;
+        let row = row_at(plain, j);
+        foes = foes | row;
+        unmet = unmet | (row & v == 0);
+        let own = group_step::only(j);
+        left = group_step::without(left, own);
+    }
+    Met { foes, unmet }
+}
+
 // Whether Set n, whose context is c, lists the disputed members of c, and c is all that it has seen from which nothing
-// is reached that conflicts with what it lists.
+// is reached that conflicts with what it lists. No member of c is disputed but those that it lists, so that it is asked
+// whether these are in c and disputed.
 fn names_by(plain: &[u64], ctx: &[u64], n: usize, seen: u64, named: u64, c: u64) -> bool
     requires { ⌜ (n ≤ mostSets) × (n ≤ length (now plain)) × (n ≤ length (now ctx)) ⌝ }
-    ensures { λ r. ⌜ r ≡ namesOf (now (plain .entry)) (now (ctx .entry)) n seen named c ⌝ }
+    ensures { λ r.
+        ⌜ ((b : Box) → NextOf b n (now (plain .entry)) (now (ctx .entry)) seen named true → c ≡ context b n →
+        r ≡ namesOf (now (plain .entry)) (now (ctx .entry)) n seen named c) ⌝ }
 {
-    let d = disputed_in(plain, n, seen);
-    let foes = meeting_rows(plain, n, named);
-    let left = apart_from(ctx, n, seen, foes);
-    (named == c & d) & (c == left)
+    let f = foes_of(plain, named, seen);
+    let left = apart_from(ctx, n, seen, f.foes);
+    ((named & c == named) & !f.unmet) & (c == left)
 }
 
 // Whether answer 16 does not apply to Set n, whose context is c: it is a plain Set, or what it lists is a version of

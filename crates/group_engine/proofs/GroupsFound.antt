@@ -12,7 +12,7 @@ use Rattle.math_lists.specs.NumbersBelow.{keep}
 use Rattle.math_lists.proofs.NumbersBelow.{keep-grow}
 use Rattle.math_lists.proofs.GrownAtEnd.{length-maybe}
 use Rattle.group_step.specs.GroupRows.{mostGroups}
-use Rattle.group_engine.specs.SearchForms.{isGroup, groupsBelow, countTold, Found}
+use Rattle.group_engine.specs.SearchForms.{isGroup, groupsBelow, countTold, FoundSoFar}
 
 -- ---- the numbers that pass, further on
 
@@ -26,15 +26,15 @@ keep-none a (suc d) f h =
 
 -- ---- what has been found
 
-module _ (ms : List ℕ) (n t r : ℕ) (out : List ℕ) (h : Found ms n t r out) where
+module _ (ms : List ℕ) (n t r : ℕ) (out : List ℕ) (h : FoundSoFar ms n t r out) where
   -- no group among the next d numbers
-  pub found-none : (d : ℕ) → ((g : ℕ) → t ≤ g → g < t + d → isGroup ms n g ≡ false) → Found ms n (t + d) r out
+  pub found-none : (d : ℕ) → ((g : ℕ) → t ≤ g → g < t + d → isGroup ms n g ≡ false) → FoundSoFar ms n (t + d) r out
   found-none d none =
       let e = keep-none t d (isGroup ms n) none in
       record { count = rw e (h .count); front = λ l. rw e (h .front l) }
 
   -- too many already
-  pub found-full : (d : ℕ) → mostGroups < r → Found ms n (t + d) r out
+  pub found-full : (d : ℕ) → mostGroups < r → FoundSoFar ms n (t + d) r out
   found-full d l = record {
     count = omega (arith, h .count, keep-grow (isGroup ms n) t (t + d) (omega arith));
     front = λ m. absurd (omega arith);
@@ -51,11 +51,11 @@ module _ (ms : List ℕ) (n t r : ℕ) (out : List ℕ) (h : Found ms n t r out)
         rw more
         (omega (arith, h .count, length-maybe (groupsBelow ms n t) true t))
 
-    pub found-one : length out ≡ mostGroups → r < mostGroups → Found ms n (t + 1) (r + 1) (set out r t)
+    pub found-one : length out ≡ mostGroups → r < mostGroups → FoundSoFar ms n (t + 1) (r + 1) (set out r t)
     found-one len l = record {
       count = count-more;
       front = λ m. rw (add-one r) (take-suc-set out r t (omega arith) ∙ rw (h .front k, more));
     }
 
-    pub found-last : mostGroups ≤ r → Found ms n (t + 1) (r + 1) out
+    pub found-last : mostGroups ≤ r → FoundSoFar ms n (t + 1) (r + 1) out
     found-last l = record { count = count-more; front = λ m. absurd (omega arith) }

@@ -19,7 +19,7 @@ use Rattle.math_maximal.specs.Groups.{bit}
 use Rattle.math_maximal.specs.Step.{compatible}
 use Rattle.math_maximal.proofs.Bits.{bit-none, bit-high, bit-below, bit-or, bit-minus, bit-power, compatible-on}
 use Rattle.group_step.specs.GroupRows.{mostGroups, mostSets}
-use Rattle.group_engine.specs.SearchForms.{Conflicts, conflict, isGroup, lost, Partial, Waiting, Stuck, Found}
+use Rattle.group_engine.specs.SearchForms.{Conflicts, conflict, isGroup, lost, Partial, Waiting, Stuck, FoundSoFar}
 use Rattle.group_engine.proofs.FirstAndLast.{still-member}
 use Rattle.group_engine.proofs.PartlyDecided.{is-group, stuck-none, passed-over, left-out, no-room, taken-in}
 use Rattle.group_engine.proofs.PartlyDecided.{still-out, all-fit}
@@ -27,8 +27,8 @@ use Rattle.group_engine.proofs.GroupsFound.{found-none, found-one, foun
 
 -- ---- none is undecided
 
-module _ {ms : List ℕ} {n t r : ℕ} {out : List ℕ} (p : Partial ms n 0 t 0) (f : Found ms n t r out) where
-  pub none-here : lost ms n t ≡ true → Found ms n (t + 1) r out
+module _ {ms : List ℕ} {n t r : ℕ} {out : List ℕ} (p : Partial ms n 0 t 0) (f : FoundSoFar ms n t r out) where
+  pub none-here : lost ms n t ≡ true → FoundSoFar ms n (t + 1) r out
   unfolding lost
   none-here h =
       let (i, l, e) = some-at n _ h in
@@ -43,26 +43,26 @@ module _ {ms : List ℕ} {n t r : ℕ} {out : List ℕ} (p : Partial ms n 0 t 0)
 
     pub put-last :
         {after : List ℕ} → after ≡ set out r t → length out ≡ mostGroups → r < mostGroups →
-        Found ms n (t + 1) (r + 1) after
+        FoundSoFar ms n (t + 1) (r + 1) after
     put-last e len l = rw e (found-one ms n t r out f group-here (omega arith) len l)
 
     pub one-too-many :
-        {after : List ℕ} → after ≡ out → r ≤ mostGroups → mostGroups ≤ r → Found ms n (t + 1) (r + 1) after
+        {after : List ℕ} → after ≡ out → r ≤ mostGroups → mostGroups ≤ r → FoundSoFar ms n (t + 1) (r + 1) after
     one-too-many e k l = rw e (found-last ms n t r out f group-here k l)
 
 -- ---- none of the last undecided may come in
 
-module _ {ms : List ℕ} {n t may r w : ℕ} {out : List ℕ} (h : may < 2 ^ w) (f : Found ms n (t + 2 ^ w) r out) where
-  pub found-past : (u : ℕ) → w ≤ u → Partial ms n u t may → Found ms n (t + 2 ^ u) r out
-  found-past u l = le-ind (λ (v : ℕ). Partial ms n v t may → Found ms n (t + 2 ^ v) r out) (λ p. f) more u l
+module _ {ms : List ℕ} {n t may r w : ℕ} {out : List ℕ} (h : may < 2 ^ w) (f : FoundSoFar ms n (t + 2 ^ w) r out) where
+  pub found-past : (u : ℕ) → w ≤ u → Partial ms n u t may → FoundSoFar ms n (t + 2 ^ u) r out
+  found-past u l = le-ind (λ (v : ℕ). Partial ms n v t may → FoundSoFar ms n (t + 2 ^ v) r out) (λ p. f) more u l
     where
       more :
-          (v : ℕ) → w ≤ v → (Partial ms n v t may → Found ms n (t + 2 ^ v) r out) → Partial ms n (suc v) t may →
-          Found ms n (t + 2 ^ suc v) r out
+          (v : ℕ) → w ≤ v → (Partial ms n v t may → FoundSoFar ms n (t + 2 ^ v) r out) → Partial ms n (suc v) t may →
+          FoundSoFar ms n (t + 2 ^ suc v) r out
       more v k before p =
           let wide : may < 2 ^ v = omega (arith, h, pow-mono k) in
           let e : t + 2 ^ v + 2 ^ v ≡ t + 2 ^ suc v = omega arith in
-          subst (λ (x : ℕ). Found ms n x r out) e
+          subst (λ (x : ℕ). FoundSoFar ms n x r out) e
           (found-none ms n (t + 2 ^ v) r out (before (passed-over ms n (suc v) t may p v (omega arith) wide)) (2 ^ v)
           (no-room ms n v t may p (bit-high v may wide v (omega arith))))
 
@@ -71,8 +71,8 @@ all-decided {ms} {n} {u} {t} {may} e p =
     passed-over ms n u t 0 (subst (Partial ms n u t) e p) 0 (omega arith) (omega arith)
 
 pub none-may-come :
-    {ms : List ℕ} {n u t may r : ℕ} {out : List ℕ} → may ≡ 0 → Partial ms n u t may → Found ms n (t + 1) r out →
-    Found ms n (t + 2 ^ u) r out
+    {ms : List ℕ} {n u t may r : ℕ} {out : List ℕ} → may ≡ 0 → Partial ms n u t may → FoundSoFar ms n (t + 1) r out →
+    FoundSoFar ms n (t + 2 ^ u) r out
 none-may-come {u = u} e p f = found-past {w = 0} (omega arith) f u (omega arith) p
 
 pub may-inside : {ms : List ℕ} {n u t may k : ℕ} → Partial ms n u t may → bit may k ≡ true → k < n
@@ -105,12 +105,12 @@ module _ {ms : List ℕ} {n u t may lone k b rest : ℕ} (d : Deciding ms n u t 
       passed-over ms n u t may (d .partly) (suc k) (omega arith)
       (subst (λ (x : ℕ). may < 2 ^ x) (add-one k) (d .last-one))
 
-  pub both-halves : {r : ℕ} {out : List ℕ} → Found ms n (t + b + 2 ^ k) r out → Found ms n (t + 2 ^ u) r out
+  pub both-halves : {r : ℕ} {out : List ℕ} → FoundSoFar ms n (t + b + 2 ^ k) r out → FoundSoFar ms n (t + 2 ^ u) r out
   both-halves {r} {out} f =
       let l = under in
       let q : 2 ^ (k + 1) ≡ 2 ^ suc k = ap (λ (x : ℕ). 2 ^ x) (add-one k) in
       let e : t + b + 2 ^ k ≡ t + 2 ^ (k + 1) = omega (arith, d .its-number, q) in
-      found-past (d .last-one) (subst (λ (x : ℕ). Found ms n x r out) e f) u (omega arith) (d .partly)
+      found-past (d .last-one) (subst (λ (x : ℕ). FoundSoFar ms n x r out) e f) u (omega arith) (d .partly)
 
   -- ---- it is left out
 
@@ -154,12 +154,12 @@ module _ {ms : List ℕ} {n u t may lone k b rest : ℕ} (d : Deciding ms n u t 
 
   -- what is found then, in the numbers after it
   module _ {r next : ℕ} {out after : List ℕ} (q : after ≡ out) (e : next ≡ r) where
-    pub out-found : Found ms n (t + 2 ^ k) r out → Found ms n (t + b) next after
+    pub out-found : FoundSoFar ms n (t + 2 ^ k) r out → FoundSoFar ms n (t + b) next after
     out-found f = rw (q, e, d .its-number) f
 
     -- one of those asked about is stuck: nothing more
     pub out-stuck :
-        (x : ℕ) → Stuck ms (bitOr (bitAnd lone x) b) rest → Found ms n t r out → Found ms n (t + b) next after
+        (x : ℕ) → Stuck ms (bitOr (bitAnd lone x) b) rest → FoundSoFar ms n t r out → FoundSoFar ms n (t + b) next after
     out-stuck x (i, h, c) f =
         let w = waits-out in
         let m = asked-out x i h in
@@ -202,7 +202,7 @@ module _ {ms : List ℕ} {n u t may lone k b rest : ℕ} (d : Deciding ms n u t 
 
     -- one of them is stuck: nothing more is found
     pub in-stuck :
-        Stuck ms left fit → {r : ℕ} {out : List ℕ} → Found ms n (t + b) r out → Found ms n (t + 2 ^ u) r out
+        Stuck ms left fit → {r : ℕ} {out : List ℕ} → FoundSoFar ms n (t + b) r out → FoundSoFar ms n (t + 2 ^ u) r out
     in-stuck (i, h, c) {r} {out} f =
         let w = waits-in in
         both-halves

@@ -11,7 +11,7 @@ use Rattle.math_lists.proofs.Booleans.{clash}
 use Rattle.math_maximal.specs.Groups.{groups}
 use Rattle.math_maximal.proofs.Bits.{bit-none}
 use Rattle.group_step.specs.GroupRows.{mostGroups, settled}
-use Rattle.group_engine.specs.SearchForms.{byMasks, groupsBelow, countTold, Partial, Waiting, Found}
+use Rattle.group_engine.specs.SearchForms.{byMasks, groupsBelow, countTold, Partial, Waiting, FoundSoFar}
 use Rattle.group_engine.proofs.PartlyDecided.{at-start}
 
 module _ (ms : List ℕ) (n : ℕ) where
@@ -26,7 +26,7 @@ module _ (ms : List ℕ) (n : ℕ) where
     fits = λ i h. clash h (bit-none i);
   }
 
-  pub none-found : (out : List ℕ) → Found ms n 0 0 out
+  pub none-found : (out : List ℕ) → FoundSoFar ms n 0 0 out
   unfolding keep
   none-found out = record { count = refl; front = λ l. refl }
 
@@ -34,7 +34,7 @@ module _ (ms : List ℕ) (n : ℕ) where
   unfolding groups
   all-found = let e : 0 + 2 ^ n ≡ 2 ^ n = omega arith in rw e
 
-  module _ (r : ℕ) (out : List ℕ) (f : Found ms n (0 + 2 ^ n) r out) where
+  module _ (r : ℕ) (out : List ℕ) (f : FoundSoFar ms n (0 + 2 ^ n) r out) where
     pub told : r ≡ countTold (byMasks ms n)
     told = f .count ∙ ap countTold all-found
 

@@ -62,6 +62,6 @@ abbrev pub Stuck : List ℕ → ℕ → ℕ → Type 0
 Stuck ms lone may = (i : ℕ) × (bit lone i ≡ true) × (compatible (getD ms i 0) may ≡ true)
 
 -- the groups below x have been found: r is how many, and they stand at the front of out unless they are too many
-pub record Found (ms : List ℕ) (n x r : ℕ) (out : List ℕ) : Type 0 where
+pub record FoundSoFar (ms : List ℕ) (n x r : ℕ) (out : List ℕ) : Type 0 where
   pub count : r ≡ countTold (groupsBelow ms n x)
   pub front : r ≤ mostGroups → take r out ≡ groupsBelow ms n x

@@ -15,7 +15,7 @@ ghost use Rattle.group_engine.specs.SearchForms.{
   Partial,
   Waiting,
   Stuck,
-  Found,
+  FoundSoFar,
   countTold,
 };
 
@@ -67,8 +67,8 @@ fn put_group(conflicts: &[u64], n: usize, taken: u64, found: usize, out: &mut [u
         × (length (now out) ≡ mostGroups)
         × (found ≤ mostGroups)
         × Partial (now conflicts) n 0 taken 0
-        × Found (now conflicts) n taken found (now out) ⌝ }
-    ensures { λ r. ⌜ Found (now (conflicts .entry)) n (taken + 1) r (now (out .exit)) ⌝ }
+        × FoundSoFar (now conflicts) n taken found (now out) ⌝ }
+    ensures { λ r. ⌜ FoundSoFar (now (conflicts .entry)) n (taken + 1) r (now (out .exit)) ⌝ }
 {
     if is_lost(conflicts, n, taken) {
         return found;
@@ -101,8 +101,8 @@ fn decide_rest(
         × Conflicts (now conflicts) n
         × Partial (now conflicts) n undecided taken may
         × Waiting (now conflicts) n undecided taken lone
-        × Found (now conflicts) n taken found (now out) ⌝ }
-    ensures { λ r. ⌜ Found (now (conflicts .entry)) n (taken + 2 ^ undecided) r (now (out .exit)) ⌝ }
+        × FoundSoFar (now conflicts) n taken found (now out) ⌝ }
+    ensures { λ r. ⌜ FoundSoFar (now (conflicts .entry)) n (taken + 2 ^ undecided) r (now (out .exit)) ⌝ }
 {
     if GROUPS < found {
         return found;

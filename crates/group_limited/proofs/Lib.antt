@@ -1,5 +1,6 @@
 pub mod OneMoreTaken
 pub mod MarkedRows
+pub mod NamesOfSets
 pub mod MarksOfSets
 pub mod RowsOneMore
 pub mod ToldByRows

@@ -1,37 +1,18 @@
 -- The rows of the Sets before Set n, with it marked in those of the members of `row` that have been gone through; the
 -- members of `left` are still to come. Assumes nothing.
 use mathlib.Core.Path.{_≡_, refl, sym, _∙_}
-use mathlib.Core.Bool.{Bool, true, false, _&&_, and-false}
+use mathlib.Core.Bool.{true, false}
 use mathlib.Core.List.{List}
-use Prim.Native.Nat.{ℕ, _-_, _^_, _≤_, _<_}
-use native.Mathlib.Omega.{arith}
+use Prim.Native.Nat.{ℕ, _^_, _<_}
 use native.Mathlib.Decide.{ℕ-discrete}
-use lib.Bits.{bitAnd, bitOr}
-use lib.Count.{trailingZeros}
+use lib.Bits.{bitOr}
 use lib.ListN.{length, getD, set}
 use lib.Seq.{getD-set-same, getD-set-other}
-use borrow.Author.Tests.{ne-eqb}
-use Rattle.math_lists.proofs.Booleans.{clash, both, and-on, eqb-self}
+use Rattle.math_lists.proofs.Booleans.{clash}
 use Rattle.math_maximal.specs.Groups.{bit}
-use Rattle.math_maximal.proofs.Bits.{bit-none, bit-below, bit-and, bit-minus, bit-power}
-use Rattle.math_maximal.proofs.FirstMember.{first-member}
+use Rattle.math_maximal.proofs.Bits.{bit-none}
+use Rattle.math_maximal.proofs.OneMemberLess.{fewer, still-left, own-gone, others-left}
 use Rattle.group_limited.specs.LimitedForms.{withMark}
-
--- the first of those that are left
-pub first-left :
-    {left n row : ℕ} → (left ≡ 0 → ⊥) → left ≤ row → row < 2 ^ n → row < 2 ^ 64 →
-    (bit left (trailingZeros 64 left) ≡ true) × (trailingZeros 64 left < n)
-first-left {left} {n} some part small fits =
-    let b = first-member 64 left (omega arith) (omega arith) in
-    (b, bit-below n left (omega arith) (trailingZeros 64 left) b)
-
--- there are fewer without it
-pub less-left : (left j : ℕ) → (left ≡ 0 → ⊥) → bit left j ≡ true → left - bitAnd left (2 ^ j) < left
-less-left left j some b =
-    let common : bitAnd left (2 ^ j) ≡ 0 → ⊥ = λ e.
-    clash (bit-and left (2 ^ j) j ∙ and-on (bit left j) (bit (2 ^ j) j) b (bit-power j j ∙ eqb-self j))
-    (rw e (bit-none j)) in
-    omega arith
 
 -- of a Set that is still to come, the number is as it was
 pub record MarkedBut (left n row : ℕ) (before now : List ℕ) : Type 0 where
@@ -42,32 +23,16 @@ pub record MarkedBut (left n row : ℕ) (before now : List ℕ) : Type 0 where
 -- j is gone through
 module _ (left n row j x : ℕ) (before now : List ℕ) (l : j < length now) (m : MarkedBut left n row before now)
     (h : bit left j ≡ true) (e : x ≡ bitOr (getD now j 0) (2 ^ n)) where
-  abbrev fewer : ℕ
-  fewer = left - bitAnd left (2 ^ j)
-
-  still : (i : ℕ) → bit fewer i ≡ true → bit left i ≡ true
-  still i b = both (bit left i) _ (sym (bit-minus left (2 ^ j) i) ∙ b) .0
-
-  gone : bit fewer j ≡ false
-  gone = bit-minus left (2 ^ j) j ∙ rw (bit-power j j, eqb-self j) (and-false (bit left j))
-
-  other : (i : ℕ) → (i ≡ j → ⊥) → bit fewer i ≡ bit left i
-  other i d = bit-minus left (2 ^ j) i ∙ rw (bit-power j i, ne-eqb i j d) (and-same (bit left i))
-    where
-      and-same : (b : Bool) → (b && true) ≡ b
-      and-same true = refl
-      and-same false = refl
-
-  pub marked-one-more : MarkedBut fewer n row before (set now j x)
+  pub marked-one-more : MarkedBut (fewer left j) n row before (set now j x)
   marked-one-more = record {
-    part = λ i b. m .part i (still i b);
+    part = λ i b. m .part i (still-left left j i b);
     marked = λ i b. elim (ℕ-discrete i j) [
       | yes q ↦ rw (q, getD-set-same now j x 0 l, e, m .part j h, m .others j h)
-      | no d ↦ getD-set-other now j i x 0 d ∙ m .marked i (sym (other i d) ∙ b)
+      | no d ↦ getD-set-other now j i x 0 d ∙ m .marked i (sym (others-left left j i d) ∙ b)
     ];
     others = λ i b. elim (ℕ-discrete i j) [
-      | yes q ↦ clash (rw q at b) gone
-      | no d ↦ getD-set-other now j i x 0 d ∙ m .others i (sym (other i d) ∙ b)
+      | yes q ↦ clash (rw q at b) (own-gone left j)
+      | no d ↦ getD-set-other now j i x 0 d ∙ m .others i (sym (others-left left j i d) ∙ b)
     ];
   }
 

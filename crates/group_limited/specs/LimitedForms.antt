@@ -4,11 +4,11 @@
 use mathlib.Core.Path.{_≡_}
 use mathlib.Core.Bool.{Bool, true, false, not, cond}
 use mathlib.Core.List.{List, [], _∷_, _++_, map}
-use Prim.Native.Nat.{ℕ, suc, _^_, _<_}
+use Prim.Native.Nat.{ℕ, suc, _+_, _/_, _%_, _^_, _<_}
 use lib.Bits.{bitOr}
 use lib.Dec.{eqb}
 use lib.ListN.{length, getD, take}
-use Rattle.math_lists.specs.NumbersBelow.{all, mask}
+use Rattle.math_lists.specs.NumbersBelow.{all, sum, mask}
 use Rattle.math_lists.specs.SortedLists.{any}
 use Rattle.math_maximal.specs.Groups.{bit}
 use Rattle.math_maximal.specs.Step.{compatible}
@@ -16,8 +16,9 @@ use Rattle.math_contexts.specs.Box.{Lawful}
 use Rattle.math_contexts.specs.Contexts.{contexts, context}
 use Rattle.math_contexts.specs.Versions.{AllNamed}
 use Rattle.edit_record.specs.declared.Edit.{Edit}
+use Rattle.edit_record.specs.Layout.{twoBytes}
 use Rattle.edit_record.specs.RecordBytes.{noEdit}
-use Rattle.edit_record.specs.Answer1.{isLimited}
+use Rattle.edit_record.specs.Answer1.{isLimited, nameOf}
 use Rattle.edit_causal.specs.Conflict.{lists, listedBy, boxOn, conflictsWith}
 use Rattle.edit_causal.specs.ConflictForms.{Proper, plainMarks, saw}
 use Rattle.edit_history.specs.EditsHeld.{recordAt}
@@ -52,9 +53,26 @@ pub record SightOf (ms : List Edit) (e : Edit) (s : Sight) : Type 0 where
   pub limited : s .limited ≡ isLimited e
   pub strange : isLimited e ≡ true → s .strange ≡ any (isStrange ms e) (listedBy e)
 
+-- x is the name of e, and tells its site and its sequence number
+pub record NameOf (x : ℕ) (e : Edit) : Type 0 where
+  pub whole : x ≡ nameOf e
+  pub site : x / twoBytes % 256 ≡ e .site .0
+  pub seq : x % twoBytes ≡ e .seq .0
+
+-- ns has the names of the Sets in the first k of the places ps
+abbrev pub NamesIn : List ℕ → List ℕ → ℕ → List ℕ → Type 0
+NamesIn rs ps k ns = (i : ℕ) → i < k → NameOf (getD ns i 0) (recordAt rs (getD ps i 0))
+
 -- where ns has the names of the first k Sets: those whose name is x, and that it is none of the members of `seen`
 abbrev pub marksOfName : List ℕ → ℕ → ℕ → ℕ
 marksOfName ns k x = mask k (λ i. eqb (getD ns i 0) x)
+
+-- the sum of their numbers, and of so much for each of them
+abbrev pub found : ℕ
+found = 65536
+
+unfoldable pub sumOfName : List ℕ → ℕ → ℕ → ℕ
+sumOfName ns k x = sum k (λ i. cond (eqb (getD ns i 0) x) (found + i) 0)
 
 abbrev pub isUnseen : List ℕ → ℕ → ℕ → ℕ → Bool
 isUnseen ns k seen x = compatible seen (marksOfName ns k x)

@@ -1,35 +1,37 @@
 // One Set against those before it, by the places of their records: which of them conflict with it by document 01's
 // rule, which its author had seen and which it lists, and whether it lists a name that is that of none which he had
-// seen. The records are read where they stand; an edit is decoded only for its list, and where a record is not there
-// whole.
+// seen. The names of those before it are put down once for all of them, and tell which were seen; only a Set that was
+// not seen is held against it. The records are read where they stand; an edit is decoded only where a record is not
+// there whole.
 use super::Listed;
 use super::Marks;
-use edit_causal::is_before;
 use edit_causal::is_conflict;
 use edit_causal::is_conflict_in;
-use edit_causal::is_same;
 use edit_history::marked_if;
+use edit_record::AT_COUNT;
 use edit_record::AT_KIND;
+use edit_record::AT_MEMBERS;
 use edit_record::AT_SEQ;
 use edit_record::AT_SITE;
 use edit_record::LIMITED;
+use edit_record::MEMBER;
 use edit_record::MEMBERS;
 use edit_record::PLACE;
 use edit_record::RECORD;
-use edit_record::Seq;
-use edit_record::Site;
-use group_step::SETS;
+use edit_record::SEQ_NUMBERS;
+use edit_record::SITE_NUMBERS;
+use edit_record::SITES;
 ghost use mathlib.Core.Path.{_≡_};
 ghost use mathlib.Core.Bool.{true};
-ghost use mathlib.Core.List.{List, map};
+ghost use mathlib.Core.List.{List};
 ghost use Prim.Native.Nat.{ℕ, _≤_, _<_};
-ghost use lib.Dec.{eqb};
 ghost use lib.ListN.{length, take, getD};
 ghost use Rattle.math_lists.specs.NumbersBelow.{mask};
 ghost use Rattle.math_lists.specs.SortedLists.{any, elem};
-ghost use Rattle.edit_record.specs.Layout.{mostMembers, recordLength};
+ghost use Rattle.edit_record.specs.declared.Edit.{Edit};
+ghost use Rattle.edit_record.specs.Layout.{mostMembers};
 ghost use Rattle.edit_record.specs.RecordBytes.{decodeOf};
-ghost use Rattle.edit_record.specs.Answer1.{isLimited, nameOf, nameIn};
+ghost use Rattle.edit_record.specs.Answer1.{isLimited};
 ghost use Rattle.edit_causal.specs.Causal.{comesBefore};
 ghost use Rattle.edit_causal.specs.Conflict.{doConflict, listedBy};
 ghost use Rattle.edit_history.specs.EditsHeld.{recordAt};
@@ -40,34 +42,64 @@ ghost use Rattle.group_limited.specs.LimitedForms.{
   seenMarks,
   namedMarks,
   marksOn,
+  NameOf,
+  NamesIn,
+  sumOfName,
   marksOfName,
   isUnseen,
 };
 
-// Whether the edit of a comes before that of b; both records are there whole.
-fn is_before_in(a: &[u8], b: &[u8]) -> bool
-    requires { ⌜ (recordLength ≤ length (now a)) × (recordLength ≤ length (now b)) ⌝ }
-    ensures { λ r. ⌜ r ≡ comesBefore (decodeOf (now (a .entry))) (decodeOf (now (b .entry))) ⌝ }
+// The vector of the edit of rec.
+fn vector_in(rec: &[u8]) -> [u16; SITES]
+    ensures { λ r. ⌜ r ≡ decodeOf (now (rec .entry)) .vector ⌝ }
 {
-    let s = a[AT_SITE];
-    let t = b[AT_SITE];
-    let q = edit_record::pair_at(a, AT_SEQ);
-    let p = edit_record::pair_at(b, AT_SEQ);
-    let seen = edit_record::own_entry(b, s);
-    !is_same(Site(s), Seq(q), Site(t), Seq(p)) & (q <= seen)
+    if RECORD <= rec.len() {
+        return edit_record::vector_of(rec);
+    }
+    let e = edit_record::decode(rec);
+    e.vector
 }
 
-// Whether the edit in place p comes before that of rec.
-fn is_before_with(recs: &[u8], p: u16, rec: &[u8]) -> bool
-    ensures { λ r. ⌜ r ≡ comesBefore (recordAt (now (recs .entry)) p) (decodeOf (now (rec .entry))) ⌝ }
+// The name of the edit of rec.
+fn name_of(rec: &[u8]) -> u32
+    ensures { λ r. ⌜ NameOf r (decodeOf (now (rec .entry))) ⌝ }
+{
+    let site = edit_record::byte_at(rec, AT_SITE);
+    let seq = edit_record::two_at(rec, AT_SEQ);
+    site as u32 * SEQ_NUMBERS + seq as u32
+}
+
+// The name of the edit in place p, read where it stands.
+fn name_at(recs: &[u8], p: u16) -> u32
+    ensures { λ r. ⌜ NameOf r (recordAt (now (recs .entry)) p) ⌝ }
 {
     let at = p as usize * PLACE;
-    if (at + RECORD <= recs.len()) & (RECORD <= rec.len()) {
-        return is_before_in(&recs[at..], rec);
+    let site = edit_record::byte_at(recs, at + AT_SITE);
+    let seq = edit_record::two_at(recs, at + AT_SEQ);
+    site as u32 * SEQ_NUMBERS + seq as u32
+}
+
+// Puts down the names of the edits in the k first places.
+pub fn put_names(names: &mut [u32], recs: &[u8], places: &[u16], k: usize)
+    requires { ⌜ (k ≤ length (now names)) × (k ≤ length (now places)) ⌝ }
+    ensures { λ r. ⌜ NamesIn (now (recs .entry)) (now (places .entry)) k (now (names .exit)) ⌝ }
+{
+    let mut i: usize = 0;
+    while i < k {
+        names[i] = name_at(recs, places[i]);
+        i += 1;
     }
-    let a = edit_history::decode_at(recs, p as usize);
-    let e = edit_record::decode(rec);
-    is_before(a, e)
+}
+
+// Whether the edit with the name x comes before the one with the name y and the vector v.
+fn is_seen(x: u32, y: u32, v: &[u16]) -> bool
+    ensures { λ r.
+        ⌜ ((a b : Edit) → NameOf x a → NameOf y b → b .vector ≡ now (v .entry) → r ≡ comesBefore a b) ⌝ }
+{
+    let site = x / SEQ_NUMBERS % SITE_NUMBERS;
+    let seq = (x % SEQ_NUMBERS) as u16;
+    let seen = edit_record::entry_at(v, site as usize);
+    (x != y) & (seq <= seen)
 }
 
 // Whether the edit in place p conflicts with that of rec by document 01's rule.
@@ -83,50 +115,62 @@ fn is_conflict_with(recs: &[u8], p: u16, rec: &[u8]) -> bool
     is_conflict(a, e)
 }
 
-// The marks of the Sets in the k first places, which stand before that of rec.
-pub fn marks_of(recs: &[u8], places: &[u16], k: usize, rec: &[u8]) -> Marks
-    requires { ⌜ (k ≤ mostSets) × (k ≤ length (now places)) ⌝ }
+// The same, where it is known whether the edit in place p comes before that of rec: then they do not conflict.
+fn is_conflict_unless(seen: bool, recs: &[u8], p: u16, rec: &[u8]) -> bool
+    ensures { λ r.
+        ⌜ (seen ≡ comesBefore (recordAt (now (recs .entry)) p) (decodeOf (now (rec .entry))) →
+        r ≡ doConflict (recordAt (now (recs .entry)) p) (decodeOf (now (rec .entry)))) ⌝ }
+{
+    if seen {
+        return false;
+    }
+    is_conflict_with(recs, p, rec)
+}
+
+// The marks of the Sets in the k first places, which stand before that of rec; these are their names.
+pub fn marks_of(recs: &[u8], places: &[u16], names: &[u32], k: usize, rec: &[u8]) -> Marks
+    requires { ⌜ (k ≤ mostSets)
+        × (k ≤ length (now places))
+        × (k ≤ length (now names))
+        × NamesIn (now recs) (now places) k (now names) ⌝ }
     ensures { λ r. ⌜ r
         ≡ marksOn (decodeOf (now (rec .entry))) (setsIn (now (recs .entry)) (now (places .entry)) k) ⌝ }
 {
+    let v = vector_in(rec);
+    let own = name_of(rec);
     let mut plain: u64 = 0;
     let mut seen: u64 = 0;
     let mut i: usize = 0;
     while i < k {
-        let p = places[i];
-        plain = marked_if(is_conflict_with(recs, p, rec), plain, i);
-        seen = marked_if(is_before_with(recs, p, rec), seen, i);
+        let b = is_seen(names[i], own, &v);
+        plain = marked_if(is_conflict_unless(b, recs, places[i], rec), plain, i);
+        seen = marked_if(b, seen, i);
         i += 1;
     }
     Marks { plain, seen }
 }
 
-// The name of the edit in place p, read where it stands.
-fn name_at(recs: &[u8], p: u16) -> u32
-    ensures { λ r. ⌜ r ≡ nameOf (recordAt (now (recs .entry)) p) ⌝ }
-{
-    let at = p as usize * PLACE;
-    let site = edit_record::byte_at(recs, at + AT_SITE);
-    let seq = edit_record::two_at(recs, at + AT_SEQ);
-    site as u32 * 65536 + seq as u32
-}
+// What the place of a name that is found counts beside its number: more than all numbers of places in one.
+const FOUND: u32 = 65536;
 
-// Puts down the names of the edits in the k first places.
-fn put_names(names: &mut [u32], recs: &[u8], places: &[u16], k: usize)
-    requires { ⌜ (k ≤ length (now names)) × (k ≤ length (now places)) ⌝ }
-    ensures { λ r.
-        ⌜ ((i : ℕ) → i < k → getD (now (names .exit)) i 0
-        ≡ nameOf (recordAt (now (recs .entry)) (getD (now (places .entry)) i 0))) ⌝ }
+// The places of those of the k first names that are x, as one number.
+fn sum_of_name(names: &[u32], k: usize, x: u32) -> u32
+    requires { ⌜ (k ≤ mostSets) × (k ≤ length (now names)) ⌝ }
+    ensures { λ r. ⌜ r ≡ sumOfName (now (names .entry)) k x ⌝ }
 {
+    let mut t: u32 = 0;
     let mut i: usize = 0;
     while i < k {
-        names[i] = name_at(recs, places[i]);
+        if names[i] == x {
+            t = t + (FOUND + i as u32);
+        }
         i += 1;
     }
+    t
 }
 
 // Those of the k first names that are x, bit i for the i-th.
-fn marks_of_name(names: &[u32], k: usize, x: u32) -> u64
+fn marks_one_by_one(names: &[u32], k: usize, x: u32) -> u64
     requires { ⌜ (k ≤ mostSets) × (k ≤ length (now names)) ⌝ }
     ensures { λ r. ⌜ r ≡ marksOfName (now (names .entry)) k x ⌝ }
 {
@@ -137,6 +181,21 @@ fn marks_of_name(names: &[u32], k: usize, x: u32) -> u64
         i += 1;
     }
     m
+}
+
+// The same: the sum of their places tells which they are where they are one at most, and is worked out faster.
+fn marks_of_name(names: &[u32], k: usize, x: u32) -> u64
+    requires { ⌜ (k ≤ mostSets) × (k ≤ length (now names)) ⌝ }
+    ensures { λ r. ⌜ r ≡ marksOfName (now (names .entry)) k x ⌝ }
+{
+    let t = sum_of_name(names, k, x);
+    if t == 0 {
+        return 0;
+    }
+    if t < 2 * FOUND {
+        return group_step::only((t - FOUND) as usize);
+    }
+    marks_one_by_one(names, k, x)
 }
 
 // How many of the members are listed, where the count says so many.
@@ -151,19 +210,32 @@ fn listed(count: u32) -> usize
     }
 }
 
-// Of the k first names those that are listed, and whether one that is listed is that of none of the members of `seen`.
-fn listed_among(names: &[u32], k: usize, seen: u64, count: u32, members: [u32; MEMBERS]) -> Listed
-    requires { ⌜ (k ≤ mostSets) × (k ≤ length (now names)) ⌝ }
-    ensures { λ r.
-        ⌜ (r .named ≡ mask k (λ i. elem (getD (now (names .entry)) i 0) (map nameIn (take count members))))
-        × (r .strange ≡ any (isUnseen (now (names .entry)) k seen) (map nameIn (take count members))) ⌝ }
+// Member i of a limited Set, read where it stands: there are as many as the first two bytes of the count say.
+fn member_of(rec: &[u8], i: usize) -> u32
+    requires { ⌜ (isLimited (decodeOf (now rec)) ≡ true) × (i < mostMembers) ⌝ }
+    ensures { λ r. ⌜ r ≡ getD (decodeOf (now (rec .entry)) .members) i 0 ⌝ }
 {
-    let n = listed(count);
+    if edit_record::two_at(rec, AT_COUNT) as usize <= i {
+        return 0;
+    }
+    edit_record::four_at(rec, AT_MEMBERS + MEMBER * i)
+}
+
+// Of the k first names those that a limited Set lists, and whether it lists one that is that of none of the members of
+// `seen`.
+fn listed_among(names: &[u32], k: usize, seen: u64, rec: &[u8]) -> Listed
+    requires { ⌜ (k ≤ mostSets) × (k ≤ length (now names)) × (isLimited (decodeOf (now rec)) ≡ true) ⌝ }
+    ensures { λ r.
+        ⌜ (r .named ≡ mask k (λ i. elem (getD (now (names .entry)) i 0) (listedBy (decodeOf (now (rec .entry))))))
+        × (r .strange
+        ≡ any (isUnseen (now (names .entry)) k seen) (listedBy (decodeOf (now (rec .entry))))) ⌝ }
+{
+    let n = listed(edit_record::four_at(rec, AT_COUNT));
     let mut named: u64 = 0;
     let mut strange = false;
     let mut i: usize = 0;
     while i < n {
-        let m = marks_of_name(names, k, edit_record::name_in(members[i]));
+        let m = marks_of_name(names, k, edit_record::name_in(member_of(rec, i)));
         named = named | m;
         strange = strange | (m & seen == 0);
         i += 1;
@@ -171,10 +243,20 @@ fn listed_among(names: &[u32], k: usize, seen: u64, count: u32, members: [u32; M
     Listed { named, strange }
 }
 
-// Which of the Sets in the k first places that of rec lists, where its author had seen the members of `seen`. A Set
-// that is not limited lists none.
-pub fn list_of(recs: &[u8], places: &[u16], k: usize, seen: u64, rec: &[u8]) -> Listed
-    requires { ⌜ (k ≤ mostSets) × (k ≤ length (now places)) ⌝ }
+// Which of the Sets in the k first places that of rec lists, where these are their names and its author had seen the
+// members of `seen`. A Set that is not limited lists none.
+pub fn list_of(
+    recs: &[u8],
+    places: &[u16],
+    names: &[u32],
+    k: usize,
+    seen: u64,
+    rec: &[u8],
+) -> Listed
+    requires { ⌜ (k ≤ mostSets)
+        × (k ≤ length (now places))
+        × (k ≤ length (now names))
+        × NamesIn (now recs) (now places) k (now names) ⌝ }
     ensures { λ r.
         ⌜ (seen ≡ seenMarks (decodeOf (now (rec .entry))) (setsIn (now (recs .entry)) (now (places .entry)) k) →
         (r .named ≡ namedMarks (decodeOf (now (rec .entry))) (setsIn (now (recs .entry)) (now (places .entry)) k))
@@ -188,10 +270,5 @@ pub fn list_of(recs: &[u8], places: &[u16], k: usize, seen: u64, rec: &[u8]) -> 
             strange: false,
         };
     }
-    let e = edit_record::decode(rec);
-    let members = e.members;
-    // what work space holds at first does not matter; zeros would be set by memset (docs/DECISIONS.md, 24)
-    let mut names = [1u32; SETS];
-    put_names(&mut names, recs, places, k);
-    listed_among(&names, k, seen, e.count, members)
+    listed_among(names, k, seen, rec)
 }

@@ -2,10 +2,11 @@
 // 06): whether each limited one names a version, and which of the Sets held an arriving one conflicts with. The Sets
 // are taken one after another, each by the rows that tell of those before it: bit j of `plain[i]` says that Sets i and
 // j conflict by document 01's rule, and `ctx[i]` is the context of Set i.
-mod earlier;
+pub mod earlier;
 
 use earlier::list_of;
 use earlier::marks_of;
+use earlier::put_names;
 use edit_record::AT_KIND;
 use edit_record::LIMITED;
 use edit_record::PLACE;
@@ -28,6 +29,7 @@ ghost use Rattle.edit_history.specs.Answer16.{namelessAmong};
 ghost use Rattle.group_step.specs.GroupRows.{mostSets};
 ghost use Rattle.group_limited.specs.LimitedForms.{
   setsIn,
+  NamesIn,
   SightOf,
   withMark,
   RowsTell,
@@ -87,14 +89,17 @@ pub fn is_any_limited(recs: &[u8], places: &[u16], k: usize) -> bool
     found
 }
 
-// What is asked of the Sets in the k first places for that of rec, which comes after them.
-fn sight_of(recs: &[u8], places: &[u16], k: usize, rec: &[u8]) -> Sight
-    requires { ⌜ (k ≤ mostSets) × (k ≤ length (now places)) ⌝ }
+// What is asked of the Sets in the k first places, whose names these are, for that of rec, which comes after them.
+fn sight_of(recs: &[u8], places: &[u16], names: &[u32], k: usize, rec: &[u8]) -> Sight
+    requires { ⌜ (k ≤ mostSets)
+        × (k ≤ length (now places))
+        × (k ≤ length (now names))
+        × NamesIn (now recs) (now places) k (now names) ⌝ }
     ensures { λ r.
         ⌜ SightOf (setsIn (now (recs .entry)) (now (places .entry)) k) (decodeOf (now (rec .entry))) r ⌝ }
 {
-    let m = marks_of(recs, places, k, rec);
-    let l = list_of(recs, places, k, m.seen, rec);
+    let m = marks_of(recs, places, names, k, rec);
+    let l = list_of(recs, places, names, k, m.seen, rec);
     Sight {
         plain: m.plain,
         seen: m.seen,
@@ -105,16 +110,19 @@ fn sight_of(recs: &[u8], places: &[u16], k: usize, rec: &[u8]) -> Sight
 }
 
 // The same for the Set in place p.
-fn sight_at(recs: &[u8], places: &[u16], k: usize, p: u16) -> Sight
-    requires { ⌜ (k ≤ mostSets) × (k ≤ length (now places)) ⌝ }
+fn sight_at(recs: &[u8], places: &[u16], names: &[u32], k: usize, p: u16) -> Sight
+    requires { ⌜ (k ≤ mostSets)
+        × (k ≤ length (now places))
+        × (k ≤ length (now names))
+        × NamesIn (now recs) (now places) k (now names) ⌝ }
     ensures { λ r.
         ⌜ SightOf (setsIn (now (recs .entry)) (now (places .entry)) k) (recordAt (now (recs .entry)) p) r ⌝ }
 {
     let at = p as usize * PLACE;
     if at <= recs.len() {
-        sight_of(recs, places, k, &recs[at..])
+        sight_of(recs, places, names, k, &recs[at..])
     } else {
-        sight_of(recs, places, k, &recs[..0])
+        sight_of(recs, places, names, k, &recs[..0])
     }
 }
 
@@ -159,17 +167,27 @@ fn told_by(plain: &[u64], ctx: &[u64], n: usize, s: Sight) -> Told
     }
 }
 
-// What is told of the Set in place p, which comes after those in the n first places, by their rows.
-pub fn told_at(recs: &[u8], places: &[u16], n: usize, plain: &[u64], ctx: &[u64], p: u16) -> Told
+// What is told of the Set in place p, which comes after those in the n first places, by their names and their rows.
+pub fn told_at(
+    recs: &[u8],
+    places: &[u16],
+    names: &[u32],
+    n: usize,
+    plain: &[u64],
+    ctx: &[u64],
+    p: u16,
+) -> Told
     requires { ⌜ (n ≤ mostSets)
         × (n ≤ length (now places))
+        × (n ≤ length (now names))
         × (n ≤ length (now plain))
-        × (n ≤ length (now ctx)) ⌝ }
+        × (n ≤ length (now ctx))
+        × NamesIn (now recs) (now places) n (now names) ⌝ }
     ensures { λ r.
         ⌜ (RowsTell (setsIn (now (recs .entry)) (now (places .entry)) n) (now (plain .entry)) (now (ctx .entry)) →
         ToldOf (setsIn (now (recs .entry)) (now (places .entry)) n) (recordAt (now (recs .entry)) p) r) ⌝ }
 {
-    let s = sight_at(recs, places, n, p);
+    let s = sight_at(recs, places, names, n, p);
     told_by(plain, ctx, n, s)
 }
 
@@ -212,18 +230,27 @@ pub fn put_told(plain: &mut [u64], ctx: &mut [u64], n: usize, row: u64, own: u64
     ctx[n] = own;
 }
 
-// Puts down the rows of the Sets in the k first places, each by those before it.
-pub fn put_rows(plain: &mut [u64], ctx: &mut [u64], recs: &[u8], places: &[u16], k: usize)
+// Puts down the rows of the Sets in the k first places, whose names these are, each by those before it.
+pub fn put_rows(
+    plain: &mut [u64],
+    ctx: &mut [u64],
+    recs: &[u8],
+    places: &[u16],
+    names: &[u32],
+    k: usize,
+)
     requires { ⌜ (k ≤ mostSets)
         × (k ≤ length (now places))
+        × (k ≤ length (now names))
         × (k ≤ length (now plain))
-        × (k ≤ length (now ctx)) ⌝ }
+        × (k ≤ length (now ctx))
+        × NamesIn (now recs) (now places) k (now names) ⌝ }
     ensures { λ r.
         ⌜ RowsTell (setsIn (now (recs .entry)) (now (places .entry)) k) (now (plain .exit)) (now (ctx .exit)) ⌝ }
 {
     let mut i: usize = 0;
     while i < k {
-        let s = sight_at(recs, places, i, places[i]);
+        let s = sight_at(recs, places, names, i, places[i]);
         let own = context_by(plain, ctx, i, s);
         put_told(plain, ctx, i, s.plain, own);
         i += 1;
@@ -239,8 +266,10 @@ pub fn judge(recs: &[u8], places: &[u16], k: usize, rec: &[u8]) -> Judged
     // what work space holds at first does not matter; zeros would be set by memset (docs/DECISIONS.md, 24)
     let mut plain = [1u64; SETS];
     let mut ctx = [1u64; SETS];
-    put_rows(&mut plain, &mut ctx, recs, places, k);
-    let s = sight_of(recs, places, k, rec);
+    let mut names = [1u32; SETS];
+    put_names(&mut names, recs, places, k);
+    put_rows(&mut plain, &mut ctx, recs, places, &names, k);
+    let s = sight_of(recs, places, &names, k, rec);
     let t = told_by(&plain, &ctx, k, s);
     Judged {
         nameless: t.nameless,
@@ -249,18 +278,27 @@ pub fn judge(recs: &[u8], places: &[u16], k: usize, rec: &[u8]) -> Judged
 }
 
 // Whether 16 is given to none of the Sets in the k first places, each after those before it, whose rows are put down.
-fn are_named_with(plain: &mut [u64], ctx: &mut [u64], recs: &[u8], places: &[u16], k: usize) -> bool
+fn are_named_with(
+    plain: &mut [u64],
+    ctx: &mut [u64],
+    recs: &[u8],
+    places: &[u16],
+    names: &[u32],
+    k: usize,
+) -> bool
     requires { ⌜ (k ≤ mostSets)
         × (k ≤ length (now places))
+        × (k ≤ length (now names))
         × (k ≤ length (now plain))
-        × (k ≤ length (now ctx)) ⌝ }
+        × (k ≤ length (now ctx))
+        × NamesIn (now recs) (now places) k (now names) ⌝ }
     ensures { λ r.
         ⌜ (Lawful (boxOn (setsIn (now (recs .entry)) (now (places .entry)) k)) k →
         r ≡ namedInTurn (setsIn (now (recs .entry)) (now (places .entry)) k)) ⌝ }
 {
     let mut i: usize = 0;
     while i < k {
-        let s = sight_at(recs, places, i, places[i]);
+        let s = sight_at(recs, places, names, i, places[i]);
         let own = context_by(plain, ctx, i, s);
         if is_nameless(plain, ctx, i, s, own) {
             return false;
@@ -271,15 +309,25 @@ fn are_named_with(plain: &mut [u64], ctx: &mut [u64], recs: &[u8], places: &[u16
     true
 }
 
-// Whether 16 is given to none of the Sets in the k first places, each after those before it.
-pub fn are_named(recs: &[u8], places: &[u16], k: usize) -> bool
-    requires { ⌜ (k ≤ mostSets) × (k ≤ length (now places)) ⌝ }
+// Whether 16 is given to none of the Sets in the k first places, each after those before it. Their names and their rows
+// are put down in what is lent.
+pub fn are_named(
+    plain: &mut [u64],
+    ctx: &mut [u64],
+    names: &mut [u32],
+    recs: &[u8],
+    places: &[u16],
+    k: usize,
+) -> bool
+    requires { ⌜ (k ≤ mostSets)
+        × (k ≤ length (now places))
+        × (k ≤ length (now names))
+        × (k ≤ length (now plain))
+        × (k ≤ length (now ctx)) ⌝ }
     ensures { λ r.
         ⌜ (Lawful (boxOn (setsIn (now (recs .entry)) (now (places .entry)) k)) k →
         r ≡ namedInTurn (setsIn (now (recs .entry)) (now (places .entry)) k)) ⌝ }
 {
-    // what work space holds at first does not matter; zeros would be set by memset (docs/DECISIONS.md, 24)
-    let mut plain = [1u64; SETS];
-    let mut ctx = [1u64; SETS];
-    are_named_with(&mut plain, &mut ctx, recs, places, k)
+    put_names(names, recs, places, k);
+    are_named_with(plain, ctx, recs, places, names, k)
 }

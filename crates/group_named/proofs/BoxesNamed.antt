@@ -32,6 +32,7 @@ use Rattle.edit_history.proofs.EditsHeld.{any-edit-on, target-parts}
 use Rattle.edit_history.proofs.RecordsPassed.{target-before}
 use Rattle.group_true.proofs.ProperSets.{plain-named}
 use Rattle.group_limited.specs.LimitedForms.{namedInTurn}
+use Rattle.group_named.specs.ChainForms.{TargetsHeld}
 use Rattle.group_named.specs.NamedForms.{isNamedAt}
 
 -- ---- the Sets of one object
@@ -145,6 +146,14 @@ module _ (rs : List ℕ) where
         (λ h. all-on n (isNamedAt rs n) (boxes-then h))
         (λ h. unfold recordsNamed in all-on n (λ p. not (isNameless (editsOf rs p) (recordAt rs p)))
         (λ p l. ap not (records-then (all-at n (isNamedAt rs n) h) p l)))
+
+    -- each Set has its Create before it
+    pub aimed : TargetsHeld rs n
+    aimed q l set =
+        let e = recordAt rs q in
+        let (t, before, target) = target-before sites rs n pass q l (set-aimed e set) in
+        let parts = target-parts e (recordAt rs t) target in
+        (t, before, parts .create, parts .site, parts .seq)
 
   -- where no record is limited there is nothing to test
   pub none-limited : (n : ℕ) → any isLimited (editsOf rs n) ≡ false → recordsNamed rs n ≡ true

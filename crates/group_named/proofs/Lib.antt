@@ -1,1 +1,4 @@
+pub mod NumbersFrom
+pub mod SetsChained
+pub mod SetsGathered
 pub mod BoxesNamed

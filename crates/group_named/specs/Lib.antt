@@ -1,1 +1,2 @@
+pub mod ChainForms
 pub mod NamedForms

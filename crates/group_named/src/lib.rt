@@ -1,10 +1,11 @@
 // Answer 16 over a whole table of records (document 02, Req 06): whether it is given to none of them, each after those
 // before it. The Sets of an object are tested together, by the places of their records, and only where one of them is
 // limited; where no record is, one pass over the kinds is all that it costs.
+mod chain;
+
+use edit_history::RECORDS;
 use edit_record::CREATE;
 use edit_record::LIMITED;
-use edit_record::Seq;
-use edit_record::Site;
 use group_step::SETS;
 ghost use mathlib.Core.Path.{_≡_};
 ghost use mathlib.Core.Bool.{true};
@@ -19,8 +20,9 @@ ghost use Rattle.edit_record.specs.declared.Seq.{Seq};
 ghost use Rattle.edit_history.specs.EditsHeld.{mostRecords, editsOf, setsOn};
 ghost use Rattle.edit_history.specs.Answers2to5.{recordsPass};
 ghost use Rattle.edit_history.specs.Answer16.{recordsNamed};
+ghost use Rattle.edit_walk.specs.WalkForms.{Indexed};
 ghost use Rattle.group_step.specs.GroupRows.{mostSets};
-ghost use Rattle.group_limited.specs.LimitedForms.{namedInTurn};
+ghost use Rattle.group_named.specs.ChainForms.{TargetsHeld, ByteChained};
 ghost use Rattle.group_named.specs.NamedForms.{FewSets, LawfulSets, isNamedAt};
 
 // Whether one of the first n records is a limited Set; only the kinds are read.
@@ -37,61 +39,105 @@ fn is_limited_held(recs: &[u8], n: usize) -> bool
     found
 }
 
-// Whether 16 is given to none of the Sets on the Create s.q, each after those before it.
-fn are_named_on(places: &mut [u16], recs: &[u8], n: usize, s: Site, q: Seq) -> bool
-    requires { ⌜ (n ≤ mostRecords) × FewSets (editsOf (now recs) n) × (mostSets ≤ length (now places)) ⌝ }
+// Whether 16 is given to none of the Sets on the Create in place p, which the chain goes through, each after those before
+// it; there is nothing to ask of another edit. The rest of what is lent is work space.
+fn are_named_at(
+    members: &mut [u16],
+    plain: &mut [u64],
+    ctx: &mut [u64],
+    names: &mut [u32],
+    recs: &[u8],
+    n: usize,
+    chain: &[u8],
+    p: usize,
+) -> bool
+    requires { ⌜ (n ≤ mostRecords)
+        × (p < n)
+        × FewSets (editsOf (now recs) n)
+        × (mostSets ≤ length (now members))
+        × (mostSets ≤ length (now plain))
+        × (mostSets ≤ length (now ctx))
+        × (mostSets ≤ length (now names)) ⌝ }
     ensures { λ r.
-        ⌜ (LawfulSets (editsOf (now (recs .entry)) n) →
-        r ≡ namedInTurn (setsOn s q (editsOf (now (recs .entry)) n))) ⌝ }
-{
-    let k = edit_object::put_places(places, recs, n, s, q);
-    if !group_limited::is_any_limited(recs, places, k) {
-        return true;
-    }
-    group_limited::are_named(recs, places, k)
-}
-
-// The same for the Create in place p; there is nothing to ask of another edit.
-fn are_named_at(places: &mut [u16], recs: &[u8], n: usize, p: usize) -> bool
-    requires { ⌜ (n ≤ mostRecords) × (p < n) × FewSets (editsOf (now recs) n) × (mostSets ≤ length (now places)) ⌝ }
-    ensures { λ r. ⌜ (LawfulSets (editsOf (now (recs .entry)) n) → r ≡ isNamedAt (now (recs .entry)) n p) ⌝ }
+        ⌜ (ByteChained (now (recs .entry)) n (now (chain .entry)) → LawfulSets (editsOf (now (recs .entry)) n) →
+        r ≡ isNamedAt (now (recs .entry)) n p) ⌝ }
 {
     if edit_history::kind_at(recs, p) != CREATE {
         return true;
     }
-    let a = edit_history::decode_at(recs, p);
-    are_named_on(places, recs, n, a.site, a.seq)
+    let k = chain::gather_sets(members, chain, p);
+    if !group_limited::is_any_limited(recs, members, k) {
+        return true;
+    }
+    group_limited::are_named(plain, ctx, names, recs, members, k)
 }
 
 // The same for each of the first n records.
-fn are_named_each(places: &mut [u16], recs: &[u8], n: usize) -> bool
-    requires { ⌜ (n ≤ mostRecords) × FewSets (editsOf (now recs) n) × (mostSets ≤ length (now places)) ⌝ }
+fn are_named_each(
+    members: &mut [u16],
+    plain: &mut [u64],
+    ctx: &mut [u64],
+    names: &mut [u32],
+    recs: &[u8],
+    n: usize,
+    chain: &[u8],
+) -> bool
+    requires { ⌜ (n ≤ mostRecords)
+        × FewSets (editsOf (now recs) n)
+        × (mostSets ≤ length (now members))
+        × (mostSets ≤ length (now plain))
+        × (mostSets ≤ length (now ctx))
+        × (mostSets ≤ length (now names)) ⌝ }
     ensures { λ r.
-        ⌜ (LawfulSets (editsOf (now (recs .entry)) n) → r ≡ all n (isNamedAt (now (recs .entry)) n)) ⌝ }
+        ⌜ (ByteChained (now (recs .entry)) n (now (chain .entry)) → LawfulSets (editsOf (now (recs .entry)) n) →
+        r ≡ all n (isNamedAt (now (recs .entry)) n)) ⌝ }
 {
     let mut named = true;
     let mut i: usize = 0;
     while i < n {
-        let own = are_named_at(places, recs, n, i);
+        let own = are_named_at(members, plain, ctx, names, recs, n, chain, i);
         named = named & own;
         i += 1;
     }
     named
 }
 
+// The same, where `places` is the index of the records; the chain is made here.
+fn are_boxes_named(recs: &[u8], n: usize, places: &[u16]) -> bool
+    requires { ⌜ (n ≤ mostRecords) × FewSets (editsOf (now recs) n) ⌝ }
+    ensures { λ r.
+        ⌜ (Indexed (now (recs .entry)) n (now (places .entry)) → TargetsHeld (now (recs .entry)) n →
+        LawfulSets (editsOf (now (recs .entry)) n) → r ≡ all n (isNamedAt (now (recs .entry)) n)) ⌝ }
+{
+    let mut chain = [0u8; RECORDS];
+    chain::chain_sets(&mut chain, recs, n, places);
+    // what work space holds at first does not matter; zeros would be set by memset (docs/DECISIONS.md, 24)
+    let mut members = [1u16; SETS];
+    let mut plain = [1u64; SETS];
+    let mut ctx = [1u64; SETS];
+    let mut names = [1u32; SETS];
+    are_named_each(
+        &mut members,
+        &mut plain,
+        &mut ctx,
+        &mut names,
+        recs,
+        n,
+        &chain,
+    )
+}
+
 // Whether 16 is given to none of the first n records, each after those before it, where they pass 1 to 5 in their
-// order.
-pub fn are_all_named(recs: &[u8], n: usize) -> bool
+// order and `places` is their index.
+pub fn are_all_named(recs: &[u8], n: usize, places: &[u16]) -> bool
     requires { ⌜ (n ≤ mostRecords)
         × ((s : Site) (q : Seq) → length (setsOn s q (editsOf (now recs) n)) ≤ mostSets) ⌝ }
     ensures { λ r.
         ⌜ ((sites : ℕ) → sites ≤ mostSites → recordsPass sites (now (recs .entry)) n ≡ true →
-        r ≡ recordsNamed (now (recs .entry)) n) ⌝ }
+        Indexed (now (recs .entry)) n (now (places .entry)) → r ≡ recordsNamed (now (recs .entry)) n) ⌝ }
 {
     if !is_limited_held(recs, n) {
         return true;
     }
-    // what work space holds at first does not matter; zeros would be set by memset (docs/DECISIONS.md, 24)
-    let mut places = [1u16; SETS];
-    are_named_each(&mut places, recs, n)
+    are_boxes_named(recs, n, places)
 }

@@ -7,7 +7,7 @@ use mathlib.Core.List.{List, [], _∷_, List·Memᴰ·head, List·Memᴰ·tail}
 use Prim.Native.Nat.{ℕ, suc, _+_, _*_, _^_, _<_}
 use native.Mathlib.Nat.{le-refl}
 use native.Mathlib.Omega.{arith}
-use lib.Bits.{bitOr, or-shifted-r}
+use lib.Bits.{bitAnd, bitOr, and-le-r, or-shifted-r}
 use lib.Dec.{eqb}
 use borrow.Author.Tests.{eqb-true, eq-eqb, not-true}
 use Rattle.math_lists.specs.SortedLists.{any, elem, Ascending}
@@ -111,3 +111,13 @@ module _ (m k : ℕ) (gs : List ℕ) (low : (x : ℕ) → elem x gs ≡ true →
       rw q
       (step-on m k gs (gaining k g) (rw (gains m k g (compatible-all g e)) (candidate-on m k gs g e))
       (not-dropped g e)))
+
+-- ---- a Set without conflict
+
+and-none : (g : ℕ) → compatible 0 g ≡ true
+and-none g = eq-eqb (bitAnd g 0) 0 (omega (arith, and-le-r g 0))
+
+pub none-conflicts : (gs : List ℕ) → allCompatible 0 gs ≡ true
+unfolding any
+none-conflicts [] = refl
+none-conflicts (g ∷ gs) = rw (and-none g) (none-conflicts gs)

@@ -25,7 +25,7 @@ pub fn are_compatible(gs: &[u64], n: usize, m: u64) -> bool
 }
 
 // Puts Set k into each of the n first groups.
-fn put_bit(gs: &mut [u64], n: usize, k: usize)
+pub fn put_bit(gs: &mut [u64], n: usize, k: usize)
     requires { ⌜ (n ≤ length (now gs)) × (k < mostSets) ⌝ }
     ensures { λ r. ⌜ now (gs .exit) ≡ gained k (take n (now (gs .entry))) ++ drop n (now (gs .entry)) ⌝ }
 {

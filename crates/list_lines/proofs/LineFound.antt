@@ -18,7 +18,7 @@ use Rattle.table_arrival.specs.Answers6and7.{rowOf}
 use Rattle.list_version.specs.VersionOrder.{versionsOf}
 use Rattle.list_line.specs.Line.{versionLine, objectLines, lineLength}
 use Rattle.list_version.proofs.VersionsSorted.{versions-length}
-use Rattle.list_lines.specs.declared.Found.{Found}
+use Rattle.list_lines.specs.declared.LinePlace.{LinePlace}
 use Rattle.list_objects.specs.Objects.{createOf, setsFor, objectsOf}
 use Rattle.list_lines.specs.List.{linesFor, versionTotal, linesOf}
 use Rattle.list_lines.specs.LinesForms.{headOf, LeftOf, FoundIn, NumberedAs}
@@ -153,7 +153,7 @@ module _ (t : Tables) (k : ℕ) (out : List ℕ) where
         line = λ ok. e ∙ rw z;
       }
 
-  module _ (j : ℕ) (next-one : k ≡ suc j) (f : Found) (at : FoundIn t j f) where
+  module _ (j : ℕ) (next-one : k ≡ suc j) (f : LinePlace) (at : FoundIn t j f) where
     abbrev rest : List (List ℕ)
     rest = flatMap (linesFor t) (objectsOf t)
 

@@ -15,8 +15,8 @@ use Rattle.list_line.specs.Line.{lineLength}
 use Rattle.list_line.specs.LineForms.{lineBy}
 use Rattle.list_objects.specs.declared.Gathered.{Gathered}
 use Rattle.list_objects.specs.Objects.{objectsOf}
-use Rattle.list_lines.specs.declared.Found.{Found}
-use Rattle.list_lines.specs.declared.Numbered.{Numbered}
+use Rattle.list_lines.specs.declared.LinePlace.{LinePlace}
+use Rattle.list_lines.specs.declared.PutLine.{PutLine}
 use Rattle.list_lines.specs.List.{linesFor}
 
 -- ---- the lines of what is gathered
@@ -44,7 +44,7 @@ pub record LeftOf (lines : ℕ → List (List ℕ)) (os : List ℕ) (k : ℕ) (r
   pub line : getD (flatMap lines os) k [] ≡ getD (flatMap lines rest) left []
 
 -- the k-th of the lines of all objects is that version's line of that object, if there is one
-pub record FoundIn (t : Tables) (k : ℕ) (f : Found) : Type 0 where
+pub record FoundIn (t : Tables) (k : ℕ) (f : LinePlace) : Type 0 where
   pub ok : f .ok ≡ ltb k (length (flatMap (linesFor t) (objectsOf t)))
   pub object : f .ok ≡ true → f .object < t .counters .objects
   pub version : f .ok ≡ true → f .version < length (linesFor t (f .object))
@@ -53,7 +53,7 @@ pub record FoundIn (t : Tables) (k : ℕ) (f : Found) : Type 0 where
       getD (flatMap (linesFor t) (objectsOf t)) k [] ≡ getD (linesFor t (f .object)) (f .version) []
 
 -- the k-th of the lines stands at the front of the output, if there is one
-pub record NumberedAs (lines : List (List ℕ)) (k : ℕ) (r : Numbered) (out : List ℕ) : Type 0 where
+pub record NumberedAs (lines : List (List ℕ)) (k : ℕ) (r : PutLine) (out : List ℕ) : Type 0 where
   pub ok : r .ok ≡ ltb k (length lines)
   pub few : r .bytes ≤ lineLength
   pub line : r .ok ≡ true → take (r .bytes) out ≡ getD lines k []

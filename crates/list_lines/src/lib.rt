@@ -2,12 +2,15 @@
 use group_step::GROUPS;
 use group_step::OBJECTS;
 use group_step::SETS;
-use list_line::LINE;
+use list_line::BUFFER;
+use list_line::pieces::PIECE;
+use list_line::pieces::PIECES;
 use list_line::put_line;
 use list_objects::Gathered;
 use list_objects::gather;
 use list_objects::order::sort_objects;
 use list_objects::put_sets;
+use list_version::values::largest;
 use table_drawing::Answer;
 use table_drawing::Counters;
 use table_drawing::ENTRY;
@@ -17,7 +20,7 @@ use table_output::put_at;
 ghost use mathlib.Core.Path.{_≡_};
 ghost use mathlib.Core.Bool.{true};
 ghost use mathlib.Core.List.{[]};
-ghost use Prim.Native.Nat.{_≤_, _<_};
+ghost use Prim.Native.Nat.{_+_, _≤_, _<_};
 ghost use lib.ListN.{length, getD, take};
 ghost use Rattle.math_lists.specs.NumbersBelow.{sum};
 ghost use Rattle.group_step.specs.GroupRows.{mostObjects, mostGroups};
@@ -26,19 +29,20 @@ ghost use Rattle.table_drawing.specs.AnswerNumbers.{numberOf};
 ghost use Rattle.table_soundness.specs.Sound.{sound};
 ghost use Rattle.table_output.specs.Output.{writing};
 ghost use Rattle.list_line.specs.Line.{lineLength};
+ghost use Rattle.list_line.specs.LineForms.{pieceLength};
 ghost use Rattle.list_lines.specs.List.{linesFor, linesOf};
 ghost use Rattle.list_lines.specs.LineByNumber.{lineOf};
 ghost use Rattle.list_lines.specs.LinesForms.{Ready, lineIn, headOf, FoundIn, NumberedAs};
 
 // Where a line of a version is found: whether there is one, the object, and which of its versions it is.
-struct Found {
+struct LinePlace {
     ok: bool,
     object: usize,
     version: usize,
 }
 
 // A line put at the front of a buffer: whether there is one of that number, and how many bytes it has.
-struct Numbered {
+struct PutLine {
     ok: bool,
     bytes: usize,
 }
@@ -67,7 +71,7 @@ pub fn head(out: &mut [u8], c: Counters, objects: &[u16]) -> usize
 }
 
 // Where the k-th line of a version is found, line 0 left out.
-fn find(c: Counters, records: &[u8], objects: &[u16], groups: &[u64], k: usize) -> Found
+fn find(c: Counters, records: &[u8], objects: &[u16], groups: &[u64], k: usize) -> LinePlace
     requires { ⌜ sound (tablesOf c (now records) (now objects) (now groups)) ≡ true ⌝ }
     ensures { λ r.
         ⌜ FoundIn (tablesOf c (now (records .entry)) (now (objects .entry)) (now (groups .entry))) k r ⌝ }
@@ -86,7 +90,7 @@ fn find(c: Counters, records: &[u8], objects: &[u16], groups: &[u64], k: usize) 
         let o = at16(&order, i) as usize;
         let count = at16(objects, o * ENTRY + 2) as usize;
         if left < count {
-            return Found {
+            return LinePlace {
                 ok: true,
                 object: o,
                 version: left,
@@ -95,7 +99,7 @@ fn find(c: Counters, records: &[u8], objects: &[u16], groups: &[u64], k: usize) 
         left = left - count;
         i += 1;
     }
-    Found {
+    LinePlace {
         ok: false,
         object: 0,
         version: 0,
@@ -113,20 +117,27 @@ fn put_version(
 ) -> usize
     requires { ⌜ Ready g (now disputes) (now stamps) (now versions)
         × (v < mostGroups)
-        × (lineLength ≤ length (now out)) ⌝ }
+        × (lineLength + pieceLength ≤ length (now out)) ⌝ }
     ensures { λ r.
         ⌜ (take r (now (out .exit))
         ≡ lineIn g (now (disputes .entry)) (now (stamps .entry)) (getD (now (versions .entry)) v 0))
         × (r ≤ lineLength) ⌝ }
 {
+    // what work space holds at first does not matter; zeros would be set by memset (docs/DECISIONS.md, 24)
+    let mut texts = [1u8; PIECES * PIECE];
+    let mut lens = [0u8; PIECES];
+    let mut told = [0u64; PIECES];
+    let best = largest(stamps, g.sets, versions[v]);
     put_line(
         out,
+        &mut texts,
+        &mut lens,
+        &mut told,
         g.site,
         g.seq,
         disputes,
         g.disputes,
-        stamps,
-        g.sets,
+        best,
         versions[v],
     )
 }
@@ -144,7 +155,7 @@ fn put_found(
     requires { ⌜ (sound (tablesOf c (now records) (now objects) (now groups)) ≡ true)
         × (o < c .objects)
         × (v < length (linesFor (tablesOf c (now records) (now objects) (now groups)) o))
-        × (lineLength ≤ length (now out)) ⌝ }
+        × (lineLength + pieceLength ≤ length (now out)) ⌝ }
     ensures { λ r. ⌜ (take r (now (out .exit))
         ≡ getD (linesFor (tablesOf c (now (records .entry)) (now (objects .entry)) (now (groups .entry))) o) v [])
         × (r ≤ lineLength) ⌝ }
@@ -177,26 +188,26 @@ fn put_numbered(
     objects: &[u16],
     groups: &[u64],
     k: usize,
-) -> Numbered
+) -> PutLine
     requires { ⌜ (sound (tablesOf c (now records) (now objects) (now groups)) ≡ true)
-        × (lineLength ≤ length (now out)) ⌝ }
+        × (lineLength + pieceLength ≤ length (now out)) ⌝ }
     ensures { λ r. ⌜ NumberedAs
         (linesOf (tablesOf c (now (records .entry)) (now (objects .entry)) (now (groups .entry))))
         k r (now (out .exit)) ⌝ }
 {
     if k == 0 {
         let bytes = head(out, c, objects);
-        return Numbered { ok: true, bytes };
+        return PutLine { ok: true, bytes };
     }
     let f = find(c, records, objects, groups, k - 1);
     if !f.ok {
-        return Numbered {
+        return PutLine {
             ok: false,
             bytes: 0,
         };
     }
     let bytes = put_found(out, c, records, objects, groups, f.object, f.version);
-    Numbered { ok: true, bytes }
+    PutLine { ok: true, bytes }
 }
 
 // Puts line k into out from the start on; refused, everything stays as it was.
@@ -219,7 +230,7 @@ pub fn print_line(
             bytes: 0,
         };
     }
-    let mut line = [0u8; LINE];
+    let mut line = [0u8; BUFFER];
     let r = put_numbered(&mut line, c, records, objects, groups, k);
     if !r.ok {
         return Written {

@@ -6,7 +6,9 @@ use edit_walk::PLACES;
 use group_step::GROUPS;
 use group_step::OBJECTS;
 use group_step::SETS;
-use list_line::LINE;
+use list_line::BUFFER;
+use list_line::pieces::PIECE;
+use list_line::pieces::PIECES;
 use list_lines::head;
 use list_objects::gather;
 use list_objects::order::sort_objects;
@@ -23,6 +25,7 @@ ghost use Rattle.edit_walk.specs.WalkForms.{Indexed};
 ghost use Rattle.table_soundness.specs.Sound.{sound};
 ghost use Rattle.table_sets.specs.ChainForms.{Chained};
 ghost use Rattle.list_line.specs.Line.{lineLength};
+ghost use Rattle.list_line.specs.LineForms.{pieceLength, Kept};
 ghost use Rattle.list_lines.specs.List.{linesFor};
 ghost use Rattle.list_print.specs.Printing.{joined, listOf, listLength};
 ghost use Rattle.list_lines.specs.LinesForms.{headOf};
@@ -42,6 +45,9 @@ fn put_head(out: &mut [u8], line: &mut [u8], c: Counters, objects: &[u16]) -> us
 fn put_object(
     out: &mut [u8],
     line: &mut [u8],
+    texts: &mut [u8],
+    lens: &mut [u8],
+    told: &mut [u64],
     disputes: &mut [u64],
     stamps: &mut [u64],
     versions: &mut [u64],
@@ -57,13 +63,15 @@ fn put_object(
         × Chained (now records) (c .records) (now chain)
         × (o < c .objects)
         × (n + mostGroups * lineLength ≤ listLength)
-        × (lineLength ≤ length (now line))
+        × (lineLength + pieceLength ≤ length (now line))
+        × Kept (now texts) (now lens) (now told)
         × (mostSets ≤ length (now disputes))
         × (mostSets ≤ length (now stamps))
         × (mostGroups ≤ length (now versions)) ⌝ }
     ensures { λ r. ⌜ Behind (now (out .entry)) n
         (joined (linesFor (tablesOf c (now (records .entry)) (now (objects .entry)) (now (groups .entry))) o))
-        (mostGroups * lineLength) (now (out .exit)) r ⌝ }
+        (mostGroups * lineLength) (now (out .exit)) r
+        × Kept (now (texts .exit)) (now (lens .exit)) (now (told .exit)) ⌝ }
 {
     // what work space holds at first does not matter; zeros would be set by memset (docs/DECISIONS.md, 24)
     let mut places = [1u16; SETS];
@@ -79,7 +87,18 @@ fn put_object(
         &places,
         o,
     );
-    put_versions(out, line, n, g, disputes, stamps, versions)
+    put_versions(
+        out,
+        line,
+        texts,
+        lens,
+        told,
+        n,
+        g,
+        disputes,
+        stamps,
+        versions,
+    )
 }
 
 // Puts the lines of all objects behind the first n bytes, in their order.
@@ -96,7 +115,7 @@ fn put_objects(
     requires { ⌜ (sound (tablesOf c (now records) (now objects) (now groups)) ≡ true)
         × Chained (now records) (c .records) (now chain)
         × (n + mostObjects * (mostGroups * lineLength) ≤ listLength)
-        × (lineLength ≤ length (now line)) ⌝ }
+        × (lineLength + pieceLength ≤ length (now line)) ⌝ }
     ensures { λ r. ⌜ Behind (now (out .entry)) n
         (allLines (tablesOf c (now (records .entry)) (now (objects .entry)) (now (groups .entry))))
         (mostObjects * (mostGroups * lineLength)) (now (out .exit)) r ⌝ }
@@ -105,6 +124,9 @@ fn put_objects(
     // what work space holds at first does not matter; zeros would be set by memset (docs/DECISIONS.md, 24)
     let mut order = [1u16; OBJECTS];
     sort_objects(&mut order, records, c.records as usize, objects, m);
+    let mut texts = [1u8; PIECES * PIECE];
+    let mut lens = [0u8; PIECES];
+    let mut told = [0u64; PIECES];
     let mut disputes = [1u64; SETS];
     let mut stamps = [1u64; SETS];
     let mut versions = [1u64; GROUPS];
@@ -115,6 +137,9 @@ fn put_objects(
         w = put_object(
             out,
             line,
+            &mut texts,
+            &mut lens,
+            &mut told,
             &mut disputes,
             &mut stamps,
             &mut versions,
@@ -146,7 +171,7 @@ pub fn put_list_by(
         (listOf (tablesOf c (now (records .entry)) (now (objects .entry)) (now (groups .entry))))
         listLength (now (out .exit)) r ⌝ }
 {
-    let mut line = [0u8; LINE];
+    let mut line = [0u8; BUFFER];
     let w = put_head(out, &mut line, c, objects);
     // what work space holds at first does not matter; zeros would be set by memset (docs/DECISIONS.md, 24)
     let mut chain = [1u16; RECORDS];

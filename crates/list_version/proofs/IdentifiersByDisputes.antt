@@ -2,7 +2,7 @@
 -- the definitions. Assumes that different Sets have different names, and are no more than an object may have.
 use mathlib.Core.Path.{_≡_, refl, sym, ap, _∙_}
 use mathlib.Core.Bool.{Bool, true, false, _&&_, cond}
-use mathlib.Core.List.{List, [], _∷_, _++_, map, map-append, append-nil, Memᴰ·of-map}
+use mathlib.Core.List.{List, [], _∷_, _++_, map, map-append, Memᴰ·of-map}
 use mathlib.Core.List.{List·Memᴰ, List·Memᴰ·head, List·Memᴰ·tail}
 use Prim.Native.Nat.{ℕ, _+_, _%_, _≤_, _<_}
 use native.Mathlib.Numerals.{add-one}
@@ -10,8 +10,8 @@ use native.Mathlib.Omega.{arith}
 use native.Mathlib.Decide.{decLt}
 use borrow.Author.Tests.{eqb-true, eq-eqb}
 use lib.Dec.{eqb}
-use lib.ListN.{length, getD, take, set}
-use lib.Seq.{take-suc, take-suc-set}
+use lib.ListN.{length, getD, take}
+use lib.Seq.{take-suc}
 use Rattle.math_lists.specs.NumbersBelow.{keep}
 use Rattle.math_lists.specs.SortedLists.{elem, filter, Ascending, insert, gather, ascending}
 use Rattle.math_lists.proofs.Booleans.{both, and-on}
@@ -64,22 +64,15 @@ disputes-ascend ms n = is-ascending (map (namedAt ms) (keep n (λ i. isDisputed 
 
 -- ---- the names of members one by one: of the Sets in dispute, xs, i are passed
 
-module _ (xs out : List ℕ) (g i w : ℕ) (low : i < length xs) (inv : take w out ≡ identifierBy (take i xs) g) where
-  grown : identifierBy (take (i + 1) xs) g
-      ≡ take w out ++ map nameBy (cond (isIn g (getD xs i 0)) (getD xs i 0 ∷ []) [])
-  unfolding identifierBy
-  grown =
-      let x = getD xs i 0 in
-      rw (add-one, take-suc xs i 0 low, filter-snoc (isIn g) (take i xs) x, inv)
-      (map-append nameBy (filter (isIn g) (take i xs)) (cond (isIn g x) (x ∷ []) []))
-
-  pub name-more :
-      (y : ℕ) → w < length out → isIn g (getD xs i 0) ≡ true → y ≡ nameBy (getD xs i 0) →
-      take (w + 1) (set out w y) ≡ identifierBy (take (i + 1) xs) g
-  name-more y l h e = rw (add-one, take-suc-set out w y l, e) (sym (grown ∙ rw h))
-
-  pub no-name-more : isIn g (getD xs i 0) ≡ false → take w out ≡ identifierBy (take (i + 1) xs) g
-  no-name-more h = sym (grown ∙ rw h (append-nil (take w out)))
+pub names-grown :
+    (xs : List ℕ) (g i : ℕ) → i < length xs →
+    identifierBy (take (i + 1) xs) g
+    ≡ identifierBy (take i xs) g ++ map nameBy (cond (isIn g (getD xs i 0)) (getD xs i 0 ∷ []) [])
+unfolding identifierBy
+names-grown xs g i low =
+    let x = getD xs i 0 in
+    rw (add-one, take-suc xs i 0 low, filter-snoc (isIn g) (take i xs) x)
+    (map-append nameBy (filter (isIn g) (take i xs)) (cond (isIn g x) (x ∷ []) []))
 
 pub no-names : (g : ℕ) → [] ≡ identifierBy [] g
 unfolding identifierBy filter

@@ -1,4 +1,5 @@
 pub mod ValueInPlace
+pub mod LargestWhere
 pub mod LoopTurns
 pub mod MembersByTest
 pub mod LastMember

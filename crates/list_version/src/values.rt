@@ -2,25 +2,25 @@
 // that is never 0 for a key: the largest stamp of the members with a key is that of the last one. The stamps of an
 // object's Sets are made once; one pass over the members of a version finds the largest of each key.
 use super::ALL_KEYS;
-use super::AT_VALUE;
 use super::SITE_NUMBERS;
 use super::sets::is_member;
 use edit_causal::vector_sum;
 use edit_record::AT_KEY;
 use edit_record::AT_SITE;
+use edit_record::AT_VALUE;
 use edit_record::KEYS;
 use edit_record::PLACE;
+use edit_record::VALUES;
 ghost use mathlib.Core.Path.{_≡_};
-ghost use Prim.Native.Nat.{_+_, _*_, _-_, _≤_, _<_};
+ghost use mathlib.Core.Bool.{_||_};
+ghost use Prim.Native.Nat.{ℕ, _+_, _*_, _-_, _≤_, _<_, max};
 ghost use lib.ListN.{length, take};
 ghost use Rattle.edit_record.specs.Layout.{mostSites, keys, twoBytes};
 ghost use Rattle.edit_history.specs.EditsHeld.{recordAt};
+ghost use Rattle.math_maximal.specs.Groups.{bit};
 ghost use Rattle.group_step.specs.GroupRows.{mostSets};
 ghost use Rattle.list_version.specs.Identifier.{siteNumbers};
 ghost use Rattle.list_version.specs.VersionForms.{setsAt, stampOf, values, placings, Small, Stamped, LargestOf};
-
-// The values that four bytes have.
-pub const VALUES: u64 = 4294967296;
 
 // A number above each place in the total order with a value behind it.
 const PLACINGS: u64 = 1152921504606846976;
@@ -77,4 +77,34 @@ pub fn largest(stamps: &[u64], t: usize, g: u64) -> [u64; ALL_KEYS]
         i += 1;
     }
     best
+}
+
+// The larger of two numbers.
+fn larger(a: u64, b: u64) -> u64
+    ensures { λ r. ⌜ r ≡ max a b ⌝ }
+{
+    if a < b { b } else { a }
+}
+
+// The same with the members of `more` besides, where `best` has the largest stamps of the others.
+pub fn largest_with(best: [u64; ALL_KEYS], stamps: &[u64], t: usize, more: u64) -> [u64; ALL_KEYS]
+    requires { ⌜ (t ≤ length (now stamps)) × (t ≤ mostSets) ⌝ }
+    ensures { λ r.
+        ⌜ ((g others : ℕ) → LargestOf best (take t (now (stamps .entry))) others →
+        ((i : ℕ) → i < t → bit g i ≡ (bit others i || bit more i)) →
+        LargestOf r (take t (now (stamps .entry))) g) ⌝ }
+{
+    let mut found = best;
+    let mut left = more;
+    while left != 0 {
+        let i = u64::trailing_zeros(left) as usize;
+        if i < t {
+            let s = stamps[i];
+            let k = (s / PLACINGS) as usize;
+            found[k] = larger(found[k], s);
+        }
+        let own = group_step::only(i);
+        left = group_step::without(left, own);
+    }
+    found
 }

@@ -88,14 +88,3 @@ module _ (b : Box) (n : ℕ) (none : (i : ℕ) → i < n → b .limited i ≡ fa
   groups-plain =
       groups-agree (conflicts b) (b .plain) n every
       (λ i j s t. conflicts-plain i j (below-at n every i s .0) (below-at n every j t .0))
-
--- ---- document 01's conflict is symmetric
-
-module _ (b : Box) (sm : (i j : ℕ) → b .plain i j ≡ b .plain j i) where
-  turn : (i j : ℕ) → conflicts b i j ≡ true → conflicts b j i ≡ true
-  turn i j h =
-      let (x, y, r, s, e) = conflicts-at b i j h in
-      conflicts-on b j i y x s r (rw (sm y x) e)
-
-  pub conflicts-symmetric : (i j : ℕ) → conflicts b i j ≡ conflicts b j i
-  conflicts-symmetric i j = same-test (conflicts b i j) (conflicts b j i) (turn i j) (turn j i)

@@ -3,19 +3,17 @@
 use mathlib.Core.Path.{_≡_}
 use mathlib.Core.Logic.{_⊎_, inl, inr}
 use mathlib.Core.Bool.{false}
-use Prim.Native.Nat.{ℕ, _≤_, _<_}
-use native.Mathlib.Omega.{arith}
-use native.Mathlib.Decide.{decLt}
+use Prim.Native.Nat.{ℕ, _<_}
 use Rattle.math_lists.proofs.Booleans.{clash, off}
 use Rattle.math_maximal.specs.MaximalSets.{_∈_, Maximal}
 use Rattle.math_maximal.specs.Groups.{bit}
 use Rattle.math_maximal.proofs.MaximalSets.{with-cases}
 use Rattle.math_maximal.proofs.Groups.{below-at}
-use Rattle.math_contexts.specs.Box.{Box, seenBy, Lawful, Ends}
+use Rattle.math_contexts.specs.Box.{Box, seenBy, Lawful}
 use Rattle.math_contexts.specs.Contexts.{context, reach, conflicts}
 use Rattle.math_contexts.specs.Versions.{Valid}
 use Rattle.math_contexts.proofs.ContextMembers.{in-context, context-seen}
-use Rattle.math_contexts.proofs.ConflictByReach.{conflicts-at, free-plainly, reach-alone}
+use Rattle.math_contexts.proofs.ConflictByReach.{conflicts-at, free-plainly}
 use Rattle.math_contexts.proofs.NamesTest.{names-at}
 
 module _ (b : Box) (n : ℕ) (law : Lawful b n) (valid : Valid b n) where
@@ -42,13 +40,3 @@ module _ (b : Box) (n : ℕ) (law : Lawful b n) (valid : Valid b n) where
       off (conflicts b i i) (λ h.
       let (x, y, r, s, e) = conflicts-at b i i h in
       clash e (reach-free i l x y r s))
-
-  -- of any number, if there is no limited Set past the n
-  pub conflicts-irreflexive : Ends b n → (i : ℕ) → conflicts b i i ≡ false
-  conflicts-irreflexive ends i = elim (decLt i n) [ yes l ↦ not-with-itself i l | no d ↦ past (omega arith) ]
-    where
-      past : n ≤ i → conflicts b i i ≡ false
-      past l =
-          off (conflicts b i i) (λ h.
-          let (x, y, r, s, e) = conflicts-at b i i h in
-          clash (rw (reach-alone b i (ends i l) x r, reach-alone b i (ends i l) y s) at e) (law .irreflexive i))

@@ -1,7 +1,7 @@
 -- Tests put together and taken apart. What a test of two numbers says is in the kit, `borrow.Author.Tests`.
 -- Assumes nothing.
 use mathlib.Core.Path.{_≡_, refl, sym, _∙_}
-use mathlib.Core.Bool.{Bool, true, false, _&&_, _||_, and-comm, or-assoc, or-comm, Bool·beq}
+use mathlib.Core.Bool.{Bool, true, false, not, _&&_, _||_, and-comm, or-assoc, or-comm, Bool·beq}
 use mathlib.Core.Logic.{_⊎_, inl, inr}
 use Prim.Native.Nat.{ℕ}
 use native.Mathlib.Omega.{arith}
@@ -61,6 +61,22 @@ off-where false b h = refl
 
 pub or-off : (a b : Bool) → a ≡ false → b ≡ false → (a || b) ≡ false
 or-off a b p q = rw (p, q)
+
+pub and-true : (b : Bool) → (b && true) ≡ b
+and-true true = refl
+and-true false = refl
+
+pub or-false : (b : Bool) → (b || false) ≡ b
+or-false true = refl
+or-false false = refl
+
+pub or-true : (b : Bool) → (b || true) ≡ true
+or-true true = refl
+or-true false = refl
+
+pub not-not : (b : Bool) → b ≡ not (not b)
+not-not true = refl
+not-not false = refl
 
 -- the first two of three tests change places
 pub or-swap : (a b c : Bool) → (a || (b || c)) ≡ (b || (a || c))

@@ -1,8 +1,8 @@
 -- What f makes of each element of a list, one after the other: where only the elements count, and how long it is in any
 -- order of them. Assumes nothing.
-use mathlib.Core.Path.{_≡_, refl, ap₂, _∙_}
+use mathlib.Core.Path.{_≡_, refl, sym, ap₂, _∙_}
 use mathlib.Core.Bool.{true}
-use mathlib.Core.List.{List, [], _∷_, _++_, map, flatMap, List·Memᴰ·head, List·Memᴰ·tail}
+use mathlib.Core.List.{List, [], _∷_, _++_, map, flatMap, append-assoc, List·Memᴰ·head, List·Memᴰ·tail}
 use Prim.Native.Nat.{ℕ, zero, suc, _+_}
 use native.Mathlib.Omega.{arith}
 use lib.ListN.{length, length-append}
@@ -23,6 +23,12 @@ pub flat-made :
 unfolding flatMap
 flat-made f h [] = refl
 flat-made f h (x ∷ xs) = rw (flat-made f h xs)
+
+pub flat-joined :
+    {A B : Type 0} (f : A → List B) (xs ys : List A) → flatMap f (xs ++ ys) ≡ flatMap f xs ++ flatMap f ys
+unfolding flatMap
+flat-joined f [] ys = refl
+flat-joined f (x ∷ xs) ys = rw (flat-joined f xs ys) (sym (append-assoc (f x) (flatMap f xs) (flatMap f ys)))
 
 -- ---- how long
 

@@ -3,8 +3,7 @@
 use mathlib.Core.Path.{_≡_, refl, sym, ap₂, _∙_}
 use mathlib.Core.Bool.{Bool, true, not, _&&_, Bool·beq}
 use mathlib.Core.List.{[], _∷_}
-use Prim.Native.Nat.{ℕ, _^_, _≤_, _<_}
-use native.Mathlib.Omega.{arith}
+use Prim.Native.Nat.{ℕ, _^_, _<_}
 use lib.Dec.{ltb}
 use borrow.Author.Tests.{ltb-true, lt-ltb, not-true}
 use Rattle.math_lists.specs.NumbersBelow.{all, mask, keep}
@@ -12,8 +11,8 @@ use Rattle.math_lists.specs.SortedLists.{elem, Ascending}
 use Rattle.math_lists.proofs.Booleans.{clash, off, same-test, both, and-on, beq-on, beq-eq}
 use Rattle.math_lists.proofs.NumbersBelow.{all-on, all-at, all-same, mask-below, keep-at, keep-on, keep-same}
 use Rattle.math_lists.proofs.SortedLists.{keep-ascending}
-use Rattle.math_maximal.specs.MaximalSets.{_∈_, _⊆_, Fits, Maximal}
-use Rattle.math_maximal.specs.Groups.{bit, below, every, fits, isMaximal, groups}
+use Rattle.math_maximal.specs.MaximalSets.{_∈_, Fits, Maximal}
+use Rattle.math_maximal.specs.Groups.{bit, below, fits, isMaximal, groups}
 use Rattle.math_maximal.proofs.MaximalSets.{carried}
 use Rattle.math_maximal.proofs.Bits.{bit-below}
 use Rattle.math_maximal.proofs.Masks.{masked}
@@ -28,10 +27,6 @@ module _ (n : ℕ) (S : ℕ → Bool) (i : ℕ) where
   pub below-on : i < n → i ∈ S → i ∈ below n S
   unfolding below
   below-on l s = and-on (ltb i n) (S i) (lt-ltb i n l) s
-
--- the first n are among the first m
-pub first-among : (n m : ℕ) → n ≤ m → below n every ⊆ below m every
-first-among n m few i s = let (l, _) = below-at n every i s in below-on m every i (omega arith) refl
 
 -- ---- the tests
 

@@ -9,3 +9,4 @@ pub mod MoreElements
 pub mod Renumbered
 pub mod AnotherOrder
 pub mod FirstMember
+pub mod OneMemberLess

@@ -27,6 +27,14 @@ use Rattle.table_arrival.proofs.Admitted.{Admitted, create-is-taken, se
 use Rattle.table_arrival.proofs.RefusedForReason.{never-crowded}
 use Rattle.edit_record.proofs.WellFormed.{create-not-set, layer-not-set}
 
+-- a row put back where it stood
+pub row-back : (gs : List ℕ) (o : ℕ) → putRow o gs (row o gs) ≡ gs
+row-back gs o =
+    let d = drop (o * mostGroups) gs in
+    ap (λ (l : List ℕ). take (o * mostGroups) gs ++ (row o gs ++ l)) (sym (drop-drop mostGroups (o * mostGroups) gs))
+    ∙ ap (λ (l : List ℕ). take (o * mostGroups) gs ++ l) (take-append-drop mostGroups d)
+    ∙ take-append-drop (o * mostGroups) gs
+
 module _ (t : Tables) (b : List ℕ) where
   abbrev e : Edit
   e = decodeOf b
@@ -81,14 +89,6 @@ module _ (t : Tables) (b : List ℕ) where
           let low : ltb mostGroups (length after) ≡ false = le-ltb mostGroups (length after) few in
           rw low (taken-is (set-is-taken t b k) (crowd false low))
 
-      row-back : putRow o (t .groups) (row o (t .groups)) ≡ t .groups
-      row-back =
-          let d = drop (o * mostGroups) (t .groups) in
-          ap (λ (l : List ℕ). take (o * mostGroups) (t .groups) ++ (row o (t .groups) ++ l))
-          (sym (drop-drop mostGroups (o * mostGroups) (t .groups)))
-          ∙ ap (λ (l : List ℕ). take (o * mostGroups) (t .groups) ++ l) (take-append-drop mostGroups d)
-          ∙ take-append-drop (o * mostGroups) (t .groups)
-
       pub crowded-is : mostGroups < length after →
           outcomeOf 7
           (tablesOf (t .counters) (t .records) (t .objects) (putRow o (t .groups) (settled after (row o (t .groups)))))
@@ -97,7 +97,7 @@ module _ (t : Tables) (b : List ℕ) where
       crowded-is many =
           let high : ltb mostGroups (length after) ≡ true = lt-ltb mostGroups (length after) many in
           let a : answerTo t b ≡ 7 = answer-seven ∙ rw (crowd true high) in
-          rw (high, a, row-back)
+          rw (high, a, row-back (t .groups) o)
 
 -- ---- the count of the edit's site has room
 

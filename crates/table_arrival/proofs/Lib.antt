@@ -18,3 +18,4 @@ pub mod VersionValues
 pub mod CodeOutcomes
 pub mod SetReady
 pub mod CodeInHand
+pub mod PlainTaken

@@ -2,9 +2,9 @@
 -- step. Assumes nothing.
 use mathlib.Core.Path.{_≡_, ap₂, _∙_}
 use mathlib.Core.Bool.{true}
-use Prim.Native.Nat.{ℕ, suc, _+_, _*_, _^_, _≤_, _<_}
+use Prim.Native.Nat.{ℕ, suc, _+_, _-_, _*_, _^_, _≤_, _<_}
 use native.Mathlib.Omega.{arith}
-use lib.ListN.{length, getD}
+use lib.ListN.{length, getD, drop, replicate}
 use Rattle.math_lists.specs.SortedLists.{any, elem, Ascending}
 use Rattle.math_lists.proofs.ByPlaces.{elem-place}
 use Rattle.edit_record.specs.declared.Site.{Site}
@@ -15,14 +15,14 @@ use Rattle.math_maximal.proofs.StepOnAnyRow.{step-ascending, step-below, step-s
 use Rattle.edit_causal.specs.Conflict.{conflictsWith}
 use Rattle.edit_history.specs.EditsHeld.{recordAt, setsOn, isTarget, objectOf}
 use Rattle.edit_history.proofs.EditsHeld.{Target}
-use Rattle.group_step.specs.GroupRows.{mostGroups}
+use Rattle.group_step.specs.GroupRows.{mostGroups, row}
 use Rattle.table_drawing.specs.Tables.{Tables, heldBy, placeAt, setsAt, groupsAt}
 use Rattle.table_soundness.proofs.SoundFacts.{Sound}
 use Rattle.table_soundness.proofs.EachObject.{Row}
 use Rattle.table_arrival.specs.Answers6and7.{matesOf, rowOf, groupsAfter}
 use Rattle.table_soundness.proofs.ObjectsByNumber.{target-object}
 use Rattle.edit_causal.proofs.Identities.{same-site, same-seq}
-use Rattle.table_arrival.proofs.RowsAfterStore.{used-ascending, used-below, used-some}
+use Rattle.table_arrival.proofs.RowsAfterStore.{used-ascending, used-below, used-some, used-rest}
 
 module _ (t : Tables) (s : Sound t) (e : Edit) (h : any (isTarget e) (heldBy t) ≡ true) where
   abbrev o : ℕ
@@ -68,6 +68,10 @@ module _ (t : Tables) (s : Sound t) (e : Edit) (h : any (isTarget e) (heldBy t) 
 
   pub row-below : (x : ℕ) → elem x (rowOf t o) ≡ true → x < 2 ^ n
   row-below = used-below (t .groups) o n (groupsAt (t .objects) o) row-sound row-fits
+
+  pub row-rest :
+      drop (groupsAt (t .objects) o) (row o (t .groups)) ≡ replicate (mostGroups - groupsAt (t .objects) o) 0
+  row-rest = used-rest (t .groups) o n (groupsAt (t .objects) o) row-sound row-fits
 
   -- ---- and after the step
 

@@ -1,7 +1,7 @@
 -- The rows of groups as lists, and after one row is written: it is as written, every other as it was. Assumes nothing.
-use mathlib.Core.Path.{_≡_, sym, ap, _∙_}
+use mathlib.Core.Path.{_≡_, refl, sym, ap, ap₂, _∙_}
 use mathlib.Core.Bool.{true}
-use mathlib.Core.List.{List, _++_}
+use mathlib.Core.List.{List, [], _∷_, _++_}
 use Prim.Native.Nat.{ℕ, suc, _+_, _-_, _*_, _^_, _≤_, _<_}
 use native.Mathlib.Omega.{arith}
 use native.Mathlib.Decide.{decLt}
@@ -25,6 +25,11 @@ use Rattle.group_step.specs.GroupRows.{mostGroups, row, putRow}
 use Rattle.table_soundness.proofs.EachObject.{Row}
 
 -- ---- the groups in use
+
+all-zero : (l : List ℕ) → ((i : ℕ) → i < length l → getD l i 0 ≡ 0) → l ≡ replicate (length l) 0
+all-zero [] h = refl
+all-zero (x ∷ l) h = ap₂ (λ (y : ℕ) (r : List ℕ). y ∷ r) (h 0 (omega arith)) (all-zero l (λ i m. h (suc i)
+    (omega arith)))
 
 module _ (gs : List ℕ) (o k g : ℕ) (x : Row gs o k g) (fits : o * mostGroups + mostGroups ≤ length gs) where
   abbrev used : List ℕ
@@ -57,6 +62,17 @@ module _ (gs : List ℕ) (o k g : ℕ) (x : Row gs o k g) (fits : o * mostGroups
 
   pub used-some : elem (getD used 0 0) used ≡ true
   used-some = place-elem used 0 (omega (arith, used-long, x .some))
+
+  -- behind them the row is zero
+  pub used-rest : drop g (row o gs) ≡ replicate (mostGroups - g) 0
+  used-rest =
+      let long : length (drop g (row o gs)) ≡ mostGroups - g = length-drop g (row o gs) ∙ omega (arith, row-long) in
+      let zero-at : (i : ℕ) → i < length (drop g (row o gs)) → getD (drop g (row o gs)) i 0 ≡ 0
+      = λ i l. getD-drop g (row o gs) i 0
+      ∙ getD-take mostGroups (drop (o * mostGroups) gs) (g + i) 0 (omega (arith, long))
+      ∙ getD-drop (o * mostGroups) gs (g + i) 0
+      ∙ x .rest (g + i) (omega (arith, long)) (omega arith) in
+      all-zero (drop g (row o gs)) zero-at ∙ ap (λ (k : ℕ). replicate k 0) long
 
 -- ---- the groups l written into the row of object o
 

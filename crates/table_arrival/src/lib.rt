@@ -8,6 +8,7 @@ use edit_record::AT_SITE;
 use edit_record::CREATE;
 use edit_record::LIMITED;
 use edit_record::PLACE;
+use edit_record::RECORD;
 use edit_record::Site;
 use edit_walk::PLACES;
 use group_limited::Judged;
@@ -20,7 +21,7 @@ ghost use mathlib.Core.Path.{_≡_};
 ghost use mathlib.Core.List.{[], _∷_};
 ghost use Prim.Native.Nat.{_+_, _≤_, _<_};
 ghost use lib.ListN.{length, getD};
-ghost use Rattle.edit_record.specs.Layout.{twoBytes, placeLength};
+ghost use Rattle.edit_record.specs.Layout.{twoBytes, recordLength, placeLength};
 ghost use Rattle.edit_record.specs.RecordBytes.{decodeOf, spanOf};
 ghost use Rattle.edit_history.specs.EditsHeld.{mostRecords, editsOf, setsOn};
 ghost use Rattle.edit_history.specs.SurveyForms.{SurveyedOf};
@@ -51,6 +52,18 @@ fn copy_record(d: &mut [u8], src: &[u8])
     }
 }
 
+// The bytes of a plain record into d: from a copy, since a processor moves those many at a time.
+fn put_whole(d: &mut [u8], whole: [u8; RECORD])
+    requires { ⌜ length (now d) ≡ recordLength ⌝ }
+    ensures { λ r. ⌜ now (d .exit) ≡ whole ⌝ }
+{
+    let mut i: usize = 0;
+    while i < RECORD {
+        d[i] = whole[i];
+        i += 1;
+    }
+}
+
 // The record rec at the front of place p.
 fn put_record(recs: &mut [u8], p: usize, rec: &[u8])
     requires { ⌜ (p < mostRecords)
@@ -64,8 +77,18 @@ fn put_record(recs: &mut [u8], p: usize, rec: &[u8])
     copy_record(&mut recs[at..end], rec);
 }
 
+// A plain record at the front of place p.
+pub fn put_plain(recs: &mut [u8], p: usize, rec: [u8; RECORD])
+    requires { ⌜ (p < mostRecords) × (length (now recs) ≡ recordsLength) ⌝ }
+    ensures { λ r. ⌜ now (recs .exit) ≡ putRecord (now (recs .entry)) p rec ⌝ }
+{
+    let at = p * PLACE;
+    let end = at + RECORD;
+    put_whole(&mut recs[at..end], rec);
+}
+
 // The number of Sets and the number of groups in the entry of object o.
-fn put_counts(objects: &mut [u16], o: usize, k: u16, g: u16)
+pub fn put_counts(objects: &mut [u16], o: usize, k: u16, g: u16)
     requires { ⌜ (o < mostObjects) × (length (now objects) ≡ objectsLength) ⌝ }
     ensures { λ r. ⌜ now (objects .exit) ≡ putCounts (now (objects .entry)) o k g ⌝ }
 {
@@ -75,7 +98,7 @@ fn put_counts(objects: &mut [u16], o: usize, k: u16, g: u16)
 }
 
 // The entry of a new object o: the place of its Create, no Sets, and one group.
-fn put_object(objects: &mut [u16], o: usize, p: u16)
+pub fn put_object(objects: &mut [u16], o: usize, p: u16)
     requires { ⌜ (o < mostObjects) × (length (now objects) ≡ objectsLength) ⌝ }
     ensures { λ r. ⌜ now (objects .exit) ≡ putEntry (now (objects .entry)) o p 0 1 ⌝ }
 {

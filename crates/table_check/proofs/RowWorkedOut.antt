@@ -26,7 +26,7 @@ use Rattle.table_drawing.specs.Tables.{Tables, heldBy, placeAt, setsAt, groupsA
 use Rattle.table_soundness.proofs.SoundFacts.{Sound}
 use Rattle.table_index.specs.IndexForms.{placesOn}
 use Rattle.table_index.proofs.PlacesOfSets.{places-sets, places-length}
-use Rattle.table_sets.specs.ChainForms.{Chained, Gathered}
+use Rattle.table_sets.specs.ChainForms.{Chained, AlongChain}
 use Rattle.table_arrival.specs.Answers6and7.{rowOf}
 use Rattle.group_true.specs.TrueGroups.{groupsOf, trueGroups}
 use Rattle.group_true.proofs.GroupsGrow.{is-maximal, none-part, never-fewer-groups, sets-step}
@@ -123,7 +123,7 @@ module _ (t : Tables) (s : Sound t) (o : ℕ) (l : o < t .counters .objects) (p 
   few-sets = omega (arith, s .object o l .entry .few)
 
   -- what is gathered along the chain are the places of its Sets
-  pub places-are : (ch ms : List ℕ) → Chained rs n ch → Gathered ch p k ms → take k ms ≡ placesOn rs n create
+  pub places-are : (ch ms : List ℕ) → Chained rs n ch → AlongChain ch p k ms → take k ms ≡ placesOn rs n create
   places-are ch ms chained gathered =
       let x = s .object o l .entry in
       gathered (placesOn rs n create) (rw ep (chained create (x .place) (x .create)))

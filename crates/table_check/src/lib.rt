@@ -3,13 +3,14 @@
 // held against the table's.
 use edit_history::RECORDS;
 use edit_walk::PLACES;
+use group_limited::earlier::put_names;
 use group_step::GROUPS;
 use group_step::SETS;
 use table_drawing::Answer;
 use table_drawing::Counters;
 use table_drawing::ENTRY;
 use table_drawing::entries::at16;
-use table_sets::by_key::CHAINS;
+use table_sets::by_key::KEY_CHAINS;
 use table_sets::by_key::take_set;
 ghost use mathlib.Core.Path.{_≡_};
 ghost use mathlib.Core.Bool.{true, false};
@@ -21,7 +22,7 @@ ghost use Rattle.math_lists.specs.SortedLists.{any};
 ghost use Rattle.edit_record.specs.Answer1.{isLimited};
 ghost use Rattle.edit_walk.specs.WalkForms.{Indexed};
 ghost use Rattle.group_step.specs.GroupRows.{mostGroups, mostSets, row};
-ghost use Rattle.group_limited.specs.LimitedForms.{setsIn};
+ghost use Rattle.group_limited.specs.LimitedForms.{setsIn, NamesIn};
 ghost use Rattle.table_drawing.specs.Tables.{tablesOf};
 ghost use Rattle.table_drawing.specs.AnswerNumbers.{numberOf};
 ghost use Rattle.table_soundness.specs.Sound.{sound};
@@ -71,7 +72,7 @@ fn step_plainly(gs: &mut [u64], recs: &[u8], places: &[u16], k: usize) -> usize
         × TellsIn (now recs) (now places) k ⌝ }
     ensures { λ r. ⌜ WorkedOut (groupsIn (now (recs .entry)) (now (places .entry)) k) (now (gs .exit)) r ⌝ }
 {
-    let mut latest = [0u8; CHAINS];
+    let mut latest = [0u8; KEY_CHAINS];
     // what work space holds at first does not matter; zeros would be set by memset (docs/DECISIONS.md, 24)
     let mut earlier = [1u8; SETS];
     let mut tolds = [1u64; SETS];
@@ -89,13 +90,14 @@ fn step_plainly(gs: &mut [u64], recs: &[u8], places: &[u16], k: usize) -> usize
 }
 
 // The same where Sets may be limited: the conflicts of each are told by the rows of those before it, which are put down
-// in `plain` and `ctx`.
+// in `plain` and `ctx`, and by the names of all.
 fn step_limited(
     gs: &mut [u64],
     plain: &mut [u64],
     ctx: &mut [u64],
     recs: &[u8],
     places: &[u16],
+    names: &[u32],
     k: usize,
 ) -> usize
     requires { ⌜ (length (now gs) ≡ mostGroups)
@@ -104,13 +106,15 @@ fn step_limited(
         × (k ≤ length (now ctx))
         × (k ≤ length (now places))
         × (k ≤ mostSets)
-        × ProperInTurn (now recs) (now places) k ⌝ }
+        × ProperInTurn (now recs) (now places) k
+        × (k ≤ length (now names))
+        × NamesIn (now recs) (now places) k (now names) ⌝ }
     ensures { λ r. ⌜ WorkedOut (groupsIn (now (recs .entry)) (now (places .entry)) k) (now (gs .exit)) r ⌝ }
 {
     let mut n: usize = 1;
     let mut i: usize = 0;
     while i < k {
-        let t = group_limited::told_at(recs, places, i, plain, ctx, places[i]);
+        let t = group_limited::told_at(recs, places, names, i, plain, ctx, places[i]);
         n = group_step::step_apart(gs, n, t.conflicts, i);
         if GROUPS < n {
             return n;
@@ -138,7 +142,9 @@ fn work_out(recs: &[u8], places: &[u16], k: usize, gs: &mut [u64]) -> usize
     // what work space holds at first does not matter; zeros would be set by memset (docs/DECISIONS.md, 24)
     let mut plain = [1u64; SETS];
     let mut ctx = [1u64; SETS];
-    step_limited(gs, &mut plain, &mut ctx, recs, places, k)
+    let mut names = [1u32; SETS];
+    put_names(&mut names, recs, places, k);
+    step_limited(gs, &mut plain, &mut ctx, recs, places, &names, k)
 }
 
 // Whether the row of object o has the groups of the object's Sets, which are found by the chain.

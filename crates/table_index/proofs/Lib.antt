@@ -6,3 +6,4 @@ pub mod OneRecordMore
 pub mod SameEdits
 pub mod SurveyByIndex
 pub mod ArrivingSet
+pub mod LookByIndex

@@ -66,7 +66,7 @@ none-numbered rs = refl
 
 module _ (c : Counters) (rs : List ℕ) (h : Holds c rs) (n : ℕ) (l : n < c .records) where
   -- a Set on the Create in place p has the identity of that Create for its target
-  on-target :
+  pub on-target :
       (p q : ℕ) → isOn rs p q ≡ true →
       (isSet (recordAt rs q) ≡ true)
       × (recordAt rs q .tsite .0 ≡ recordAt rs p .site .0)

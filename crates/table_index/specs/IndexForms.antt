@@ -3,7 +3,7 @@
 -- how many Sets it has (cs) and its Sets of each key as a chain (hs), from the latest one back. No one need believe it:
 -- laws in proofs/ tie it to `EditsHeld`. Assumes nothing.
 use mathlib.Core.Path.{_≡_}
-use mathlib.Core.Bool.{Bool, true, _&&_, not, cond}
+use mathlib.Core.Bool.{Bool, true, false, _&&_, not, cond}
 use mathlib.Core.List.{List, map}
 use Prim.Native.Nat.{ℕ, zero, suc, _+_, _*_, _≤_, _<_}
 use lib.Dec.{eqb}
@@ -14,16 +14,18 @@ use Rattle.edit_record.specs.declared.Site.{Site}
 use Rattle.edit_record.specs.declared.Seq.{Seq}
 use Rattle.edit_record.specs.Layout.{mostSites, keys, limitedKind}
 use Rattle.edit_record.specs.declared.Edit.{Edit}
-use Rattle.edit_record.specs.Answer1.{isCreate, isLimited}
+use Rattle.edit_record.specs.Answer1.{isCreate, isSet, isLimited}
 use Rattle.edit_causal.specs.Causal.{hasSeen}
 use Rattle.edit_causal.specs.ConflictForms.{plainMarks}
 use Rattle.edit_causal.specs.ShownValue.{shownValue}
 use Rattle.edit_history.specs.EditsHeld.{mostRecords, recordAt, editsOf, creates, isSetOn, setsOn, isTarget}
-use Rattle.edit_history.specs.Answers2to5.{recordsPass}
+use Rattle.edit_history.specs.EditsHeld.{objectOf}
+use Rattle.edit_history.specs.Answers2to5.{passes, recordsPass}
 use Rattle.edit_history.specs.SurveyForms.{Counted}
-use Rattle.edit_walk.specs.WalkForms.{placesLength, Indexed, inTurnAgainst}
+use Rattle.edit_walk.specs.WalkForms.{placesLength, placeOf, Indexed, inTurnAgainst}
 use Rattle.group_step.specs.GroupRows.{mostObjects, mostSets}
 use Rattle.table_drawing.specs.declared.Counters.{Counters}
+use Rattle.table_index.specs.declared.Looked.{Looked}
 use Rattle.table_index.specs.declared.Mates.{Mates}
 
 -- the number of the object whose Create stands in place p: how many Creates stand before it
@@ -135,3 +137,26 @@ unseenOther a e x =
 -- the Sets among the first n on the Create in place q that are in conflict with e by document 01's rule
 abbrev pub marksOn : List ℕ → ℕ → ℕ → Edit → ℕ
 marksOn rs n q e = plainMarks e (map (recordAt rs) (placesOn rs n q))
+
+-- ---- a record that is looked at
+
+-- counters by their parts
+abbrev pub countersOf : ℕ → ℕ → ℕ → List ℕ → ℕ → Counters
+countersOf sites n m held sum = record { sites = sites; records = n; objects = m; held = held; sum = sum }
+
+-- what is found of a Set e after the first n records, none of whose object's Sets is limited
+pub record FoundOf (rs : List ℕ) (n : ℕ) (ps ns cs : List ℕ) (e : Edit) (r : Looked) : Type 0 where
+  pub object : r .object ≡ objectOf e (editsOf rs n)
+  pub number : r .object ≡ getD ns (placeOf ps (e .tsite .0) (e .tseq .0)) 0
+  pub count : r .sets ≡ getD cs (r .object) 0
+  pub sets : r .sets ≡ length (setsOn (e .tsite) (e .tseq) (editsOf rs n))
+  pub room : r .sets < mostSets
+  pub conflicts : r .conflicts ≡ plainMarks e (setsOn (e .tsite) (e .tseq) (editsOf rs n))
+  pub unlimited : any isLimited (setsOn (e .tsite) (e .tseq) (editsOf rs n)) ≡ false
+
+-- an edit e to which none of 1 to 6 is given after the first n records, of which m are Creates
+pub record FitOf (sites n m : ℕ) (rs ps ns cs : List ℕ) (e : Edit) (r : Looked) : Type 0 where
+  pub plain : isLimited e ≡ false
+  pub pass : passes sites (editsOf rs n) e ≡ true
+  pub create-room : isCreate e ≡ true → m < mostObjects
+  pub set : isSet e ≡ true → FoundOf rs n ps ns cs e r

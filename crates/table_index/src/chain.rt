@@ -88,7 +88,14 @@ fn is_unseen_at(recs: &[u8], p: usize, rec: &[u8], x: u32) -> bool
 
 // Those of the Sets on the Create in place q, among the first n records, that are in conflict with an arriving Set on
 // it by document 01's rule: they are along the chain of its key.
-fn marks_along(recs: &[u8], n: usize, numbers: &[u8], chains: &[u8], q: usize, rec: &[u8]) -> u64
+pub fn marks_along(
+    recs: &[u8],
+    n: usize,
+    numbers: &[u8],
+    chains: &[u8],
+    q: usize,
+    rec: &[u8],
+) -> u64
     requires { ⌜ ((c : Counters) × Holds c (now recs) × (c .records ≡ n) × Arriving c (now recs) q (decodeOf (now rec)))
         × (mostRecords * placeLength ≤ length (now recs))
         × ChainsOf (now recs) n (now numbers) (now chains)

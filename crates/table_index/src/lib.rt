@@ -2,6 +2,7 @@
 // many Sets it has and a chain of those of each key. By it an arriving edit is surveyed without being held against
 // every record: a Set is held against those of its own key alone, from the latest one back.
 pub mod chain;
+pub mod plain;
 
 use edit_history::Surveyed;
 use edit_record::AT_KEY;
@@ -46,8 +47,17 @@ pub struct Aim {
     pub held: bool,
 }
 
+// Whether none of 1 to 6 is given to a record that is not limited, as far as it is looked at; and of a Set the number
+// of its object, how many Sets that has, and which of them conflict with it, bit i for the i-th.
+pub struct Looked {
+    pub ok: bool,
+    pub object: usize,
+    pub sets: usize,
+    pub conflicts: u64,
+}
+
 // Puts the Set in place p, of this kind and key, into its chain of object o, and counts it.
-fn add_set(
+pub fn add_set(
     p: usize,
     o: usize,
     kind: u8,

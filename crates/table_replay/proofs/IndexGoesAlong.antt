@@ -42,13 +42,13 @@ module _
   is-taken = was-taken t t′ b a .1
 
   -- one record more
-  grown : t′ .records ≡ putRecord (t .records) (t .counters .records) b
+  pub grown : t′ .records ≡ putRecord (t .records) (t .counters .records) b
   grown = ap (λ (u : Tables). u .records) is-taken ∙ taken-records t b .0
 
   pub counted-on : t′ .counters .records ≡ t .counters .records + 1
   counted-on = ap (λ (u : Tables). u .counters .records) is-taken ∙ taken-records t b .1
 
-  has-room : Room (t .records) (t .counters .records) b
+  pub has-room : Room (t .records) (t .counters .records) b
   has-room = room t b (sound-at t s) wide (accepted t b answered .admitted)
 
   -- those before it are as they were

@@ -3,3 +3,5 @@ pub mod ReplayGoes
 pub mod OwnRecords
 pub mod RoomForAll
 pub mod IndexGoesAlong
+pub mod PlainGoes
+pub mod ShortOrLong

@@ -6,18 +6,19 @@ use mathlib.Core.Bool.{Bool, true, cond}
 use mathlib.Core.List.{List}
 use Prim.Native.Nat.{ℕ, zero, suc, _<_}
 use native.Mathlib.Omega.{arith}
-use lib.ListN.{length}
+use lib.ListN.{length, replicate}
 use lib.Dec.{eqb, leb}
 use borrow.Author.Tests.{leb-true, ne-eqb}
 use Rattle.math_lists.proofs.Booleans.{both}
 use Rattle.math_lists.proofs.LastBelow.{last}
 use Rattle.edit_record.specs.Layout.{mostSites}
 use Rattle.table_drawing.specs.Tables.{Tables, emptyDrawing, recordsLength, objectsLength, groupsLength, lengthsRight}
-use Rattle.table_drawing.specs.Tables.{sitesRight}
+use Rattle.table_drawing.specs.Tables.{tablesOf, sitesRight}
 use Rattle.table_drawing.specs.AnswerNumbers.{Outcome, outcomeOf}
 use Rattle.table_soundness.specs.Sound.{sound}
 use Rattle.table_drawing.specs.Opening.{openingOf}
 use Rattle.table_soundness.proofs.SoundFacts.{sound-on}
+use Rattle.table_index.specs.IndexForms.{countersOf}
 use Rattle.table_arrival.specs.Arrival.{acceptanceOf}
 use Rattle.table_arrival.proofs.Faithful.{Faithful, acceptance-faithful}
 use Rattle.table_replay.specs.Replay.{Replayed, replayed, replayOf}
@@ -43,13 +44,15 @@ pub opened :
 unfolding openingOf
 opened t t′ a sites l s h = ap (λ (o : Outcome). o .after) (rw (l, s) at h)
 
-pub opened-sites : (t : Tables) (sites : ℕ) → t ≡ emptyDrawing sites → t .counters .sites ≡ sites
+-- with counters that are known by their parts
+pub opened-parts :
+    (t : Tables) (sites : ℕ) → t ≡ emptyDrawing sites →
+    tablesOf (countersOf sites 0 0 (replicate mostSites 0) 0) (t .records) (t .objects) (t .groups)
+    ≡ emptyDrawing sites
 unfolding emptyDrawing
-opened-sites t sites h = ap (λ (x : Tables). x .counters .sites) h
-
-pub opened-records : (t : Tables) (sites : ℕ) → t ≡ emptyDrawing sites → t .counters .records ≡ 0
-unfolding emptyDrawing
-opened-records t sites h = ap (λ (x : Tables). x .counters .records) h
+opened-parts t sites h =
+    ap (λ (x : Tables). tablesOf (countersOf sites 0 0 (replicate mostSites 0) 0) (x .records) (x .objects) (x .groups))
+    h
 
 pub going-start : (sites : ℕ) (rs : ℕ → List ℕ) (t : Tables) → t ≡ emptyDrawing sites → Going sites rs 0 t
 unfolding replayOf

@@ -1,18 +1,24 @@
 -- Forms that the code uses: what a record is taken by, and what that leaves. No one need believe them: laws in proofs/
 -- tie them to `Replay`. Assumes nothing.
-use Prim.Native.Nat.{ℕ}
+use Prim.Native.Nat.{ℕ, _-_, _^_, _≤_, _<_}
 use mathlib.Core.Path.{_≡_}
-use mathlib.Core.Bool.{true}
+use mathlib.Core.Bool.{Bool, true, false}
 use mathlib.Core.List.{List, [], _∷_, _++_}
-use lib.ListN.{length}
-use Rattle.edit_record.specs.Layout.{mostSites}
+use lib.ListN.{length, getD, take, drop, replicate}
+use Rattle.math_lists.specs.SortedLists.{elem, Ascending}
+use Rattle.math_maximal.specs.Step.{step}
+use Rattle.edit_record.specs.Layout.{mostSites, keys}
+use Rattle.edit_record.specs.Answer1.{isLimited}
 use Rattle.edit_record.specs.RecordBytes.{decodeOf}
-use Rattle.edit_history.specs.EditsHeld.{countFrom}
-use Rattle.edit_walk.specs.WalkForms.{Spaced, SameStarts}
-use Rattle.table_drawing.specs.Tables.{Tables, heldBy}
+use Rattle.edit_history.specs.EditsHeld.{mostRecords, countFrom}
+use Rattle.edit_walk.specs.WalkForms.{Spaced, SameStarts, slotOf}
+use Rattle.group_step.specs.GroupRows.{mostObjects, mostSets, mostGroups, row, putRow, settled}
+use Rattle.group_step.specs.StepForms.{Apart}
+use Rattle.table_drawing.specs.Tables.{Tables, heldBy, groupsAt, recordsLength, objectsLength, groupsLength}
 use Rattle.table_drawing.specs.AnswerNumbers.{outcomeOf}
 use Rattle.table_soundness.specs.Sound.{sound}
-use Rattle.table_index.specs.IndexForms.{IndexOf}
+use Rattle.table_index.specs.IndexForms.{IndexOf, chainsLength}
+use Rattle.table_index.specs.declared.Looked.{Looked}
 use Rattle.table_arrival.specs.Arrival.{acceptanceOf}
 use Rattle.table_arrival.specs.ArrivalForms.{RowsApart}
 
@@ -29,3 +35,62 @@ pub record Leaves (t : Tables) (b : List ℕ) (a : ℕ) (u : Tables) (before ps 
   pub outcome : outcomeOf a u ≡ acceptanceOf t b
   pub index : a ≡ 0 → IndexOf (u .records) (u .counters .records) ps ns cs hs
   pub starts : a ≡ 0 → SameStarts before ps
+
+-- ---- the short way of a record that is not limited
+
+-- what it asks of the tables t, of the index of their records and of the record b, if that is not limited
+pub record TakesPlain (t : Tables) (ps ns cs hs b : List ℕ) : Type 0 where
+  pub isSound : sound t ≡ true
+  pub wide : length (t .counters .held) ≡ mostSites
+  pub index : IndexOf (t .records) (t .counters .records) ps ns cs hs
+  pub apart : RowsApart t
+  pub few : t .counters .records < mostRecords
+  pub room : isLimited (decodeOf b) ≡ false → Spaced (λ s. countFrom s (heldBy t ++ (decodeOf b ∷ []))) ps
+
+-- what it leaves, where it took the record; else all is as it was
+pub record LeavesPlain (t : Tables) (b : List ℕ) (ok : Bool) (u : Tables) (ps ns cs hs ps′ ns′ cs′ hs′ : List ℕ) :
+    Type 0 where
+  pub plain : ok ≡ true → isLimited (decodeOf b) ≡ false
+  pub taken : ok ≡ true → Leaves t b 0 u ps ps′ ns′ cs′ hs′
+  pub tables : ok ≡ false → u ≡ t
+  pub index : ok ≡ false → (ps′ ≡ ps) × (ns′ ≡ ns) × (cs′ ≡ cs) × (hs′ ≡ hs)
+
+-- the place of the record b in the index ps
+abbrev pub spotOf : List ℕ → List ℕ → ℕ
+spotOf ps b = slotOf ps (decodeOf b .site .0) (decodeOf b .seq .0)
+
+-- what putting the record b into place n asks of the counts, the records and the index
+pub record Enters (held rs : List ℕ) (n : ℕ) (ps b : List ℕ) : Type 0 where
+  pub room : n < mostRecords
+  pub records-long : length rs ≡ recordsLength
+  pub site : decodeOf b .site .0 < length held
+  pub count : getD held (decodeOf b .site .0) 0 < mostRecords
+  pub spot : spotOf ps b < length ps
+
+-- the groups in use of the object of a Set of which r was found, and those that the step gives
+abbrev pub usedBy : List ℕ → List ℕ → Looked → List ℕ
+usedBy os gs r = take (groupsAt os (r .object)) (row (r .object) gs)
+
+abbrev pub steppedBy : List ℕ → List ℕ → Looked → List ℕ
+steppedBy os gs r = step (r .conflicts) (r .sets) (usedBy os gs r)
+
+-- what storing it asks of the objects, their groups and the index
+pub record Steps (os gs ns cs hs : List ℕ) (key : ℕ) (r : Looked) : Type 0 where
+  pub object : r .object < mostObjects
+  pub sets : r .sets < mostSets
+  pub groups : groupsAt os (r .object) ≤ mostGroups
+  pub ascending : Ascending (usedBy os gs r)
+  pub below : (x : ℕ) → elem x (usedBy os gs r) ≡ true → x < 2 ^ r .sets
+  pub apart : Apart (usedBy os gs r)
+  pub rest : drop (groupsAt os (r .object)) (row (r .object) gs) ≡ replicate (mostGroups - groupsAt os (r .object)) 0
+  pub objects-long : length os ≡ objectsLength
+  pub groups-long : length gs ≡ groupsLength
+  pub numbers-long : length ns ≡ mostRecords
+  pub counts-long : length cs ≡ mostObjects
+  pub chains-long : length hs ≡ chainsLength
+  pub few : key < keys
+  pub count : getD cs (r .object) 0 < mostSets
+
+-- the groups of its object after it
+abbrev pub rowsBy : List ℕ → List ℕ → Looked → List ℕ
+rowsBy os gs r = putRow (r .object) gs (settled (steppedBy os gs r) (row (r .object) gs))

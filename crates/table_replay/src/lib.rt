@@ -1,4 +1,6 @@
 // Records taken one after another from an empty drawing.
+mod plain;
+
 use edit_form::OLD;
 use edit_history::RECORDS;
 use edit_record::SITES;
@@ -12,14 +14,15 @@ use table_index::chain::CHAINS;
 ghost use mathlib.Core.Path.{_≡_};
 ghost use mathlib.Core.Bool.{true};
 ghost use Prim.Native.Nat.{_≤_};
-ghost use lib.ListN.{length};
+ghost use lib.ListN.{length, replicate};
+ghost use Rattle.edit_record.specs.Layout.{mostSites};
 ghost use Rattle.edit_form.specs.OldForm.{lengthFrom, longFrom, startOf, storedIn};
 ghost use Rattle.edit_history.specs.EditsHeld.{mostRecords, countFrom};
 ghost use Rattle.edit_history.specs.SurveyForms.{Counted};
 ghost use Rattle.edit_walk.specs.WalkForms.{Spaced};
 ghost use Rattle.table_drawing.specs.Tables.{tablesOf, emptyDrawing, lengthsRight, sitesRight};
 ghost use Rattle.table_drawing.specs.AnswerNumbers.{numberOf};
-ghost use Rattle.table_index.specs.IndexForms.{IndexOf};
+ghost use Rattle.table_index.specs.IndexForms.{IndexOf, countersOf};
 ghost use Rattle.table_replay.specs.Replay.{replayed, replayOf, editsIn};
 ghost use Rattle.table_replay.specs.ReplayForms.{Takes, Leaves};
 
@@ -147,9 +150,10 @@ fn count_stretch(recs: &[u8], form: u8, n: usize) -> [u16; SITES]
 }
 
 // Takes the first n records of a stretch, one after another, into an empty drawing: the part of the stretch from each
-// record on is handed to its decoder. The index has room for all of them.
+// record on is handed to its decoder. Each goes the short way if it can, else the long one. The index has room for all
+// of them.
 fn take_records(
-    empty: Counters,
+    sites: u8,
     records: &mut [u8],
     objects: &mut [u16],
     groups: &mut [u64],
@@ -161,22 +165,54 @@ fn take_records(
     form: u8,
     n: usize,
 ) -> Taken
-    requires { ⌜ (tablesOf empty (now records) (now objects) (now groups) ≡ emptyDrawing (empty .sites))
-        × IndexOf (now records) (empty .records) (now places) (now numbers) (now counts) (now chains)
+    requires { ⌜ (tablesOf (countersOf sites 0 0 (replicate mostSites 0) 0) (now records) (now objects) (now groups)
+        ≡ emptyDrawing sites)
+        × IndexOf (now records) 0 (now places) (now numbers) (now counts) (now chains)
         × Spaced (λ s. countFrom s (editsIn (storedIn form (now recs)) n)) (now places)
-        × (sitesRight (empty .sites) ≡ true)
+        × (sitesRight sites ≡ true)
         × (n ≤ mostRecords)
         × (startOf form (now recs) n ≤ length (now recs)) ⌝ }
     ensures { λ r. ⌜ replayed (numberOf (r .answer)) (r .index)
         (tablesOf (r .counters) (now (records .exit)) (now (objects .exit)) (now (groups .exit)))
-        ≡ replayOf (empty .sites) (storedIn form (now (recs .entry))) n ⌝ }
+        ≡ replayOf sites (storedIn form (now (recs .entry))) n ⌝ }
 {
-    let mut c = empty;
+    let mut held = [0u16; SITES];
+    let mut m: u16 = 0;
+    let mut sum: u32 = 0;
     let mut at: usize = 0;
     let mut i: usize = 0;
     while i < n {
         let rest = &recs[at..];
         at = at + edit_form::length_from(rest, form);
+        let front = edit_form::front_from(rest, form);
+        let t = plain::take_plain(
+            sites,
+            i,
+            m,
+            sum,
+            &mut held,
+            records,
+            objects,
+            groups,
+            places,
+            numbers,
+            counts,
+            chains,
+            front,
+        );
+        m = t.objects;
+        sum = t.sum;
+        if t.ok {
+            i += 1;
+            continue;
+        }
+        let c = Counters {
+            sites,
+            records: i as u16,
+            objects: m,
+            held,
+            sum,
+        };
         let a = take_one(
             c,
             records,
@@ -198,13 +234,23 @@ fn take_records(
                 counters: next,
             };
         }
-        c = next;
+        let after = next.held;
+        held = after;
+        m = next.objects;
+        sum = next.sum;
         i += 1;
     }
+    let counters = Counters {
+        sites,
+        records: n as u16,
+        objects: m,
+        held,
+        sum,
+    };
     Taken {
         answer: Answer::Done,
         index: 0,
-        counters: c,
+        counters,
     }
 }
 
@@ -235,8 +281,7 @@ pub fn replay(
         held,
         sum: 0,
     };
-    let opened = table_drawing::open(none, records, objects, groups, sites);
-    let empty = opened.counters;
+    table_drawing::open(none, records, objects, groups, sites);
     // what work space holds at first does not matter; zeros would be set by memset (docs/DECISIONS.md, 24)
     let mut places = [1u16; PLACES];
     let mut numbers = [1u8; RECORDS];
@@ -245,7 +290,7 @@ pub fn replay(
     let by_site = count_stretch(recs, form, n);
     edit_walk::space_places(by_site, &mut places);
     take_records(
-        empty,
+        sites,
         records,
         objects,
         groups,

@@ -7,7 +7,7 @@ use native.Mathlib.Omega.{arith}
 use native.Mathlib.Numerals.{add-one}
 use lib.ListN.{length, getD, take, drop, set}
 use lib.Seq.{take-suc, take-suc-set, drop-cons, take-all}
-use Rattle.table_sets.specs.ChainForms.{Reaches, Gathered}
+use Rattle.table_sets.specs.ChainForms.{Reaches, AlongChain}
 
 -- of any places l that the chain goes through from p, k of them: the first i are put down in ms, and the chain goes on
 -- from x
@@ -29,6 +29,6 @@ followed-more ch p k i x y ms few fits e h l r long =
     )
 
 pub followed-all :
-    (ch : List ℕ) (p k i x : ℕ) (ms : List ℕ) → i ≡ k → FollowedTo ch p k i x ms → Gathered ch p k ms
+    (ch : List ℕ) (p k i x : ℕ) (ms : List ℕ) → i ≡ k → FollowedTo ch p k i x ms → AlongChain ch p k ms
 followed-all ch p k i x ms e h l r long =
     ap (λ (j : ℕ). take j ms) (sym e) ∙ h l r long .0 ∙ take-all i l (omega arith)

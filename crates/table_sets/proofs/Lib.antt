@@ -1,4 +1,3 @@
-pub mod NumbersFrom
 pub mod OneSetLinked
 pub mod Followed
 pub mod MarksByKey

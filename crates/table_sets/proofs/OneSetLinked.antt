@@ -20,7 +20,7 @@ use Rattle.table_soundness.specs.SoundnessForms.{Targeted}
 use Rattle.table_soundness.proofs.SetTallies.{aims-is}
 use Rattle.table_index.specs.IndexForms.{isOn, placesOn}
 use Rattle.table_sets.specs.ChainForms.{Reaches, Chained}
-use Rattle.table_sets.proofs.NumbersFrom.{from, Above, from-above, from-first, from-more, from-same, from-none}
+use Rattle.group_named.proofs.NumbersFrom.{from, Above, from-above, from-first, from-more, from-same, from-none}
 
 -- ---- what is written elsewhere
 

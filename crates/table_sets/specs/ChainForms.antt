@@ -20,5 +20,5 @@ abbrev pub Chained : List ℕ → ℕ → List ℕ → Type 0
 Chained rs n ch = (p : ℕ) → p < n → isCreate (recordAt rs p) ≡ true → Reaches ch p (placesOn rs n p)
 
 -- the places that it goes through from p stand at the front of ms, where they are k
-abbrev pub Gathered : List ℕ → ℕ → ℕ → List ℕ → Type 0
-Gathered ch p k ms = (l : List ℕ) → Reaches ch p l → length l ≡ k → take k ms ≡ l
+abbrev pub AlongChain : List ℕ → ℕ → ℕ → List ℕ → Type 0
+AlongChain ch p k ms = (l : List ℕ) → Reaches ch p l → length l ≡ k → take k ms ≡ l

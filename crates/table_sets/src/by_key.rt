@@ -5,12 +5,13 @@ use edit_causal::shown;
 use edit_record::AT_KEY;
 use edit_record::AT_SEQ;
 use edit_record::AT_SITE;
+use edit_record::AT_VALUE;
 use edit_record::KEYS;
 use edit_record::PLACE;
-use edit_record::RECORD;
 use edit_record::SITES;
 use edit_record::Seq;
 use edit_record::Site;
+use edit_record::VALUES;
 use group_step::SETS;
 ghost use mathlib.Core.Path.{_≡_};
 ghost use Prim.Native.Nat.{ℕ, _+_, _≤_, _<_};
@@ -27,17 +28,12 @@ ghost use Rattle.table_sets.specs.KeyForms.{setAt, chainOf, unlike, Tell
 ghost use Rattle.table_sets.specs.KeyForms.{DisputedBy, LastOf, NotedTo, LinkedTo};
 
 // The chains of an object's Sets: one for each key.
-pub const CHAINS: usize = KEYS as usize;
+pub const KEY_CHAINS: usize = KEYS as usize;
 
-// The values that four bytes have, and the sequence numbers and sites that two and one have.
-const VALUES: u64 = 4294967296;
+// A name as a number, of 64 bits.
+const SEQ_NUMBERS: u64 = edit_record::SEQ_NUMBERS as u64;
 
-const SEQ_NUMBERS: u64 = 65536;
-
-const SITE_NUMBERS: u64 = 256;
-
-// A record ends with its value, of four bytes, but that a limited Set goes on.
-const AT_VALUE: usize = RECORD - 4;
+const SITE_NUMBERS: u64 = edit_record::SITE_NUMBERS as u64;
 
 // What a later Set is told of the one in place p, whose key is known, as one number.
 fn told_at(recs: &[u8], p: u16, key: u8) -> u64
@@ -136,7 +132,7 @@ pub fn disputed_in(recs: &[u8], places: &[u16], t: usize) -> u64
     requires { ⌜ (t ≤ length (now places)) × (t ≤ mostSets) × TellsIn (now recs) (now places) t ⌝ }
     ensures { λ r. ⌜ DisputedBy (now (recs .entry)) (now (places .entry)) t r ⌝ }
 {
-    let mut latest = [0u8; CHAINS];
+    let mut latest = [0u8; KEY_CHAINS];
     // what work space holds at first does not matter; zeros would be set by memset (docs/DECISIONS.md, 24)
     let mut earlier = [1u8; SETS];
     let mut tolds = [1u64; SETS];

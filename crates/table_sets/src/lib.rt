@@ -10,7 +10,7 @@ ghost use lib.ListN.{length, getD, set};
 ghost use Rattle.edit_history.specs.EditsHeld.{mostRecords};
 ghost use Rattle.edit_walk.specs.WalkForms.{Indexed};
 ghost use Rattle.table_soundness.specs.SoundnessForms.{Targeted};
-ghost use Rattle.table_sets.specs.ChainForms.{Chained, Gathered};
+ghost use Rattle.table_sets.specs.ChainForms.{Chained, AlongChain};
 
 // Puts the Set in place q before those on the Create in place p that are in the chain.
 fn link(chain: &mut [u16], p: usize, q: usize)
@@ -45,7 +45,7 @@ pub fn chain_sets(recs: &[u8], n: usize, places: &[u16], chain: &mut [u16])
 // Puts the k places that the chain goes through from p, a Create's, at the front of members.
 pub fn gather_sets(chain: &[u16], p: usize, k: usize, members: &mut [u16])
     requires { ⌜ k ≤ length (now members) ⌝ }
-    ensures { λ r. ⌜ Gathered (now (chain .entry)) p k (now (members .exit)) ⌝ }
+    ensures { λ r. ⌜ AlongChain (now (chain .entry)) p k (now (members .exit)) ⌝ }
 {
     let mut at = p;
     let mut i: usize = 0;

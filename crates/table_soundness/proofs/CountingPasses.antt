@@ -7,7 +7,7 @@ use native.Mathlib.Omega.{arith}
 use native.Mathlib.Numerals.{add-one}
 use native.Mathlib.Decide.{ℕ-discrete}
 use lib.Dec.{eqb}
-use lib.ListN.{getD, set, length, replicate, getD-replicate}
+use lib.ListN.{getD, set, length, length-set, replicate, length-replicate, getD-replicate}
 use lib.Seq.{getD-set-same, getD-set-other}
 use borrow.Author.Tests.{ne-eqb}
 use borrow.Author.Count.{below-more}
@@ -18,7 +18,7 @@ use Rattle.edit_record.specs.Answer1.{isCreate, isSet}
 use Rattle.edit_history.specs.EditsHeld.{recordAt, editsOf, creates, mostRecords}
 use Rattle.edit_history.proofs.EditsHeld.{chosen-more, chosen-few}
 use Rattle.edit_walk.specs.WalkForms.{placeOf}
-use Rattle.table_soundness.specs.SoundnessForms.{Targeted, Numbered}
+use Rattle.table_soundness.specs.SoundnessForms.{Targeted, CreatesBefore, aimsAt, Tallying}
 
 -- ---- those of the first n records that pass f
 
@@ -45,10 +45,10 @@ creates-le rs n = chosen-few isCreate rs n
 
 pub numbered-more :
     (rs ns : List ℕ) (n k : ℕ) →
-    Numbered rs n ns →
+    CreatesBefore rs n ns →
     k ≡ length (creates (editsOf rs n)) →
     n < length ns →
-    Numbered rs (n + 1) (set ns n k)
+    CreatesBefore rs (n + 1) (set ns n k)
 numbered-more rs ns n k h e l =
     below-more (λ p. getD (set ns n k) p 0 ≡ length (creates (editsOf rs p))) n
     (λ p m. getD-set-other ns n p k 0 (λ q. absurd (omega arith)) ∙ h p m)
@@ -56,17 +56,9 @@ numbered-more rs ns n k h e l =
 
 -- ---- the Sets, by the index ps of places
 
--- e is a Set, and the index ps has its target in place p
-abbrev pub aimsAt : List ℕ → ℕ → Edit → Bool
-aimsAt ps p e = isSet e && eqb (placeOf ps (e .tsite .0) (e .tseq .0)) p
-
--- ts has how many of the first n records are Sets that the index ps has aimed at each place
-abbrev pub Aimed : List ℕ → ℕ → List ℕ → List ℕ → Type 0
-Aimed rs n ps ts = (p : ℕ) → p < mostRecords → getD ts p 0 ≡ length (filter (aimsAt ps p) (editsOf rs n))
-
-pub aimed-none : (rs ps : List ℕ) → Aimed rs 0 ps (replicate mostRecords 0)
+pub aimed-none : (rs ps : List ℕ) → Tallying rs 0 ps (replicate mostRecords 0)
 unfolding editsOf filter
-aimed-none rs ps p l = getD-replicate mostRecords p 0 0 l
+aimed-none rs ps = (length-replicate {A = ℕ} mostRecords 0, λ p l. getD-replicate mostRecords p 0 0 l)
 
 -- where the first record does not pass, fewer pass than there are
 chosen-fewer :
@@ -82,12 +74,12 @@ chosen-fewer f rs (suc n) h = rw (chosen-more f rs (suc n)) (go (f (recordAt rs 
 
 -- a tally below the last record has room for one more in a byte
 pub aimed-low :
-    (rs ps ts : List ℕ) (m n p : ℕ) → m ≤ mostRecords → n < m → Targeted rs m → Aimed rs n ps ts → p < mostRecords →
+    (rs ps ts : List ℕ) (m n p : ℕ) → m ≤ mostRecords → n < m → Targeted rs m → Tallying rs n ps ts → p < mostRecords →
     getD ts p 0 + 1 < mostRecords
 aimed-low rs ps ts m zero p few l targets h k =
-    omega (arith, h p k, chosen-few (aimsAt ps p) rs 0)
+    omega (arith, h .1 p k, chosen-few (aimsAt ps p) rs 0)
 aimed-low rs ps ts m (suc n) p few l targets h k =
-    omega (arith, h p k, chosen-fewer (aimsAt ps p) rs n first)
+    omega (arith, h .1 p k, chosen-fewer (aimsAt ps p) rs n first)
   where
     first : aimsAt ps p (recordAt rs 0) ≡ false
     first =
@@ -109,12 +101,13 @@ raise-at ts p q b l = go (ℕ-discrete q p)
 
 pub aimed-more :
     (rs ps ts : List ℕ) (n : ℕ) →
-    length ts ≡ mostRecords →
-    Aimed rs n ps ts →
+    Tallying rs n ps ts →
     let e = recordAt rs n in
     let p = placeOf ps (e .tsite .0) (e .tseq .0) in
-    Aimed rs (n + 1) ps (set ts p (getD ts p 0 + cond (isSet e) 1 0))
-aimed-more rs ps ts n l h q m =
+    Tallying rs (n + 1) ps (set ts p (getD ts p 0 + cond (isSet e) 1 0))
+aimed-more rs ps ts n (l, h) =
     let e = recordAt rs n in
-    raise-at ts (placeOf ps (e .tsite .0) (e .tseq .0)) q (isSet e) (omega arith)
-    ∙ rw (h q m) (sym (count-more (aimsAt ps q) rs n))
+    let p = placeOf ps (e .tsite .0) (e .tseq .0) in (
+      simp length-set l,
+      λ q m. raise-at ts p q (isSet e) (omega (arith, l)) ∙ rw (h q m) (sym (count-more (aimsAt ps q) rs n)),
+    )

@@ -6,3 +6,4 @@ pub mod EachObject
 pub mod SoundFacts
 pub mod ObjectsByNumber
 pub mod SoundTests
+pub mod GatheredSoFar

@@ -16,8 +16,7 @@ use Rattle.edit_record.specs.declared.Edit.{Edit}
 use Rattle.edit_record.specs.Answer1.{isSet}
 use Rattle.edit_history.specs.EditsHeld.{recordAt, editsOf, isSetOn, setsOn, mostRecords}
 use Rattle.edit_causal.specs.Causal.{sameEdit}
-use Rattle.table_soundness.specs.SoundnessForms.{Targeted, Tallied}
-use Rattle.table_soundness.proofs.CountingPasses.{aimsAt, Aimed}
+use Rattle.table_soundness.specs.SoundnessForms.{Targeted, Tallied, aimsAt, Tallying}
 
 -- ---- tests of records
 
@@ -69,10 +68,10 @@ module _ (rs ps : List ℕ) (n : ℕ) (index : Indexed rs n ps) (targets : Targe
       aimsAt ps q (recordAt rs p) ≡ isSetOn (recordAt rs q .site) (recordAt rs q .seq) (recordAt rs p)
   aims-is q p l m = same-test _ _ (aimed-on q p m) (on-aimed q p l)
 
-  pub tallied : (ts : List ℕ) → n ≤ mostRecords → Aimed rs n ps ts → Tallied rs n ts
+  pub tallied : (ts : List ℕ) → n ≤ mostRecords → Tallying rs n ps ts → Tallied rs n ts
   unfolding setsOn
   tallied ts l h q m =
-      h q (omega arith)
+      h .1 q (omega arith)
       ∙ ap length
       (filter-agree (aimsAt ps q) (isSetOn (recordAt rs q .site) (recordAt rs q .seq)) rs n
       (λ p o. aims-is q p m o))

@@ -1,24 +1,26 @@
 -- The tests of soundness put together. Assumes nothing.
-use mathlib.Core.Path.{_≡_, refl, sym, ap, _∙_}
+use mathlib.Core.Path.{_≡_, refl, sym, ap}
 use mathlib.Core.Bool.{Bool, true, false, not, _&&_, _||_, and-assoc, and-true, and-false, or-false}
 use mathlib.Core.List.{List}
 use Prim.Native.Nat.{ℕ, _*_, _≤_, _<_}
+use native.Mathlib.Omega.{arith}
 use lib.Dec.{eqb, leb, ltb}
 use lib.ListN.{getD, length}
 use borrow.Author.Tests.{eqb-true, leb-true, lt-ltb, le-ltb, le-leb, lt-leb, not-false}
-use Rattle.math_lists.specs.NumbersBelow.{all}
-use Rattle.math_lists.proofs.Booleans.{both}
+use Rattle.math_lists.specs.NumbersBelow.{all, sum}
+use Rattle.math_lists.proofs.Booleans.{clash, off, both}
 use Rattle.math_lists.proofs.NumbersBelow.{all-same, all-at}
 use Rattle.edit_record.specs.Layout.{mostSites, placeLength}
 use Rattle.edit_record.proofs.WellFormed.{set-aimed}
 use Rattle.edit_history.specs.Answers2to5.{recordsPass}
 use Rattle.edit_history.specs.Answer16.{recordsNamed}
-use Rattle.edit_history.specs.EditsHeld.{mostRecords, recordAt, creates, countFrom}
+use Rattle.edit_history.specs.EditsHeld.{mostRecords, recordAt, editsOf, creates, countFrom}
 use Rattle.edit_sum.specs.WordSum.{sumHeld}
 use Rattle.edit_walk.specs.declared.Walked.{Walked}
 use Rattle.edit_walk.specs.WalkForms.{WalkedOver}
-use Rattle.edit_history.proofs.EditsHeld.{target-parts}
+use Rattle.edit_history.proofs.EditsHeld.{edits-length, target-parts}
 use Rattle.edit_history.proofs.RecordsPassed.{target-before}
+use Rattle.edit_walk.proofs.RoomInIndex.{counted-in-all}
 use Rattle.group_step.specs.GroupRows.{mostObjects, mostGroups}
 use Rattle.table_drawing.specs.declared.Counters.{Counters}
 use Rattle.table_drawing.specs.Tables.{Tables, entryLength, heldBy, recordsLength, objectsLength, groupsLength}
@@ -26,6 +28,7 @@ use Rattle.table_drawing.specs.Tables.{lengthsRight, sitesRight}
 use Rattle.table_soundness.specs.Sound.{withinLimits, countsAgree, objectSound, zeroFrom, restZero, sound}
 use Rattle.table_soundness.specs.SoundnessForms.{Targeted, FewSets, Passed}
 use Rattle.table_soundness.proofs.EachObject.{object-at}
+use Rattle.table_soundness.proofs.SoundFacts.{sound-at}
 use Rattle.table_soundness.proofs.ObjectsByNumber.{entered-sets-few}
 
 -- ---- an entry
@@ -87,10 +90,27 @@ pub past-limits : (t : Tables) → withinLimits (t .counters) ≡ false → soun
 unfolding sound
 past-limits t h = rw (h, and-false (lengthsRight (t .records) (t .objects) (t .groups)))
 
-pub not-passing :
-    (t : Tables) → recordsPass (t .counters .sites) (t .records) (t .counters .records) ≡ false → sound t ≡ false
-unfolding sound
-not-passing t h = simp (h, and-false)
+-- more edits in all than there are records
+pub crowded :
+    (t : Tables) → leb (sum mostSites (λ s. getD (t .counters .held) s 0)) mostRecords ≡ false → sound t ≡ false
+crowded t h =
+    off (sound t) (λ y.
+    let s = sound-at t y in
+    let es = editsOf (t .records) (t .counters .records) in
+    let fits = counted-in-all (t .counters .held) es (s .held) in
+    let long = edits-length (t .records) (t .counters .records) in
+    let few : sum mostSites (λ s. getD (t .counters .held) s 0) ≤ mostRecords = omega (arith, fits, long, s .few-records) in
+    clash (le-leb (sum mostSites (λ s. getD (t .counters .held) s 0)) mostRecords few) h)
+
+-- records that do not pass, or more of a site than are counted
+pub not-walked :
+    (t : Tables) (w : Walked) (ps : List ℕ) →
+    WalkedOver (t .counters .sites) (λ s. getD (t .counters .held) s 0) (t .records) (t .counters .records) w ps →
+    w .ok ≡ false → sound t ≡ false
+not-walked t w ps over h =
+    off (sound t) (λ y.
+    let s = sound-at t y in
+    over .refused h (s .pass) (λ x l. omega (arith, s .held x l)))
 
 -- ---- what the walk gives
 
@@ -104,10 +124,11 @@ targeted sites rs n pass p l h =
 
 pub walk-passed :
     (t : Tables) (w : Walked) (ps : List ℕ) → lengthsRight (t .records) (t .objects) (t .groups) ≡ true →
-    withinLimits (t .counters) ≡ true → WalkedOver (t .counters .sites) (t .records) (t .counters .records) w ps →
+    withinLimits (t .counters) ≡ true →
+    WalkedOver (t .counters .sites) (λ s. getD (t .counters .held) s 0) (t .records) (t .counters .records) w ps →
     w .ok ≡ true → Passed t (w .held) ps
 walk-passed t w ps lengths limits over ok =
-    let pass : recordsPass (t .counters .sites) (t .records) (t .counters .records) ≡ true = sym (over .ok) ∙ ok in
+    let pass : recordsPass (t .counters .sites) (t .records) (t .counters .records) ≡ true = over .passed ok in
     record {
       lengths = lengths;
       limits = limits;
@@ -149,19 +170,22 @@ module _ (t : Tables) (hs ps : List ℕ) (w : Passed t hs ps) where
   rests? = all (t .counters .records) (restZero (t .records))
 
   pub rest-is :
-      (counts? && added? && (made? && each?) && zero? && rests? && recordsNamed (t .records) (t .counters .records))
-      ≡ sound t
+      rests? ≡ true →
+      (counts? && added? && made? && each? && zero? && recordsNamed (t .records) (t .counters .records)) ≡ sound t
   unfolding sound countsAgree
-  rest-is = rw (same-counts, w .lengths, w .limits, w .pass) (simp (and-assoc, and-true))
+  rest-is h = rw (same-counts, w .lengths, w .limits, w .pass, h) (simp (and-assoc, and-true))
 
-  -- where it holds no object has too many Sets
-  pub rest-few :
-      (counts? && added? && (made? && each?) && zero? && rests?) ≡ true → FewSets (t .records) (t .counters .records)
+  -- a place that is not zero past its record
+  pub rest-wrong : rests? ≡ false → false ≡ sound t
+  unfolding sound
+  rest-wrong h = sym (simp (h, and-false))
+
+  -- where all of that holds no object has too many Sets
+  pub rest-few : (counts? && added? && made? && each? && zero?) ≡ true → FewSets (t .records) (t .counters .records)
   rest-few h =
-      let (h2, _) = both (counts? && added? && (made? && each?) && zero?) rests? h in
-      let (h1, _) = both (counts? && added? && (made? && each?)) zero? h2 in
-      let (_, objects) = both (counts? && added?) (made? && each?) h1 in
-      let (made, each) = both made? each? objects in
+      let (h1, _) = both (counts? && added? && made? && each?) zero? h in
+      let (h2, each) = both (counts? && added? && made?) each? h1 in
+      let (_, made) = both (counts? && added?) made? h2 in
       entered-sets-few t (record {
         objects = eqb-true (t .counters .objects) (length (creates (heldBy t))) made;
         pass = w .pass;

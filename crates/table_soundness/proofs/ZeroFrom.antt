@@ -1,17 +1,19 @@
--- The test that every entry of l from k on is zero, as a loop that starts at k makes it. Assumes nothing.
+-- The test that every entry of l from k on is zero, as loops make it: from k on, from the end down, and by two halves.
+-- Assumes nothing.
 use mathlib.Core.Path.{_≡_, refl, sym}
-use mathlib.Core.Bool.{Bool, true, _&&_, _||_}
+use mathlib.Core.Logic.{inl, inr}
+use mathlib.Core.Bool.{Bool, true, _&&_, _||_, and-assoc}
 use mathlib.Core.List.{List}
-use Prim.Native.Nat.{ℕ, _+_, _≤_, _<_}
+use Prim.Native.Nat.{ℕ, _+_, _-_, _≤_, _<_}
 use native.Mathlib.Omega.{arith}
 use native.Mathlib.Numerals.{add-one}
-use native.Mathlib.Decide.{decLt}
+use native.Mathlib.Decide.{ℕ-discrete, decLt}
 use lib.Dec.{eqb, ltb}
 use lib.ListN.{getD, length, List·getD-eq-default}
 use lib.Bits.{bitOr, or-add-and, and-le-l, and-comm}
-use borrow.Author.Tests.{lt-ltb, le-ltb, eq-eqb, eqb-true}
+use borrow.Author.Tests.{lt-ltb, le-ltb, ltb-true, eq-eqb, eqb-true}
 use Rattle.math_lists.specs.NumbersBelow.{all}
-use Rattle.math_lists.proofs.Booleans.{same-test, both, and-on, or-left, or-right}
+use Rattle.math_lists.proofs.Booleans.{same-test, both, either, and-on, or-left, or-right}
 use Rattle.math_lists.proofs.NumbersBelow.{all-on, all-at}
 use Rattle.table_soundness.specs.Sound.{zeroFrom}
 
@@ -39,6 +41,82 @@ zero-end l k i m =
     at j (yes o) h = all-at (length l) (zeroAt l k) h j o
     at j (no o) h =
         or-right (ltb j k) (eqb (getD l j 0) 0) (eq-eqb (getD l j 0) 0 (List·getD-eq-default l 0 (omega arith)))
+
+-- ---- from the last entry down
+
+module _ (l : List ℕ) where
+  zero-here : (k : ℕ) → zeroFrom l k ≡ true → (i : ℕ) → k ≤ i → i < length l → eqb (getD l i 0) 0 ≡ true
+  unfolding zeroFrom
+  zero-here k h i m o = elim (either (ltb i k) (eqb (getD l i 0) 0) (all-at (length l) (zeroAt l k) h i o)) [
+    | inl a ↦ absurd (let c = ltb-true i k a in omega arith)
+    | inr a ↦ a
+  ]
+
+  zero-each :
+      (k : ℕ) → ((i : ℕ) → k ≤ i → i < length l → eqb (getD l i 0) 0 ≡ true) → zeroFrom l k ≡ true
+  unfolding zeroFrom
+  zero-each k h =
+      all-on (length l) (zeroAt l k)
+      (λ i o. elim (decLt i k) [
+        | yes m ↦ or-left (ltb i k) (eqb (getD l i 0) 0) (lt-ltb i k m)
+        | no m ↦ or-right (ltb i k) (eqb (getD l i 0) 0) (h i (omega arith) o)
+      ])
+
+  -- none is left past the end
+  pub zero-past : (k : ℕ) → length l ≤ k → true ≡ zeroFrom l k
+  zero-past k m = sym (zero-each k (λ i o p. absurd (omega arith)))
+
+  pub zero-down : (i : ℕ) → i < length l → (zeroFrom l (i + 1) && eqb (getD l i 0) 0) ≡ zeroFrom l i
+  zero-down i o =
+      same-test (zeroFrom l (i + 1) && eqb (getD l i 0) 0) (zeroFrom l i)
+      (λ h.
+      let (a, b) = both (zeroFrom l (i + 1)) (eqb (getD l i 0) 0) h in
+      zero-each i (λ j m p. elim (ℕ-discrete j i) [
+        | yes y ↦ rw y b
+        | no d ↦ zero-here (i + 1) a j (omega arith) p
+      ]))
+      (λ h.
+      and-on (zeroFrom l (i + 1)) (eqb (getD l i 0) 0)
+      (zero-each (i + 1) (λ j m p. zero-here i h j (omega arith) p))
+      (zero-here i h i (omega arith) o))
+
+  -- ---- by halves that cover it: so many from k on, and as many up to the end
+
+  abbrev pub zeroBoth : ℕ → ℕ → ℕ → Bool
+  zeroBoth k other i = eqb (getD l (k + i) 0) 0 && eqb (getD l (other + i) 0) 0
+
+  pub both-more :
+      (k other i : ℕ) →
+      (all i (zeroBoth k other) && eqb (getD l (k + i) 0) 0 && eqb (getD l (other + i) 0) 0)
+      ≡ all (i + 1) (zeroBoth k other)
+  unfolding all
+  both-more k other i =
+      rw add-one (and-assoc (all i (zeroBoth k other)) (eqb (getD l (k + i) 0) 0) (eqb (getD l (other + i) 0) 0))
+
+  pub both-end :
+      (k half other : ℕ) → k ≤ other → other ≤ k + half → other + half ≡ length l →
+      all half (zeroBoth k other) ≡ zeroFrom l k
+  both-end k half other low near end =
+      same-test (all half (zeroBoth k other)) (zeroFrom l k)
+      (λ h. zero-each k (λ j m p. at h j m p (decLt j (k + half))))
+      (λ h. all-on half (zeroBoth k other) (λ i m.
+      and-on (eqb (getD l (k + i) 0) 0) (eqb (getD l (other + i) 0) 0)
+      (zero-here k h (k + i) (omega arith) (omega arith))
+      (zero-here k h (other + i) (omega arith) (omega arith))))
+    where
+      pair : all half (zeroBoth k other) ≡ true → (i : ℕ) → i < half →
+          (eqb (getD l (k + i) 0) 0 ≡ true) × (eqb (getD l (other + i) 0) 0 ≡ true)
+      pair h i m =
+          both (eqb (getD l (k + i) 0) 0) (eqb (getD l (other + i) 0) 0) (all-at half (zeroBoth k other) h i m)
+
+      at : all half (zeroBoth k other) ≡ true → (j : ℕ) → k ≤ j → j < length l → Dec (j < k + half) →
+          eqb (getD l j 0) 0 ≡ true
+      at h j m p (yes y) =
+          let e : k + (j - k) ≡ j = omega arith in
+          rw e at (pair h (j - k) (omega arith) .0)
+      at h j m p (no d) =
+          let e : other + (j - other) ≡ j = omega arith in
+          rw e at (pair h (j - other) (omega arith) .1)
 
 -- ---- by the bits of all together
 

@@ -1,20 +1,26 @@
--- What the test of soundness gathers in one pass over the records rs: where each edit stands, how many Creates stand
+-- What the test of soundness gathers from the records rs: where each edit stands, how many Creates stand
 -- before each record, and how many Sets there are on it. Assumes nothing.
 use mathlib.Core.Path.{_≡_}
-use mathlib.Core.Bool.{true}
+use mathlib.Core.Bool.{Bool, true, _&&_}
 use mathlib.Core.List.{List}
 use Prim.Native.Nat.{ℕ, _≤_, _<_}
+use lib.Dec.{eqb}
 use lib.ListN.{getD, length}
+use Rattle.math_lists.specs.NumbersBelow.{all}
+use Rattle.math_lists.specs.SortedLists.{filter}
+use Rattle.edit_record.specs.declared.Edit.{Edit}
 use Rattle.edit_record.specs.declared.Site.{Site}
 use Rattle.edit_record.specs.declared.Seq.{Seq}
 use Rattle.edit_record.specs.Layout.{mostSites}
 use Rattle.edit_record.specs.Answer1.{isCreate, isSet}
-use Rattle.edit_history.specs.EditsHeld.{recordAt, editsOf, countFrom, creates, setsOn}
+use Rattle.edit_history.specs.EditsHeld.{recordAt, editsOf, countFrom, creates, setsOn, mostRecords}
 use Rattle.edit_history.specs.Answers2to5.{recordsPass}
-use Rattle.edit_walk.specs.WalkForms.{Indexed}
+use Rattle.edit_sum.specs.WordSum.{sumHeld}
+use Rattle.edit_walk.specs.WalkForms.{placeOf, Indexed}
 use Rattle.group_step.specs.GroupRows.{mostSets}
 use Rattle.table_drawing.specs.Tables.{Tables, heldBy, lengthsRight}
-use Rattle.table_soundness.specs.Sound.{withinLimits}
+use Rattle.table_soundness.specs.Sound.{withinLimits, restZero}
+use Rattle.table_soundness.specs.declared.Tally.{Tally}
 
 -- ---- what is known of the targets
 
@@ -33,13 +39,32 @@ Targeted rs n =
 -- ---- what is counted
 
 -- ns has how many Creates stand before each of the first n records
-abbrev pub Numbered : List ℕ → ℕ → List ℕ → Type 0
-Numbered rs n ns = (p : ℕ) → p < n → getD ns p 0 ≡ length (creates (editsOf rs p))
+abbrev pub CreatesBefore : List ℕ → ℕ → List ℕ → Type 0
+CreatesBefore rs n ns = (p : ℕ) → p < n → getD ns p 0 ≡ length (creates (editsOf rs p))
 
 -- ts has how many Sets there are on each of the first n records
 abbrev pub Tallied : List ℕ → ℕ → List ℕ → Type 0
 Tallied rs n ts =
     (p : ℕ) → p < n → getD ts p 0 ≡ length (setsOn (recordAt rs p .site) (recordAt rs p .seq) (editsOf rs n))
+
+-- e is a Set, and the index ps has its target in place p
+abbrev pub aimsAt : List ℕ → ℕ → Edit → Bool
+aimsAt ps p e = isSet e && eqb (placeOf ps (e .tsite .0) (e .tseq .0)) p
+
+-- ts has how many of the first n records are Sets that the index ps has aimed at each place
+abbrev pub Tallying : List ℕ → ℕ → List ℕ → List ℕ → Type 0
+Tallying rs n ps ts =
+    (length ts ≡ mostRecords)
+    × ((p : ℕ) → p < mostRecords → getD ts p 0 ≡ length (filter (aimsAt ps p) (editsOf rs n)))
+
+-- g is what is gathered from the first n records, with the numbers ns and the tallies ts; nothing is said of these where
+-- a place is not zero past its record
+pub record GatheredOver (rs : List ℕ) (n : ℕ) (g : Tally) (ns ts : List ℕ) : Type 0 where
+  pub rests : g .rests ≡ all n (restZero rs)
+  pub sum : g .rests ≡ true → g .sum ≡ sumHeld n rs
+  pub made : g .rests ≡ true → g .creates ≡ length (creates (editsOf rs n))
+  pub numbered : g .rests ≡ true → CreatesBefore rs n ns
+  pub tallied : g .rests ≡ true → Tallied rs n ts
 
 -- no object has more Sets, among the first n records, than it may have
 abbrev pub FewSets : List ℕ → ℕ → Type 0

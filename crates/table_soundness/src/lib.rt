@@ -1,5 +1,6 @@
 // When tables are sound, whatever stands in them: the records walked once, then the counts, the objects and the unused
 // entries.
+mod gathering;
 mod objects;
 mod unused;
 
@@ -14,9 +15,9 @@ use table_drawing::ENTRY;
 ghost use mathlib.Core.Path.{_≡_};
 ghost use mathlib.Core.Bool.{true, _&&_};
 ghost use Prim.Native.Nat.{_*_, _≤_};
-ghost use lib.Dec.{eqb};
+ghost use lib.Dec.{eqb, leb};
 ghost use lib.ListN.{getD, length};
-ghost use Rattle.math_lists.specs.NumbersBelow.{all};
+ghost use Rattle.math_lists.specs.NumbersBelow.{all, sum};
 ghost use Rattle.group_step.specs.GroupRows.{mostObjects, mostGroups};
 ghost use Rattle.edit_record.specs.Layout.{mostSites, placeLength};
 ghost use Rattle.edit_history.specs.EditsHeld.{mostRecords};
@@ -25,6 +26,14 @@ ghost use Rattle.edit_walk.specs.WalkForms.{placesLength, Indexed};
 ghost use Rattle.table_drawing.specs.Tables.{entryLength, tablesOf};
 ghost use Rattle.table_soundness.specs.Sound.{withinLimits, zeroFrom, sound};
 ghost use Rattle.table_soundness.specs.SoundnessForms.{Passed, FewSets};
+
+// What one pass over the records gathers: whether every place is zero past its record, and then the sum of their words
+// and how many of them are Creates.
+pub struct Tally {
+    pub rests: bool,
+    pub sum: u32,
+    pub creates: u16,
+}
 
 // Whether the counters are within their limits.
 fn within_limits(c: Counters) -> bool
@@ -46,6 +55,14 @@ fn counts_agree(given: [u16; SITES], counted: [u16; SITES]) -> bool
         s += 1;
     }
     agree
+}
+
+// Whether the index has room for so many edits of each site.
+fn is_room_enough(counts: [u16; SITES]) -> bool
+    ensures { λ r. ⌜ r ≡ leb (sum mostSites (λ s. getD counts s 0)) mostRecords ⌝ }
+{
+    let total = edit_causal::vector_sum(counts);
+    total as usize <= RECORDS
 }
 
 // Whether every entry past n records and m objects is zero.
@@ -81,16 +98,20 @@ fn rest_sound(
     let n = c.records as usize;
     let m = c.objects as usize;
     let agree = counts_agree(given, held);
-    let added = edit_sum::sum_records(records, n);
-    let drawing = objects::drawing_sound(records, n, places, objects, groups, m);
+    let mut earlier = [0u8; RECORDS];
+    let mut tallies = [0u8; RECORDS];
+    let g = gathering::gather(records, n, places, &mut earlier, &mut tallies);
+    if !g.rests {
+        return false;
+    }
+    let each = objects::objects_sound(records, n, objects, groups, &earlier, &tallies, m);
     let zero = unused_zero(records, objects, groups, n, m);
-    let rests = unused::are_rests_zero(records, n);
-    agree & (kept == added) & drawing & zero & rests
+    agree & (kept == g.sum) & (m == g.creates as usize) & each & zero
 }
 
 // Whether the tables are sound, whatever stands in them; if they are, places is the index of their records. The records
-// are walked once, and each object is tested by what two more passes count, so that no object is held against every
-// record.
+// are walked once, with room in the index by the counts that are given, and each object is tested by what one more pass
+// gathers, so that no object is held against every record.
 pub fn is_sound_with(
     c: Counters,
     records: &[u8],
@@ -108,7 +129,11 @@ pub fn is_sound_with(
     if !within_limits(c) {
         return false;
     }
-    let w = edit_walk::walk(c.sites, records, c.records as usize, places);
+    let given = c.held;
+    if !is_room_enough(given) {
+        return false;
+    }
+    let w = edit_walk::walk(c.sites, given, records, c.records as usize, places);
     if !w.ok {
         return false;
     }
@@ -116,7 +141,7 @@ pub fn is_sound_with(
     if !rest_sound(c, held, places, records, objects, groups) {
         return false;
     }
-    group_named::are_all_named(records, c.records as usize)
+    group_named::are_all_named(records, c.records as usize, places)
 }
 
 // Whether the tables are sound, whatever stands in them.

@@ -1,22 +1,30 @@
-// Whether every entry of a lent slice from a place on is zero, and every place of the records past its record.
+// Whether every entry of a lent slice from a place on is zero, and every place of the records past its record. They are
+// if they have no bit between them, which a processor tells faster than it compares each.
+use edit_record::AT_KIND;
+use edit_record::LIMITED;
 use edit_record::PLACE;
+use edit_record::RECORD;
 ghost use mathlib.Core.Path.{_≡_};
-ghost use Prim.Native.Nat.{_+_, _*_, _≤_};
+ghost use Prim.Native.Nat.{_+_, _*_, _≤_, _<_};
 ghost use lib.ListN.{length};
-ghost use Rattle.math_lists.specs.NumbersBelow.{all};
 ghost use Rattle.edit_record.specs.Layout.{placeLength};
 ghost use Rattle.edit_history.specs.EditsHeld.{mostRecords};
 ghost use Rattle.table_soundness.specs.Sound.{zeroFrom, restZero};
 
-// Whether every byte from k on is zero: whether they have no bit between them, which a processor tells faster than it
-// compares each.
+// Whether every byte from k on is zero. Two halves are walked at once, which share the byte in the middle where there is
+// one: twice as much is in a turn of the loop.
 pub fn is_zero_from8(s: &[u8], k: usize) -> bool
     ensures { λ r. ⌜ r ≡ zeroFrom (now (s .entry)) k ⌝ }
 {
+    if s.len() <= k {
+        return true;
+    }
+    let half = (s.len() - k + 1) / 2;
+    let other = s.len() - half;
     let mut bits: u8 = 0;
-    let mut i = k;
-    while i < s.len() {
-        bits = bits | s[i];
+    let mut i: usize = 0;
+    while i < half {
+        bits = bits | s[k + i] | s[other + i];
         i += 1;
     }
     bits == 0
@@ -35,41 +43,51 @@ pub fn is_zero_from16(s: &[u16], k: usize) -> bool
     zero
 }
 
-// Whether every group from k on is zero, told in the same way.
+// Whether every group from k on is zero, by halves as well.
 pub fn is_zero_from64(s: &[u64], k: usize) -> bool
     ensures { λ r. ⌜ r ≡ zeroFrom (now (s .entry)) k ⌝ }
 {
+    if s.len() <= k {
+        return true;
+    }
+    let half = (s.len() - k + 1) / 2;
+    let other = s.len() - half;
     let mut bits: u64 = 0;
-    let mut i = k;
-    while i < s.len() {
-        bits = bits | s[i];
+    let mut i: usize = 0;
+    while i < half {
+        bits = bits | s[k + i] | s[other + i];
         i += 1;
     }
     bits == 0
 }
 
-// Whether place p of the records is zero past its record.
-fn is_rest_zero(recs: &[u8], p: usize) -> bool
-    requires { ⌜ p * placeLength + placeLength ≤ length (now recs) ⌝ }
+// Whether every byte from k on is zero, for few bytes of a number known beforehand: from the last one down, so that a
+// caller's other ways have no first byte in common with this one, which would be read apart from the rest.
+fn is_zero_down8(s: &[u8], k: usize) -> bool
+    requires { ⌜ k ≤ length (now s) ⌝ }
+    ensures { λ r. ⌜ r ≡ zeroFrom (now (s .entry)) k ⌝ }
+{
+    let mut bits: u8 = 0;
+    let mut i = s.len();
+    while k < i {
+        i -= 1;
+        bits = bits | s[i];
+    }
+    bits == 0
+}
+
+// Whether place p of the records is zero past its record. Most records are no limited Sets, and end where all of these
+// do.
+pub fn is_rest_zero(recs: &[u8], p: usize) -> bool
+    requires { ⌜ (p < mostRecords) × (p * placeLength + placeLength ≤ length (now recs)) ⌝ }
     ensures { λ r. ⌜ r ≡ restZero (now (recs .entry)) p ⌝ }
 {
     let at = p * PLACE;
     let end = at + PLACE;
     let place = &recs[at..end];
-    let span = edit_record::span_of(place);
-    is_zero_from8(place, span)
-}
-
-// Whether each of the first n places is zero past its record.
-pub fn are_rests_zero(recs: &[u8], n: usize) -> bool
-    requires { ⌜ (n ≤ mostRecords) × (n * placeLength ≤ length (now recs)) ⌝ }
-    ensures { λ r. ⌜ r ≡ all n (restZero (now (recs .entry))) ⌝ }
-{
-    let mut zero = true;
-    let mut p: usize = 0;
-    while p < n {
-        zero = zero & is_rest_zero(recs, p);
-        p += 1;
+    if place[AT_KIND] == LIMITED {
+        let span = edit_record::span_of(place);
+        return is_zero_from8(place, span);
     }
-    zero
+    is_zero_down8(place, RECORD)
 }

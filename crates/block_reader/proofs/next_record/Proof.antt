@@ -105,11 +105,11 @@ use denote.Triple.Table.{entered, cited}
 use denote.Triple.Walked.{says, Stays, stay-ref, walkOf, goes-ref, Walks, ends-at, walked, walk-meets}
 use Rattle.block_reader.specs.Reader.{takenAt}
 use Rattle.block_reader.specs.declared.Reader.{Reader}
-use Rattle.block_reader.specs.declared.Taken.{Taken}
+use Rattle.block_reader.specs.declared.TakenNext.{TakenNext}
 use Rattle.block_reader.proofs.Reader as T
 use Rattle.block_reader.proofs.Reader.Laws as T′
-use Rattle.block_reader.proofs.Taken as R
-use Rattle.block_reader.proofs.Taken.Laws as R′
+use Rattle.block_reader.proofs.TakenNext as R
+use Rattle.block_reader.proofs.TakenNext.Laws as R′
 use Rattle.block_reader.proofs.Given as G
 use Rattle.block_reader.proofs.Given.Laws as G′
 use Rattle.block_reader.proofs.take as core
@@ -180,7 +180,7 @@ module _ {M : Type 1} (𝓤 : URA M) (H : Heap 𝓤) (A : Atoms 𝓤) (W : Given
   Own = B .own h (mach ∷ [])
 
   -- the result's machine value
-  abbrev given-back : Taken → Val
+  abbrev given-back : TakenNext → Val
   given-back r = only (LL.vals G.the-type G′.the-laws (r .given))
 
   -- the tokens but the first
@@ -201,10 +201,10 @@ module _ {M : Type 1} (𝓤 : URA M) (H : Heap 𝓤) (A : Atoms 𝓤) (W : Given
   asked = qed W (tok ∷ ‵ (all-own (D .parts) L parts) ∷ []) ∵ join ! $ frame ! $ done !
 
   -- what the callee ensures of its result. It has no `&mut`, so what is said of last values is dropped
-  abbrev Said : Taken → Type 0
+  abbrev Said : TakenNext → Type 0
   Said r = r ≡ takenAt (now (h .stretch)) (h .form) (h .place)
 
-  said : (r : Taken) → ent 𝓤 (ensured 𝓤 H A core.ended (core.clauses 𝓤 H A at-mem run) (κs .1) parts tt r)
+  said : (r : TakenNext) → ent 𝓤 (ensured 𝓤 H A core.ended (core.clauses 𝓤 H A at-mem run) (κs .1) parts tt r)
       (fact 𝓤 (Said r))
   said r = exE 𝓤 _ (λ ws. snd∗ 𝓤 (sem 𝓤 H A (lasts core.ended (κs .1) parts ws)) (fact 𝓤 (Said r)))
 
@@ -213,7 +213,7 @@ module _ {M : Type 1} (𝓤 : URA M) (H : Heap 𝓤) (A : Atoms 𝓤) (W : Given
   again n fits = qed W (‵ Own ∷ []) ∵ owned ! usize (Is usize) (uint-makes 𝓤 H A W w64) n _ (refl, fits) $ move !
       (1 ∷ 0 ∷ []) $ by ! (own-put 𝓤 H A W D L 2 parts n mach)
 
-  exits : (r : Taken) → Said r → Is G.the-row (r .given) (given-back r ∷ [])
+  exits : (r : TakenNext) → Said r → Is G.the-row (r .given) (given-back r ∷ [])
       → ent 𝓤 (⋆ 𝓤 H A (‵ (fobs (a .0 .name) (B .coded .code (at (r .place))))
       ∷ ‵ (fbor (κs .0) (Body (mem B) b o (a .0 .name))) ∷ ‵ (flft (κs .0) (qs .0)) ∷ tok ∷ ‵ ftrue ∷ []))
       (Post (given-back r))
@@ -257,7 +257,7 @@ module _ {M : Type 1} (𝓤 : URA M) (H : Heap 𝓤) (A : Atoms 𝓤) (W : Given
         calls-at ! fm (Core 𝓤 H A at-mem run) known to (and-then ! (load ! (from ! (stop !)) (look ! 11 refl))
         (and-then ! (load ! (from ! (stop !)) (look ! 9 refl))
         (and-then ! (load ! (from ! (stop !)) (look ! 7 refl)) (no-more !)))) (λ u.
-        use1 W (later (some (λ (r : Taken). (tok ⊛ ‵ (R.the-row .own r (u ∷ []))) ⊛ raw
+        use1 W (later (some (λ (r : TakenNext). (tok ⊛ ‵ (R.the-row .own r (u ∷ []))) ⊛ raw
         (ensured 𝓤 H A core.ended (core.clauses 𝓤 H A at-mem run) (κs .1) parts tt r)))) (id⊢ 𝓤 _) $ await ! tt $
         pick ! (λ r. split ! $
         move ! (1 ∷ []) $ use1 W (raw (fact 𝓤 (Said r))) (said r) $ heard ! (Said r) (λ e. split ! $

@@ -1,5 +1,5 @@
 -- `edit_walk::is_passing` meets its contract. Assumes nothing.
-use mathlib.Core.Path.{_≡_, refl, sym, ap, _∙_}
+use mathlib.Core.Path.{_≡_, sym, ap, _∙_}
 use mathlib.Core.Bool.{Bool, true, false, not, _||_}
 use mathlib.Core.List.{List}
 use Prim.Native.Nat.{ℕ}
@@ -10,13 +10,10 @@ use Rattle.edit_record.specs.declared.Edit.{Edit}
 use Rattle.edit_record.specs.RecordBytes.{decodeOf}
 use Rattle.edit_record.specs.Answer1.{isAimed, unfit}
 use Rattle.edit_history.specs.SurveyForms.{repeatedAgainst, earlyAgainst}
+use Rattle.math_lists.proofs.Booleans.{not-not}
 use Rattle.edit_walk.specs.WalkForms.{tornByNews, targetHeld, inTurnAgainst, passesAgainst}
 use Rattle.edit_walk.proofs.is_passing.Statement.{statement}
 use Rattle.edit_walk.proofs.is_passing.Tie as tie
-
-twice : (b : Bool) → b ≡ not (not b)
-twice true = refl
-twice false = refl
 
 -- one of 1 to 3 applies, or none of them does, by the test of all three
 on : (n : ℕ) (held : List ℕ) (e : Edit) (r : Bool) → r ≡ inTurnAgainst n held e → not r ≡ true →
@@ -88,7 +85,7 @@ returns-3 c =
     ∙ y .if2 .left in
     let s : isAimed e ≡ true = sym (c .before .before .is-aimed-kind .ensures) ∙ c .before .if3 .taken in
     rw (none (a .sites) (now (a .held)) e (i .result) (i .ensures) (z .if1 .left), t, s, c .is-target-held .ensures)
-    (twice (targetHeld (now (a .held)) (now (a .recs)) (now (a .places)) e))
+    (not-not (targetHeld (now (a .held)) (now (a .recs)) (now (a .places)) e))
 
 returns-4 : tie.Need-returns-4
 unfolding passesAgainst

@@ -11,7 +11,7 @@ use borrow.Author.Tests.{not-false}
 use borrow.Fn.Kinds.{In}
 use borrow.Fn.PlainCycle.{Measures, is, falls, and}
 use Rattle.group_step.specs.GroupRows.{mostGroups}
-use Rattle.group_engine.specs.SearchForms.{Partial, Waiting, Found}
+use Rattle.group_engine.specs.SearchForms.{Partial, Waiting, FoundSoFar}
 use Rattle.group_engine.proofs.GroupsFound.{found-full}
 use Rattle.group_engine.proofs.NextDecided.{all-decided, none-may-come, may-inside, Deciding, under, both-halves}
 use Rattle.group_engine.proofs.NextDecided.{goes-out, waits-out, asked-within, out-found, out-stuck}
@@ -111,7 +111,7 @@ left-out :
     let looked = c .before .before in
     let a = entry t looked .args in
     (length (c .if3 .out) ≡ mostGroups)
-    × Found (a .conflicts .now) (a .n) (a .taken + looked .before .before .before .before .only .result) (c .if3 .next)
+    × FoundSoFar (a .conflicts .now) (a .n) (a .taken + looked .before .before .before .before .only .result) (c .if3 .next)
     (c .if3 .out)
 left-out t c =
     let looked = c .before .before in

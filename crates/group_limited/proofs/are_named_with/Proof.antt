@@ -1,6 +1,6 @@
 -- `group_limited::are_named_with` meets its contract: 16 is given to none of the Sets passed, whose rows are put down.
 -- Assumes nothing.
-use mathlib.Core.Path.{_≡_, refl, sym, subst, _∙_}
+use mathlib.Core.Path.{_≡_, refl, sym, _∙_}
 use mathlib.Core.Bool.{false}
 use Prim.Native.Nat.{ℕ, _-_, _≤_, _<_}
 use native.Mathlib.Omega.{arith}
@@ -18,7 +18,7 @@ use Rattle.group_limited.proofs.are_named_with.Statement.{statement}
 use Rattle.group_limited.proofs.are_named_with.Tie as tie
 
 abbrev Inv-loop : tie.InvT-loop
-Inv-loop plain₀ ctx₀ recs places k i₀ plain ctx i =
+Inv-loop plain₀ ctx₀ recs places names k i₀ plain ctx i =
     (i ≤ k)
     × (length plain ≡ length plain₀)
     × (length ctx ≡ length ctx₀)
@@ -26,11 +26,11 @@ Inv-loop plain₀ ctx₀ recs places k i₀ plain ctx i =
     × (Lawful (boxOn (setsIn recs places k)) k → (j : ℕ) → j < i → nameless recs places j ≡ false)
 
 abbrev μ-loop : tie.MeasureT-loop
-μ-loop plain₀ ctx₀ recs places k i₀ plain ctx i = k - i
+μ-loop plain₀ ctx₀ recs places names k i₀ plain ctx i = k - i
 
 loop-holds : tie.Need-loop-holds Inv-loop μ-loop
 loop-holds c =
-    let a = c .before .before .before .before .args in
+    let a = c .before .before .before .before .before .args in
     (omega arith, refl, refl, no-rows (now (a .plain)) (now (a .ctx)), λ law j l. absurd (omega arith))
 
 mul-sight-at : tie.Need-mul-sight-at Inv-loop μ-loop
@@ -40,7 +40,14 @@ shared-slice-read-sight-at : tie.Need-shared-slice-read-sight-at Inv-loop μ-loo
 shared-slice-read-sight-at c = search needs
 
 sight-at-requires : tie.Need-sight-at-requires Inv-loop μ-loop
-sight-at-requires c κs = search needs
+sight-at-requires c κs =
+    let l = c .before .before .loop in
+    let s = c .before .before .before .before .before .before .before .before in (
+      omega (arith, s .pre .0, c .before .loop-test .taken),
+      omega (arith, s .pre .1, c .before .loop-test .taken),
+      omega (arith, s .pre .2, c .before .loop-test .taken),
+      λ j m. s .pre .5 j (omega (arith, c .before .loop-test .taken)),
+    )
 
 context-by-requires : tie.Need-context-by-requires Inv-loop μ-loop
 context-by-requires c κs = search needs
@@ -61,7 +68,7 @@ returns c law =
     let t = c .before .before .before .before .before .before .before in
     let y = t .before .before in
     let l = y .before .loop in
-    let s = y .before .before .before .before .before .before in
+    let s = y .before .before .before .before .before .before .before in
     let a = s .args in
     let rs = now (a .recs) in
     let ps = now (a .places) in
@@ -78,11 +85,11 @@ put-told-requires c κs =
     let t = c .before .before .before .before .before .before .before .before .before in
     let y = t .before .before in
     let l = y .before .loop in
-    let s = y .before .before .before .before .before .before in
+    let s = y .before .before .before .before .before .before .before in
     let a = s .args in (
       omega (arith, s .pre .0, y .loop-test .taken),
-      omega (arith, l .inv .1, s .pre .2, y .loop-test .taken),
-      omega (arith, l .inv .2, s .pre .3, y .loop-test .taken),
+      omega (arith, l .inv .1, s .pre .3, y .loop-test .taken),
+      omega (arith, l .inv .2, s .pre .4, y .loop-test .taken),
       row-small (now (a .recs)) (now (a .places)) (l .i) (omega (arith, s .pre .1, y .loop-test .taken)) _ _
           (t .sight-at .ensures),
     )
@@ -102,7 +109,7 @@ loop-again c =
     let t = q .before .before .before .before .before .before in
     let y = t .before .before in
     let l = y .before .loop in
-    let s = y .before .before .before .before .before .before in
+    let s = y .before .before .before .before .before .before .before in
     let a = s .args in
     let rs = now (a .recs) in
     let ps = now (a .places) in
@@ -131,7 +138,7 @@ same-length-4 c = search needs
 returns-2 : tie.Need-returns-2 Inv-loop μ-loop
 returns-2 c law =
     let l = c .before .loop in
-    let a = c .before .before .before .before .before .before .args in
+    let a = c .before .before .before .before .before .before .before .args in
     sym (in-turn-on (now (a .recs)) (now (a .places)) (a .k) (omega arith) (λ j m. l .inv .4 law j (omega arith)))
 
 pub are-named-with-spec : {M : Type 1} → statement M

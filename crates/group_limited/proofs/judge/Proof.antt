@@ -5,14 +5,26 @@ use borrow.Author.Needs.{needs}
 use Rattle.group_limited.proofs.judge.Statement.{statement}
 use Rattle.group_limited.proofs.judge.Tie as tie
 
+slice-aggregate-put-names : tie.Need-slice-aggregate-put-names
+slice-aggregate-put-names c = search needs
+
+put-names-requires : tie.Need-put-names-requires
+put-names-requires c κs = search needs
+
 slice-aggregate-put-rows : tie.Need-slice-aggregate-put-rows
 slice-aggregate-put-rows c = search needs
 
 slice-aggregate-put-rows-2 : tie.Need-slice-aggregate-put-rows-2
 slice-aggregate-put-rows-2 c = search needs
 
+slice-aggregate-put-rows-3 : tie.Need-slice-aggregate-put-rows-3
+slice-aggregate-put-rows-3 c = search needs
+
 put-rows-requires : tie.Need-put-rows-requires
 put-rows-requires c κs = search needs
+
+slice-aggregate-sight-of : tie.Need-slice-aggregate-sight-of
+slice-aggregate-sight-of c = search needs
 
 sight-of-requires : tie.Need-sight-of-requires
 sight-of-requires c κs = search needs
@@ -28,11 +40,10 @@ told-by-requires c κs = search needs
 
 returns : tie.Need-returns
 returns c =
-    let s = c .before .before .before .before .before .before .before .before .before .before .before .before in
+    let s = c .before .before .before .before .before .before .before .before .before .before .before .before .before .before .before .before .before in
     let a = s .args in
     let told = c .told-by .ensures _ _ (sets-length (now (a .recs)) (now (a .places)) (a .k) (s .pre .1))
-    (c .before .before .before .before .before .before .put-rows .ensures)
-    (c .before .before .before .sight-of .ensures) in
+    (c .before .before .before .before .before .before .before .put-rows .ensures) (c .before .before .before .sight-of .ensures) in
     record {
       nameless = λ p law. told .nameless law (p .named);
       conflicts = λ p law h. told .conflicts law (p .named) h;
@@ -42,9 +53,13 @@ pub judge-spec : {M : Type 1} → statement M
 judge-spec =
     tie.close
     (tie.spec
+    slice-aggregate-put-names
+    put-names-requires
     slice-aggregate-put-rows
     slice-aggregate-put-rows-2
+    slice-aggregate-put-rows-3
     put-rows-requires
+    slice-aggregate-sight-of
     sight-of-requires
     slice-aggregate-told-by
     slice-aggregate-told-by-2

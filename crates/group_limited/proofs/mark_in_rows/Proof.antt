@@ -4,7 +4,8 @@ use mathlib.Core.Path.{_≡_, refl}
 use Prim.Native.Nat.{_≤_}
 use native.Mathlib.Omega.{arith}
 use lib.ListN.{length, length-set}
-use Rattle.group_limited.proofs.MarkedRows.{MarkedBut, first-left, less-left}
+use Rattle.math_maximal.proofs.OneMemberLess.{first-left, less-left}
+use Rattle.group_limited.proofs.MarkedRows.{MarkedBut}
 use Rattle.group_limited.proofs.MarkedRows.{none-marked-yet, marked-one-more, all-marked}
 use borrow.Author.Needs.{needs}
 use Rattle.group_limited.proofs.mark_in_rows.Statement.{statement}

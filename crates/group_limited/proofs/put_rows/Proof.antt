@@ -11,18 +11,18 @@ use Rattle.group_limited.proofs.put_rows.Statement.{statement}
 use Rattle.group_limited.proofs.put_rows.Tie as tie
 
 abbrev Inv-loop : tie.InvT-loop
-Inv-loop plain₀ ctx₀ recs places k i₀ plain ctx i =
+Inv-loop plain₀ ctx₀ recs places names k i₀ plain ctx i =
     (i ≤ k)
     × (length plain ≡ length plain₀)
     × (length ctx ≡ length ctx₀)
     × RowsTell (setsIn recs places i) plain ctx
 
 abbrev μ-loop : tie.MeasureT-loop
-μ-loop plain₀ ctx₀ recs places k i₀ plain ctx i = k - i
+μ-loop plain₀ ctx₀ recs places names k i₀ plain ctx i = k - i
 
 loop-holds : tie.Need-loop-holds Inv-loop μ-loop
 loop-holds c =
-    let a = c .before .before .before .before .args in
+    let a = c .before .before .before .before .before .args in
     (omega arith, refl, refl, no-rows (now (a .plain)) (now (a .ctx)))
 
 mul-sight-at : tie.Need-mul-sight-at Inv-loop μ-loop
@@ -32,7 +32,14 @@ shared-slice-read-sight-at : tie.Need-shared-slice-read-sight-at Inv-loop μ-loo
 shared-slice-read-sight-at c = search needs
 
 sight-at-requires : tie.Need-sight-at-requires Inv-loop μ-loop
-sight-at-requires c κs = search needs
+sight-at-requires c κs =
+    let l = c .before .before .loop in
+    let s = c .before .before .before .before .before .before .before .before in (
+      omega (arith, s .pre .0, c .before .loop-test .taken),
+      omega (arith, s .pre .1, c .before .loop-test .taken),
+      omega (arith, s .pre .2, c .before .loop-test .taken),
+      λ j m. s .pre .5 j (omega (arith, c .before .loop-test .taken)),
+    )
 
 context-by-requires : tie.Need-context-by-requires Inv-loop μ-loop
 context-by-requires c κs = search needs
@@ -42,11 +49,11 @@ put-told-requires c κs =
     let t = c .before .before .before .before .before in
     let y = t .before .before in
     let l = y .before .loop in
-    let s = y .before .before .before .before .before .before in
+    let s = y .before .before .before .before .before .before .before in
     let a = s .args in (
       omega (arith, s .pre .0, y .loop-test .taken),
-      omega (arith, l .inv .1, s .pre .2, y .loop-test .taken),
-      omega (arith, l .inv .2, s .pre .3, y .loop-test .taken),
+      omega (arith, l .inv .1, s .pre .3, y .loop-test .taken),
+      omega (arith, l .inv .2, s .pre .4, y .loop-test .taken),
       row-small (now (a .recs)) (now (a .places)) (l .i) (omega (arith, s .pre .1, y .loop-test .taken)) _ _
           (t .sight-at .ensures),
     )
@@ -64,7 +71,7 @@ loop-again c =
     let t = c .before .before .before .before .before .before .before .before .before .before in
     let y = t .before .before in
     let l = y .before .loop in
-    let s = y .before .before .before .before .before .before in
+    let s = y .before .before .before .before .before .before .before in
     let a = s .args in (
       omega (arith, y .loop-test .taken),
       p .kept .0 ∙ l .inv .1,
@@ -83,7 +90,7 @@ same-length-2 c = search needs
 returns : tie.Need-returns Inv-loop μ-loop
 returns c =
     let l = c .before .loop in
-    let a = c .before .before .before .before .before .before .args in
+    let a = c .before .before .before .before .before .before .before .args in
     let done : l .i ≡ a .k = omega arith in
     subst (λ (j : ℕ). RowsTell (setsIn (now (a .recs)) (now (a .places)) j) (l .plain) (l .ctx)) done (l .inv .3)
 

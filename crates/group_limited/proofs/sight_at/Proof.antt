@@ -36,7 +36,7 @@ sight-of-requires-2 c κs = search needs
 
 returns : tie.Need-returns
 returns c =
-    let a = c .before .before .before .before .before .args in
+    let a = c .before .before .before .before .before .before .args in
     let rs = now (a .recs) in
     let at = a .p * placeLength in
     subst (λ (l : List ℕ). SightOf (setsIn rs (now (a .places)) (a .k)) (decodeOf l) (c .sight-of .result))
@@ -44,7 +44,7 @@ returns c =
 
 returns-2 : tie.Need-returns-2
 returns-2 c =
-    let a = c .before .before .before .before .before .args in
+    let a = c .before .before .before .before .before .before .args in
     let rs = now (a .recs) in
     subst (λ (l : List ℕ). SightOf (setsIn rs (now (a .places)) (a .k)) (decodeOf l) (c .sight-of2 .result))
     (sym (drop-of-length-le rs {i = a .p * placeLength} (omega arith))) (c .sight-of2 .ensures)

@@ -13,7 +13,7 @@ told-by-requires c κs = search needs
 
 returns : tie.Need-returns
 returns c tell =
-    let s = c .before .before .before .before .before .before in
+    let s = c .before .before .before .before .before .before .before in
     let a = s .args in
     c .told-by .ensures _ _ (sets-length (now (a .recs)) (now (a .places)) (a .n) (s .pre .1)) tell
     (c .before .sight-at .ensures)

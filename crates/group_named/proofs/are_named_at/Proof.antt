@@ -1,9 +1,23 @@
--- `group_named::are_named_at` meets its contract. Assumes nothing.
-use mathlib.Core.Path.{sym, _∙_}
-use borrow.Author.Tests.{eq-eqb, ne-eqb}
+-- `group_named::are_named_at` meets its contract: the Sets in the places that are gathered are those on the Create.
+-- Assumes nothing.
+use mathlib.Core.Path.{_≡_, sym, ap, subst, _∙_}
+use mathlib.Core.Bool.{true}
+use mathlib.Core.List.{List}
+use native.Mathlib.Omega.{arith}
+use lib.ListN.{length}
+use borrow.Author.Tests.{eq-eqb, ne-eqb, not-true}
+use Rattle.math_lists.specs.SortedLists.{any}
+use Rattle.math_contexts.specs.Box.{Lawful}
+use Rattle.edit_record.specs.declared.Edit.{Edit}
 use Rattle.edit_record.specs.Layout.{createKind}
-use Rattle.edit_history.specs.EditsHeld.{recordAt}
+use Rattle.edit_record.specs.Answer1.{isCreate, isLimited}
+use Rattle.edit_causal.specs.Conflict.{boxOn}
+use Rattle.edit_history.specs.EditsHeld.{recordAt, editsOf, setsOn}
+use Rattle.edit_history.proofs.EditsInPlaces.{sets-length}
+use Rattle.group_limited.specs.LimitedForms.{namedInTurn}
 use Rattle.group_named.specs.NamedForms.{isNamedAt}
+use Rattle.group_named.proofs.SetsGathered.{gathered}
+use Rattle.group_named.proofs.BoxesNamed.{plain-in-turn}
 use borrow.Author.Needs.{needs}
 use Rattle.group_named.proofs.are_named_at.Statement.{statement}
 use Rattle.group_named.proofs.are_named_at.Tie as tie
@@ -13,29 +27,83 @@ kind-at-requires c κs = search needs
 
 returns : tie.Need-returns
 unfolding isNamedAt
-returns c law =
-    let a = c .before .before .before .before .args in
+returns c chained law =
+    let a = c .before .before .before .before .before .before .before .before .args in
     let kind = recordAt (a .recs .now) (a .p) .kind in
     rw (ne-eqb kind createKind (λ q. c .if1 .taken (c .before .kind-at .ensures ∙ q)))
 
-decode-at-requires : tie.Need-decode-at-requires
-decode-at-requires c κs = search needs
+gather-sets-requires : tie.Need-gather-sets-requires
+gather-sets-requires c κs = search needs
 
-are-named-on-requires : tie.Need-are-named-on-requires
-are-named-on-requires c κs = search needs
+is-any-limited-requires : tie.Need-is-any-limited-requires
+is-any-limited-requires c κs =
+    let g = c .before .before .before .gather-sets in
+    omega (arith, g .ensures .0, g .kept .0, c .before .before .before .before .before .before .before .before .before .before .before .before .before .pre .3)
 
 same-length : tie.Need-same-length
 same-length c = search needs
 
 returns-2 : tie.Need-returns-2
 unfolding isNamedAt
-returns-2 c law =
-    let b = c .before .before .before .before .before in
-    let a = b .before .before .before .before .args in
-    let d = c .before .before .before .before .decode-at in
-    let create = eq-eqb (recordAt (a .recs .now) (a .p) .kind) createKind
-    (sym (b .before .kind-at .ensures) ∙ b .if1 .left) in
-    rw create (c .before .before .are-named-on .ensures law ∙ rw (d .ensures))
+returns-2 c chained law =
+    let g = c .before .before .before .before .before .gather-sets in
+    let s = c .before .before .before .before .before .before .before .before .before .before .before .before .before .before .before in
+    let a = s .args in
+    let rs = a .recs .now in
+    let e = recordAt rs (a .p) in
+    let ms = setsOn (e .site) (e .seq) (editsOf rs (a .n)) in
+    let create : isCreate e ≡ true
+    = eq-eqb (e .kind) createKind (sym (c .before .before .before .before .before .before .before .before .kind-at .ensures) ∙ c .before .before .before .before .before .before .before .if1 .left) in
+    let same = gathered rs (a .p) (a .n) (g .result) (a .chain .now) (g .last .0) (s .pre .1) create chained
+    (s .pre .2 (e .site) (e .seq)) (g .ensures .1) in
+    let i = c .before .is-any-limited in
+    rw create
+    (sym
+    (plain-in-turn ms
+    (sym (ap (any isLimited) same) ∙ sym (i .ensures) ∙ not-true (i .result) (c .if2 .taken))))
+
+are-named-requires : tie.Need-are-named-requires
+are-named-requires c κs =
+    let g = c .before .before .before .before .before .before .before .before .before .gather-sets in
+    let s = c .before .before .before .before .before .before .before .before .before .before .before .before .before .before .before .before .before .before .before in (
+      g .ensures .0,
+      omega (arith, g .ensures .0, g .kept .0, s .pre .3),
+      omega (arith, g .ensures .0, s .pre .6),
+      omega (arith, g .ensures .0, s .pre .4),
+      omega (arith, g .ensures .0, s .pre .5),
+    )
+
+same-length-2 : tie.Need-same-length-2
+same-length-2 c = search needs
+
+same-length-3 : tie.Need-same-length-3
+same-length-3 c = search needs
+
+same-length-4 : tie.Need-same-length-4
+same-length-4 c = search needs
+
+same-length-5 : tie.Need-same-length-5
+same-length-5 c = search needs
+
+returns-3 : tie.Need-returns-3
+unfolding isNamedAt
+returns-3 c chained law =
+    let g = c .before .before .before .before .before .before .before .before .before .before .before .before .before .before .before .before .gather-sets in
+    let s = c .before .before .before .before .before .before .before .before .before .before .before .before .before .before .before .before .before .before .before .before .before .before .before .before .before .before in
+    let a = s .args in
+    let rs = a .recs .now in
+    let e = recordAt rs (a .p) in
+    let ms = setsOn (e .site) (e .seq) (editsOf rs (a .n)) in
+    let create : isCreate e ≡ true
+    = eq-eqb (e .kind) createKind (sym (c .before .before .before .before .before .before .before .before .before .before .before .before .before .before .before .before .before .before .before .kind-at .ensures) ∙ c .before .before .before .before .before .before .before .before .before .before .before .before .before .before .before .before .before .before .if1 .left) in
+    let same = gathered rs (a .p) (a .n) (g .result) (a .chain .now) (g .last .0) (s .pre .1) create chained
+    (s .pre .2 (e .site) (e .seq)) (g .ensures .1) in
+    let size : length ms ≡ g .result
+    = ap length (sym same)
+    ∙ sets-length rs (g .last .0) (g .result) (omega (arith, g .ensures .0, g .kept .0, s .pre .3)) in
+    let lawful = subst (λ (m : List Edit). Lawful (boxOn m) (g .result)) (sym same)
+    (subst (Lawful (boxOn ms)) size (law (e .site) (e .seq))) in
+    rw create (c .before .before .before .before .before .before .are-named .ensures lawful ∙ ap namedInTurn same)
 
 pub are-named-at-spec : {M : Type 1} → statement M
 are-named-at-spec =
@@ -43,7 +111,13 @@ are-named-at-spec =
     (tie.spec
     kind-at-requires
     returns
-    decode-at-requires
-    are-named-on-requires
+    gather-sets-requires
+    is-any-limited-requires
     same-length
-    returns-2)
+    returns-2
+    are-named-requires
+    same-length-2
+    same-length-3
+    same-length-4
+    same-length-5
+    returns-3)

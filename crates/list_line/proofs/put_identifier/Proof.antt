@@ -1,54 +1,98 @@
--- `list_line::put_identifier` meets its contract: a space and the names behind it. Assumes nothing.
+-- `list_line::put_identifier` meets its contract: the names with a space in the place of the first mark, or a space and
+-- `-`. Assumes nothing.
 use mathlib.Core.Path.{_∙_}
 use mathlib.Core.List.{[], _∷_}
 use native.Mathlib.Omega.{arith}
-use borrow.Author.Needs.{needs}
 use lib.ListN.{take}
-use Rattle.list_text.specs.Pieces.{space}
+use Rattle.list_text.specs.Pieces.{space, minus}
 use Rattle.list_text.proofs.PiecesBehind.{two}
-use Rattle.list_line.specs.Line.{identifierText}
 use Rattle.list_version.specs.VersionForms.{identifierBy}
+use Rattle.list_line.specs.Line.{identifierText}
+use Rattle.list_line.proofs.LineTurns.{none-marked, first-mark-spaced}
+use borrow.Author.Needs.{needs}
 use Rattle.list_line.proofs.put_identifier.Statement.{statement}
 use Rattle.list_line.proofs.put_identifier.Tie as tie
 
-slice-aggregate-identifier : tie.Need-slice-aggregate-identifier
-slice-aggregate-identifier c = search needs
-
-identifier-requires : tie.Need-identifier-requires
-identifier-requires c κs = search needs
+put-members-requires : tie.Need-put-members-requires
+put-members-requires c κs = search needs
 
 put-byte-requires : tie.Need-put-byte-requires
 put-byte-requires c κs = search needs
 
-slice-aggregate-put-names : tie.Need-slice-aggregate-put-names
-slice-aggregate-put-names c = search needs
-
-put-names-requires : tie.Need-put-names-requires
-put-names-requires c κs = search needs
+put-byte-requires-2 : tie.Need-put-byte-requires-2
+put-byte-requires-2 c κs = search needs
 
 same-length : tie.Need-same-length
 same-length c = search needs
 
+same-length-2 : tie.Need-same-length-2
+same-length-2 c = search needs
+
+same-length-3 : tie.Need-same-length-3
+same-length-3 c = search needs
+
+same-length-4 : tie.Need-same-length-4
+same-length-4 c = search needs
+
 returns : tie.Need-returns
+unfolding identifierText
 returns c =
-    let joined = c .before .before .put-names in
-    let mark = c .before .before .before .before .before .before .before in
-    let named = mark .before .before .before in
-    let a = named .before .before .before .before .args in
-    let names = identifierBy (take (a .d) (a .disputes .now)) (a .g) in (
-      two (take (a .n) (a .out .now)) (space ∷ []) (identifierText names) (mark .put-byte .ensures .0)
-          (joined .ensures .0 ∙ rw (named .identifier .ensures .0)),
-      omega (arith, joined .ensures .1),
+    let s = c .before .before .before .before .before .before .before .before .before .before .before .before .before .before .before .before .before .before .before .before .before .before .before .before .before .before .before in
+    let a = s .args in
+    let all = c .before .before .before .before .before .before .before .before .before .before .before .before .before .before .before .before .before .put-members in
+    let ids = identifierBy (take (a .d) (a .disputes .now)) (a .g) in
+    let (front, none) = none-marked (all .last .0) (a .out .now) (all .result) (a .n)
+    (omega (arith, s .pre .1, s .pre .2, all .ensures .1, all .kept .0)) (omega (arith, s .pre .2)) ids (all .ensures .0)
+    (c .before .before .before .before .before .before .before .before .if1 .taken) in (
+      rw none (two (take (a .n) (a .out .now)) (space ∷ []) (minus ∷ []) (c .before .before .before .before .before .before .put-byte .ensures .0 ∙ rw front)
+          (c .before .before .put-byte2 .ensures .0)),
+      omega arith,
+      all .ensures .2,
+    )
+
+slice-write-out : tie.Need-slice-write-out
+slice-write-out c = search needs
+
+same-length-5 : tie.Need-same-length-5
+same-length-5 c = search needs
+
+same-length-6 : tie.Need-same-length-6
+same-length-6 c = search needs
+
+same-length-7 : tie.Need-same-length-7
+same-length-7 c = search needs
+
+same-length-8 : tie.Need-same-length-8
+same-length-8 c = search needs
+
+returns-2 : tie.Need-returns-2
+returns-2 c =
+    let s = c .before .before .before .before .before .before .before .before .before .before .before .before .before .before .before .before .before .before .before in
+    let a = s .args in
+    let all = c .before .before .before .before .before .before .before .before .before .put-members in
+    let ids = identifierBy (take (a .d) (a .disputes .now)) (a .g) in (
+      first-mark-spaced (all .last .0) (a .out .now) (all .result) (a .n)
+          (omega (arith, s .pre .1, s .pre .2, all .ensures .1, all .kept .0)) (omega (arith, s .pre .2)) ids
+          (all .ensures .0) (c .if1 .left) (omega (arith, s .pre .2, all .kept .0)),
+      omega (arith, s .pre .1, all .ensures .1),
+      all .ensures .2,
     )
 
 pub put-identifier-spec : {M : Type 1} → statement M
 put-identifier-spec =
     tie.close
     (tie.spec
-    slice-aggregate-identifier
-    identifier-requires
+    put-members-requires
     put-byte-requires
-    slice-aggregate-put-names
-    put-names-requires
+    put-byte-requires-2
     same-length
-    returns)
+    same-length-2
+    same-length-3
+    same-length-4
+    returns
+    slice-write-out
+    same-length-5
+    same-length-6
+    same-length-7
+    same-length-8
+    returns-2)

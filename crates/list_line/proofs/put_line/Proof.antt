@@ -1,14 +1,14 @@
 -- `list_line::put_line` meets its contract: the Create, the identifier, the values and a newline. Assumes nothing.
 use mathlib.Core.List.{[], _∷_}
 use native.Mathlib.Omega.{arith}
-use borrow.Author.Needs.{needs}
 use lib.ListN.{take}
 use Rattle.edit_record.specs.Layout.{keys}
 use Rattle.list_text.specs.Pieces.{space, newline, dotted}
 use Rattle.list_text.proofs.PiecesBehind.{four}
-use Rattle.list_line.specs.Line.{identifierText}
 use Rattle.list_version.specs.VersionForms.{identifierBy}
-use Rattle.list_line.specs.LineForms.{settingsBy, lineBy}
+use Rattle.list_line.specs.Line.{identifierText}
+use Rattle.list_line.specs.LineForms.{settingsOf, lineWith}
+use borrow.Author.Needs.{needs}
 use Rattle.list_line.proofs.put_line.Statement.{statement}
 use Rattle.list_line.proofs.put_line.Tie as tie
 
@@ -22,25 +22,48 @@ put-settings-requires : tie.Need-put-settings-requires
 put-settings-requires c κs = search needs
 
 put-byte-requires : tie.Need-put-byte-requires
-put-byte-requires c κs = search needs
+put-byte-requires c κs =
+    let s = c .before .before .before .before .before .before .before .before .before .before .before .before .before .before .before .before .before .before .before .before .before .before .before .before .before .before .before .before .before .before .before .before .before .before .before .before in
+    let first = c .before .before .before .before .before .before .before .before .before .before .before .before .before .before .before .before .before .before .before .before .before .before .before .before .before .before .before .before .before .put-dotted in
+    let second = c .before .before .before .before .before .before .before .before .before .before .before .before .before .before .before .before .before .before .before .before .before .before .put-identifier in
+    let third = c .before .before .before .before .before .before .before .before .before .put-settings in
+    omega (
+      arith,
+      s .pre .2,
+      first .ensures .1,
+      second .ensures .1,
+      third .ensures .1,
+      first .kept .0,
+      second .kept .0,
+      third .kept .0,
+    )
 
 same-length : tie.Need-same-length
 same-length c = search needs
 
+same-length-2 : tie.Need-same-length-2
+same-length-2 c = search needs
+
+same-length-3 : tie.Need-same-length-3
+same-length-3 c = search needs
+
+same-length-4 : tie.Need-same-length-4
+same-length-4 c = search needs
+
 returns : tie.Need-returns
-unfolding lineBy
+unfolding lineWith
 returns c =
-    let third = c .before .before .before .before .before .before in
-    let second = third .before .before .before .before in
-    let first = second .before .before .before .before in
-    let start = first .before .before .before .before .before in
-    let a = start .args in
+    let s = c .before .before .before .before .before .before .before .before .before .before .before .before .before .before .before .before .before .before .before .before .before .before .before .before .before .before .before .before .before .before .before .before .before .before .before .before .before .before .before in
+    let a = s .args in
+    let first = c .before .before .before .before .before .before .before .before .before .before .before .before .before .before .before .before .before .before .before .before .before .before .before .before .before .before .before .before .before .before .before .before .put-dotted in
+    let second = c .before .before .before .before .before .before .before .before .before .before .before .before .before .before .before .before .before .before .before .before .before .before .before .before .before .put-identifier in
+    let third = c .before .before .before .before .before .before .before .before .before .before .before .before .put-settings in
     let disputes = take (a .d) (a .disputes .now) in (
       four [] (dotted (a .site) (a .seq)) (space ∷ identifierText (identifierBy disputes (a .g)))
-          (settingsBy (take (a .t) (a .stamps .now)) (a .g) keys) (newline ∷ []) (first .put-dotted .ensures .0)
-          (second .put-identifier .ensures .0) (third .put-settings .ensures .0)
+          (settingsOf _ keys) (newline ∷ []) (first .ensures .0) (second .ensures .0) (third .ensures .0)
           (c .before .before .put-byte .ensures .0),
-      omega arith,
+      omega (arith, first .ensures .1, second .ensures .1, third .ensures .1, c .before .before .put-byte .ensures .1),
+      third .ensures .2,
     )
 
 pub put-line-spec : {M : Type 1} → statement M
@@ -52,4 +75,7 @@ put-line-spec =
     put-settings-requires
     put-byte-requires
     same-length
+    same-length-2
+    same-length-3
+    same-length-4
     returns)

@@ -1,47 +1,82 @@
--- `list_line::put_setting` meets its contract: a space and `key=value`, or nothing. Assumes nothing.
-use mathlib.Core.Path.{sym}
-use mathlib.Core.List.{[], _∷_, append-nil}
+-- `list_line::put_setting` meets its contract: a setting that is kept, one formed anew, or nothing. Assumes nothing.
+use mathlib.Core.Path.{sym, _∙_}
+use mathlib.Core.List.{append-nil}
+use Prim.Native.Nat.{_<_}
 use native.Mathlib.Omega.{arith}
+use borrow.Author.Tests.{eq-eqb}
+use Rattle.list_line.specs.LineForms.{pieces}
+use Rattle.list_line.proofs.KeptPieces.{stands, setting-text, setting-most}
 use borrow.Author.Needs.{needs}
-use borrow.Author.Tests.{eq-eqb, ne-eqb}
-use lib.ListN.{take}
-use Rattle.list_text.specs.Pieces.{space, equated}
-use Rattle.list_text.proofs.PiecesBehind.{two}
 use Rattle.list_line.proofs.put_setting.Statement.{statement}
 use Rattle.list_line.proofs.put_setting.Tie as tie
 
 returns : tie.Need-returns
 returns c =
-    let a = c .before .before .args in
-    (rw (eq-eqb (a .s) 0 (c .if1 .taken)) (sym (append-nil _)), omega arith)
+    let s = c .before .before .before .before .before in
+    (rw (eq-eqb (s .args .s) 0 (c .if1 .taken)) (sym (append-nil _)), omega arith, s .pre .2)
 
-put-byte-requires : tie.Need-put-byte-requires
-put-byte-requires c κs = search needs
+is-kept-requires : tie.Need-is-kept-requires
+is-kept-requires c κs =
+    let kept = c .before .before .before .before .before .before .before .pre .2 in
+    (omega (arith, c .before .before .before .before .before .before .before .pre .0, kept .lens-long), omega (arith, c .before .before .before .before .before .before .before .pre .0, kept .told-long))
 
-sub-shown : tie.Need-sub-shown
-sub-shown c = search needs
-
-cast-shown : tie.Need-cast-shown
-cast-shown c = search needs
-
-shown-requires : tie.Need-shown-requires
-shown-requires c κs = search needs
-
-put-equated-requires : tie.Need-put-equated-requires
-put-equated-requires c κs = search needs
+put-piece-requires : tie.Need-put-piece-requires
+put-piece-requires c κs =
+    let s = c .before .before .before .before .before .before .before .before .before .before .before .before in
+    let kept = s .pre .2 in
+    let low : s .args .key < pieces = omega (arith, s .pre .0) in
+    (low, kept .texts-long, kept .lens-long, kept .few (s .args .key) low, s .pre .1)
 
 same-length : tie.Need-same-length
 same-length c = search needs
 
+same-length-2 : tie.Need-same-length-2
+same-length-2 c = search needs
+
+same-length-3 : tie.Need-same-length-3
+same-length-3 c = search needs
+
+same-length-4 : tie.Need-same-length-4
+same-length-4 c = search needs
+
 returns-2 : tie.Need-returns-2
 returns-2 c =
-    let mark = c .before .before .before .before .before .before .before in
-    let a = mark .before .before .before .before .args in
-    let s = c .before .before .before .shown in (
-      rw (ne-eqb (a .s) 0 (mark .before .before .if1 .left), ← s .ensures)
-          (two (take (a .n) (a .out .now)) (space ∷ []) (equated (a .key) (s .result)) (mark .put-byte .ensures .0)
-          (c .before .before .put-equated .ensures .0)),
-      omega arith,
+    let s = c .before .before .before .before .before .before .before .before .before .before .before .before .before .before .before in
+    let a = s .args in
+    let kept = s .pre .2 in
+    let low : a .key < pieces = omega (arith, s .pre .0) in
+    let here = stands kept (a .key) (a .s) low (sym (c .before .before .before .before .before .before .before .is-kept .ensures) ∙ c .before .before .before .before .before .before .if2 .taken) in
+    let put = c .before .before .put-piece in (
+      put .ensures .0 ∙ rw (here, setting-text (a .key) (a .s) (s .pre .0)),
+      omega (arith, put .ensures .1, kept .few (a .key) low, setting-most (a .key) (s .pre .0)),
+      kept,
+    )
+
+put-anew-requires : tie.Need-put-anew-requires
+put-anew-requires c κs =
+    let s = c .before .before .before .before .before .before .before .before .before .before .before .before .before in
+    (omega (arith, s .pre .0), λ l. omega (arith, c .before .before .before .before .before .before .before .before .if1 .left), s .pre .1, s .pre .2)
+
+same-length-5 : tie.Need-same-length-5
+same-length-5 c = search needs
+
+same-length-6 : tie.Need-same-length-6
+same-length-6 c = search needs
+
+same-length-7 : tie.Need-same-length-7
+same-length-7 c = search needs
+
+same-length-8 : tie.Need-same-length-8
+same-length-8 c = search needs
+
+returns-3 : tie.Need-returns-3
+returns-3 c =
+    let s = c .before .before .before .before .before .before .before .before .before .before .before .before .before .before .before .before .before .before .before .before .before .before in
+    let a = s .args in
+    let put = c .before .before .before .before .before .before .before .before .put-anew in (
+      put .ensures .0 ∙ rw (setting-text (a .key) (a .s) (s .pre .0)),
+      omega (arith, put .ensures .1, setting-most (a .key) (s .pre .0)),
+      put .ensures .2,
     )
 
 pub put-setting-spec : {M : Type 1} → statement M
@@ -49,10 +84,16 @@ put-setting-spec =
     tie.close
     (tie.spec
     returns
-    put-byte-requires
-    sub-shown
-    cast-shown
-    shown-requires
-    put-equated-requires
+    is-kept-requires
+    put-piece-requires
     same-length
-    returns-2)
+    same-length-2
+    same-length-3
+    same-length-4
+    returns-2
+    put-anew-requires
+    same-length-5
+    same-length-6
+    same-length-7
+    same-length-8
+    returns-3)

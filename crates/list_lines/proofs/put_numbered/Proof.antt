@@ -15,7 +15,7 @@ head-requires c κs =
     let s = c .before .before .before .before .before .before in
     let a = s .args in
     let t = tablesOf (a .c) (now (a .records)) (now (a .objects)) (now (a .groups)) in
-    (sound-at t (s .pre .0) .few-objects, s .pre .1)
+    (sound-at t (s .pre .0) .few-objects, omega (arith, s .pre .1))
 
 same-length : tie.Need-same-length
 same-length c = search needs

@@ -20,7 +20,7 @@ use Rattle.table_check.proofs.step_limited.Statement.{statement}
 use Rattle.table_check.proofs.step_limited.Tie as tie
 
 abbrev Inv-loop : tie.InvT-loop
-Inv-loop gs₀ plain₀ ctx₀ recs places k n₀ i₀ gs plain ctx n i =
+Inv-loop gs₀ plain₀ ctx₀ recs places names k n₀ i₀ gs plain ctx n i =
     (i ≤ k)
     × (length gs ≡ mostGroups)
     × (n ≤ mostGroups)
@@ -30,11 +30,11 @@ Inv-loop gs₀ plain₀ ctx₀ recs places k n₀ i₀ gs plain ctx n i =
     × RowsTell (setsIn recs places i) plain ctx
 
 abbrev μ-loop : tie.MeasureT-loop
-μ-loop gs₀ plain₀ ctx₀ recs places k n₀ i₀ gs plain ctx n i = k - i
+μ-loop gs₀ plain₀ ctx₀ recs places names k n₀ i₀ gs plain ctx n i = k - i
 
 loop-holds : tie.Need-loop-holds Inv-loop μ-loop
 loop-holds c =
-    let s = c .before .before .before .before .before in
+    let s = c .before .before .before .before .before .before in
     let a = s .args in (
       omega arith,
       s .pre .0,
@@ -52,12 +52,22 @@ shared-slice-read-told-at : tie.Need-shared-slice-read-told-at Inv-loop μ-loop
 shared-slice-read-told-at c = search needs
 
 told-at-requires : tie.Need-told-at-requires Inv-loop μ-loop
-told-at-requires c κs = search needs
+told-at-requires c κs =
+    let l = c .before .before .before .before .loop in
+    let s = c .before .before .before .before .before .before .before .before .before .before .before in
+    let more = c .before .before .before .loop-test .taken in (
+      omega (arith, s .pre .5, more),
+      omega (arith, s .pre .4, more),
+      omega (arith, s .pre .7, more),
+      omega (arith, l .inv .4, s .pre .2, more),
+      omega (arith, l .inv .5, s .pre .3, more),
+      λ j m. s .pre .8 j (omega (arith, more)),
+    )
 
 step-apart-requires : tie.Need-step-apart-requires Inv-loop μ-loop
 step-apart-requires c κs =
     let l = c .before .before .before .before .before .before .loop in
-    let a = c .before .before .before .before .before .before .before .before .before .before .before .before .args in (
+    let a = c .before .before .before .before .before .before .before .before .before .before .before .before .before .args in (
       l .inv .1,
       l .inv .2,
       omega arith,
@@ -80,7 +90,7 @@ returns c =
     let b = c .before .before .before .before .before in
     let y = b .before .before .before .before in
     let l = y .before .loop in
-    let s = y .before .before .before .before .before .before .before in
+    let s = y .before .before .before .before .before .before .before .before in
     let a = s .args in
     let rs = now (a .recs) in
     let ps = now (a .places) in
@@ -108,7 +118,7 @@ put-told-requires c κs =
     let b = c .before .before .before .before .before .before .before in
     let y = b .before .before .before .before in
     let l = y .before .loop in
-    let s = y .before .before .before .before .before .before .before in
+    let s = y .before .before .before .before .before .before .before .before in
     let a = s .args in (
       omega (arith, s .pre .5, y .loop-test .taken),
       omega (arith, l .inv .4, s .pre .2, y .loop-test .taken),
@@ -121,7 +131,7 @@ add-i : tie.Need-add-i Inv-loop μ-loop
 add-i c =
     let b = c .before .before .before .before .before .before .before .before .before .before .before .before in
     let y = b .before .before .before .before in
-    omega (arith, y .loop-test .taken, y .before .before .before .before .before .before .before .pre .5)
+    omega (arith, y .loop-test .taken, y .before .before .before .before .before .before .before .before .pre .5)
 
 loop-less : tie.Need-loop-less Inv-loop μ-loop
 loop-less c = search needs
@@ -134,7 +144,7 @@ loop-again c =
     let b = c .before .before .before .before .before .before .before .before .before .before .before .before in
     let y = b .before .before .before .before in
     let l = y .before .loop in
-    let s = y .before .before .before .before .before .before .before in
+    let s = y .before .before .before .before .before .before .before .before in
     let a = s .args in
     let rs = now (a .recs) in
     let ps = now (a .places) in
@@ -167,7 +177,7 @@ same-length-6 c = search needs
 returns-2 : tie.Need-returns-2 Inv-loop μ-loop
 returns-2 c =
     let l = c .before .loop in
-    let k : l .i ≡ c .before .before .before .before .before .before .before .args .k = omega arith in
+    let k : l .i ≡ c .before .before .before .before .before .before .before .before .args .k = omega arith in
     record { few = λ h. rw (← k) (l .inv .3); many = λ h. absurd (omega (arith, l .inv .2)) }
 
 pub step-limited-spec : {M : Type 1} → statement M

@@ -37,15 +37,24 @@ same-length c =
 returns : tie.Need-returns
 returns c = search needs
 
+slice-aggregate-put-names : tie.Need-slice-aggregate-put-names
+slice-aggregate-put-names c = search needs
+
+put-names-requires : tie.Need-put-names-requires
+put-names-requires c κs = search needs
+
 slice-aggregate-step-limited : tie.Need-slice-aggregate-step-limited
 slice-aggregate-step-limited c = search needs
 
 slice-aggregate-step-limited-2 : tie.Need-slice-aggregate-step-limited-2
 slice-aggregate-step-limited-2 c = search needs
 
+slice-aggregate-step-limited-3 : tie.Need-slice-aggregate-step-limited-3
+slice-aggregate-step-limited-3 c = search needs
+
 step-limited-requires : tie.Need-step-limited-requires
 step-limited-requires c κs =
-    let s = c .before .before .before .before .before .before .before .before in (
+    let s = c .before .before .before .before .before .before .before .before .before .before .before .before in (
       simp length-set (s .pre .2),
       take-suc-set (now (s .args .gs)) 0 0 (omega (arith, s .pre .2)),
       search needs,
@@ -53,12 +62,14 @@ step-limited-requires c κs =
       s .pre .0,
       s .pre .1,
       s .pre .3,
+      search needs,
+      c .before .before .before .before .before .put-names .ensures,
     )
 
 same-length-2 : tie.Need-same-length-2
 same-length-2 c =
     let r = c .before .before .before .before in
-    let s = r .before .before .before .before .before .before .before .before .before in
+    let s = c .before .before .before .before .before .before .before .before .before .before .before .before .before .before .before .before .before in
     r .step-limited .kept .0 ∙ length-set (now (s .args .gs)) 0 _
 
 returns-2 : tie.Need-returns-2
@@ -73,8 +84,11 @@ work-out-spec =
     step-plainly-requires
     same-length
     returns
+    slice-aggregate-put-names
+    put-names-requires
     slice-aggregate-step-limited
     slice-aggregate-step-limited-2
+    slice-aggregate-step-limited-3
     step-limited-requires
     same-length-2
     returns-2)

@@ -5,11 +5,20 @@ use borrow.Author.Needs.{needs}
 use Rattle.table_engine.proofs.put_by_rows.Statement.{statement}
 use Rattle.table_engine.proofs.put_by_rows.Tie as tie
 
+slice-aggregate-put-names : tie.Need-slice-aggregate-put-names
+slice-aggregate-put-names c = search needs
+
+put-names-requires : tie.Need-put-names-requires
+put-names-requires c κs = search needs
+
 slice-aggregate-put-rows : tie.Need-slice-aggregate-put-rows
 slice-aggregate-put-rows c = search needs
 
 slice-aggregate-put-rows-2 : tie.Need-slice-aggregate-put-rows-2
 slice-aggregate-put-rows-2 c = search needs
+
+slice-aggregate-put-rows-3 : tie.Need-slice-aggregate-put-rows-3
+slice-aggregate-put-rows-3 c = search needs
 
 put-rows-requires : tie.Need-put-rows-requires
 put-rows-requires c κs = search needs
@@ -30,8 +39,7 @@ returns : tie.Need-returns
 returns c =
     let m = c .before .before .put-conflicts in
     let r = c .before .before .before .before .before .before .before .before .put-rows in
-    let s = c .before .before .before .before .before .before .before .before .before .before .before .before .before
-    .before in
+    let s = c .before .before .before .before .before .before .before .before .before .before .before .before .before .before .before .before .before .before in
     let a = s .args in
     masked (now (a .recs)) (now (a .places)) (a .k) (s .pre .0) (s .pre .3) _ _ (m .last .0) (r .ensures)
     (m .ensures)
@@ -40,8 +48,11 @@ pub put-by-rows-spec : {M : Type 1} → statement M
 put-by-rows-spec =
     tie.close
     (tie.spec
+    slice-aggregate-put-names
+    put-names-requires
     slice-aggregate-put-rows
     slice-aggregate-put-rows-2
+    slice-aggregate-put-rows-3
     put-rows-requires
     slice-aggregate-put-conflicts
     slice-aggregate-put-conflicts-2

@@ -1,14 +1,12 @@
 -- `table_replay::replay` meets its contract. Assumes nothing.
-use mathlib.Core.Path.{refl, sym, ap, _∙_}
-use Prim.Native.Nat.{ℕ}
+use mathlib.Core.Path.{refl}
 use native.Mathlib.Omega.{arith}
 use denote.Ref.{now}
 use borrow.Author.Needs.{needs}
 use Rattle.edit_form.specs.OldForm.{storedIn}
-use Rattle.table_drawing.specs.Tables.{tablesOf, emptyDrawing}
+use Rattle.table_drawing.specs.Tables.{tablesOf}
 use Rattle.table_index.proofs.OneRecordMore.{index-starts}
-use Rattle.table_replay.specs.Replay.{replayOf}
-use Rattle.table_replay.proofs.ReplayGoes.{opened, opened-sites, opened-records}
+use Rattle.table_replay.proofs.ReplayGoes.{opened, opened-parts}
 use Rattle.table_replay.proofs.RoomForAll.{counts-in-all, room-for-all}
 use Rattle.table_replay.proofs.replay.Statement.{statement}
 use Rattle.table_replay.proofs.replay.Tie as tie
@@ -26,7 +24,7 @@ space-places-requires : tie.Need-space-places-requires
 space-places-requires c κs =
     let s1 = c .before in
     let s9 = s1 .before .before .before .before .before .before .before .before in
-    let s = s9 .before .before .before .before .before .before .before .before in
+    let s = s9 .before .before .before .before .before .before .before in
     let a = s .args in
     let counted = s1 .count-stretch in (
       omega (
@@ -53,19 +51,18 @@ take-records-requires : tie.Need-take-records-requires
 take-records-requires c κs =
     let s8 = c .before .before .before .before .before .before .before .before in
     let s10 = s8 .before .before in
-    let s18 = s10 .before .before .before .before .before .before .before .before in
-    let s = s18 .before .before .before .before .before .before .before .before in
+    let s17 = s10 .before .before .before .before .before .before .before in
+    let s = s17 .before .before .before .before .before .before .before .before in
     let a = s .args in
     let counted = s10 .count-stretch in
     let spaced = s8 .space-places .ensures in
     let e = opened (tablesOf _ (now (a .records)) (now (a .objects)) (now (a .groups))) _ _ (a .sites) (s .pre .0)
     (s .pre .1)
-    (s18 .«open» .ensures) in
-    let n = opened-sites _ (a .sites) e in (
-      e ∙ ap emptyDrawing (sym n),
-      rw (opened-records _ (a .sites) e) (index-starts _ _ _ (spaced .entries) refl),
+    (s17 .«open» .ensures) in (
+      opened-parts _ (a .sites) e,
+      index-starts _ _ _ (spaced .entries) refl,
       room-for-all (storedIn (a .form) (now (a .recs))) (a .n) (counted .result) (counted .ensures) _ spaced,
-      rw n (s .pre .1),
+      s .pre .1,
       s .pre .2,
       s .pre .3,
     )
@@ -73,16 +70,16 @@ take-records-requires c κs =
 same-length : tie.Need-same-length
 same-length c =
     let s8 = c .before .before .before .before .before .before .before .before in
-    let s27 = s8 .before .before .before .before .before .before .before .before .before .before
+    let s26 = s8 .before .before .before .before .before .before .before .before .before
     .before .before .before .before .before .before .before .before .before in
-    search (needs, s8 .slice-known7 .given, s27 .slice-known4 .given)
+    search (needs, s8 .slice-known7 .given, s26 .slice-known4 .given)
 
 same-length-2 : tie.Need-same-length-2
 same-length-2 c =
     let s6 = c .before .before .before .before .before .before in
-    let s25 = s6 .before .before .before .before .before .before .before .before .before .before
+    let s24 = s6 .before .before .before .before .before .before .before .before .before
     .before .before .before .before .before .before .before .before .before in
-    search (needs, s6 .slice-known8 .given, s25 .slice-known5 .given)
+    search (needs, s6 .slice-known8 .given, s24 .slice-known5 .given)
 
 same-length-3 : tie.Need-same-length-3
 same-length-3 c = search needs
@@ -90,15 +87,7 @@ same-length-3 c = search needs
 returns : tie.Need-returns
 returns c =
     let s10 = c .before .before .before .before .before .before .before .before .before .before in
-    let s19 = s10 .before .before .before .before .before .before .before .before .before in
-    let s29 = s19 .before .before .before .before .before .before .before .before .before .before in
-    let s = s29 .before .before .before .before .before .before .before .before in
-    let a = s .args in
-    let e = opened (tablesOf _ (now (a .records)) (now (a .objects)) (now (a .groups))) _ _ (a .sites) (s .pre .0)
-    (s .pre .1)
-    (s29 .«open» .ensures) in
-    let n = opened-sites _ (a .sites) e in
-    s10 .take-records .ensures ∙ ap (λ (k : ℕ). replayOf k (storedIn (a .form) (now (a .recs))) (a .n)) n
+    s10 .take-records .ensures
 
 pub replay-spec : {M : Type 1} → statement M
 replay-spec =

@@ -1,13 +1,9 @@
 -- `edit_walk::next::is_fit_and_aimed` meets its contract. Assumes nothing.
-use mathlib.Core.Path.{_≡_, refl, sym, _∙_}
-use mathlib.Core.Bool.{Bool, true, false, not}
+use mathlib.Core.Path.{sym, _∙_}
 use borrow.Author.Needs.{needs}
+use Rattle.math_lists.proofs.Booleans.{not-not}
 use Rattle.edit_walk.proofs.next.is_fit_and_aimed.Statement.{statement}
 use Rattle.edit_walk.proofs.next.is_fit_and_aimed.Tie as tie
-
-twice : (b : Bool) → b ≡ not (not b)
-twice true = refl
-twice false = refl
 
 is-body-unfit-requires : tie.Need-is-body-unfit-requires
 is-body-unfit-requires c κs = search needs
@@ -28,10 +24,9 @@ is-target-held-requires c κs = search needs
 
 returns-2 : tie.Need-returns-2
 returns-2 c h =
-    let y = c .before .before .before .before in
-    let u = sym (y .before .is-body-unfit .ensures h) ∙ y .if1 .left in
+    let u = sym (c .before .before .before .before .before .is-body-unfit .ensures h) ∙ c .before .before .before .before .if1 .left in
     let t = sym (c .before .before .is-aimed-kind .ensures) ∙ c .before .if2 .taken in
-    rw (u, t, c .is-target-held .ensures) (twice _)
+    rw (u, t, c .is-target-held .ensures) (not-not _)
 
 returns-3 : tie.Need-returns-3
 returns-3 c h =

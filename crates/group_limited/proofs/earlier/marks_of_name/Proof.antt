@@ -1,76 +1,70 @@
--- `group_limited::earlier::marks_of_name` meets its contract: after i names, those of them are marked. Assumes
+-- `group_limited::earlier::marks_of_name` meets its contract: the sum of their places tells which they are. Assumes
 -- nothing.
-use mathlib.Core.Path.{_≡_, refl, sym}
-use Prim.Native.Nat.{_-_, _≤_}
-use native.Mathlib.Numerals.{add-one}
+use mathlib.Core.Path.{sym, ap, _∙_}
+use Prim.Native.Nat.{ℕ, _-_, _^_}
 use native.Mathlib.Omega.{arith}
-use lib.Dec.{eqb}
-use lib.ListN.{getD}
 use denote.Ref.{now}
-use Rattle.math_lists.specs.NumbersBelow.{mask, sum}
-use Rattle.math_lists.proofs.NumbersBelow.{mask-more, mask-below}
-use Rattle.group_limited.specs.LimitedForms.{marksOfName}
+use Rattle.group_limited.specs.LimitedForms.{found}
+use Rattle.group_limited.proofs.NamesOfSets.{none-marked-by-sum, one-marked-by-sum}
 use borrow.Author.Needs.{needs}
 use Rattle.group_limited.proofs.earlier.marks_of_name.Statement.{statement}
 use Rattle.group_limited.proofs.earlier.marks_of_name.Tie as tie
 
-abbrev Inv-loop : tie.InvT-loop
-Inv-loop names k x m₀ i₀ m i = (i ≤ k) × (m ≡ marksOfName names i x)
+sum-of-name-requires : tie.Need-sum-of-name-requires
+sum-of-name-requires c κs = search needs
 
-abbrev μ-loop : tie.MeasureT-loop
-μ-loop names k x m₀ i₀ m i = k - i
-
-loop-holds : tie.Need-loop-holds Inv-loop μ-loop
-unfolding mask sum
-loop-holds c = (omega arith, refl)
-
-mul-marked-if : tie.Need-mul-marked-if Inv-loop μ-loop
-mul-marked-if c = search needs
-
-shared-slice-read-marked-if : tie.Need-shared-slice-read-marked-if Inv-loop μ-loop
-shared-slice-read-marked-if c = search needs
-
-marked-if-requires : tie.Need-marked-if-requires Inv-loop μ-loop
-marked-if-requires c κs =
-    let s = c .before .before .before .before in
-    let l = c .before .before .loop in (
-      rw (l .inv .1) (mask-below (l .i) (λ j. eqb (getD (now (s .args .names)) j 0) (s .args .x))),
-      λ y. omega (arith, s .pre .0),
-    )
-
-add-i : tie.Need-add-i Inv-loop μ-loop
-add-i c = search needs
-
-loop-less : tie.Need-loop-less Inv-loop μ-loop
-loop-less c = search needs
-
-loop-again : tie.Need-loop-again Inv-loop μ-loop
-loop-again c =
-    let a = c .before .before .before .before .before .args in
-    let l = c .before .before .before .loop in (
-      omega arith,
-      rw (c .marked-if .ensures, l .inv .1, add-one (l .i))
-          (sym (mask-more (l .i) (λ j. eqb (getD (now (a .names)) j 0) (a .x)))),
-    )
-
-returns : tie.Need-returns Inv-loop μ-loop
+returns : tie.Need-returns
 returns c =
-    let l = c .before .loop in
     let a = c .before .before .before .args in
-    let done : l .i ≡ a .k = omega arith in
-    rw (← done) (l .inv .1)
+    none-marked-by-sum (now (a .names)) (a .k) (a .x) (sym (c .before .sum-of-name .ensures) ∙ c .if1 .taken)
+
+mul-if2 : tie.Need-mul-if2
+mul-if2 c = search needs
+
+sub-only : tie.Need-sub-only
+sub-only c =
+    let a = c .before .before .before .before .args in
+    let e = c .before .before .sum-of-name .ensures in
+    let told = one-marked-by-sum (now (a .names)) (a .k) (a .x) (λ z. c .before .if1 .left (e ∙ z))
+    (omega (arith, e, c .if2 .taken)) in
+    omega (arith, e, told .1)
+
+cast-only : tie.Need-cast-only
+cast-only c = search needs
+
+only-requires : tie.Need-only-requires
+only-requires c κs =
+    let s = c .before .before .before .before in
+    let a = s .args in
+    let e = c .before .before .sum-of-name .ensures in
+    let told = one-marked-by-sum (now (a .names)) (a .k) (a .x) (λ z. c .before .if1 .left (e ∙ z))
+    (omega (arith, e, c .if2 .taken)) in
+    omega (arith, e, told .2, s .pre .0)
+
+returns-2 : tie.Need-returns-2
+returns-2 c =
+    let a = c .before .before .before .before .before .args in
+    let e = c .before .before .before .sum-of-name .ensures in
+    let told = one-marked-by-sum (now (a .names)) (a .k) (a .x) (λ z. c .before .before .if1 .left (e ∙ z))
+    (omega (arith, e, c .before .if2 .taken)) in
+    c .only .ensures ∙ ap (λ (t : ℕ). 2 ^ (t - found)) e ∙ sym (told .0)
+
+marks-one-by-one-requires : tie.Need-marks-one-by-one-requires
+marks-one-by-one-requires c κs = search needs
+
+returns-3 : tie.Need-returns-3
+returns-3 c = search needs
 
 pub marks-of-name-spec : {M : Type 1} → statement M
 marks-of-name-spec =
     tie.close
     (tie.spec
-    Inv-loop
-    μ-loop
-    loop-holds
-    mul-marked-if
-    shared-slice-read-marked-if
-    marked-if-requires
-    add-i
-    loop-less
-    loop-again
-    returns)
+    sum-of-name-requires
+    returns
+    mul-if2
+    sub-only
+    cast-only
+    only-requires
+    returns-2
+    marks-one-by-one-requires
+    returns-3)

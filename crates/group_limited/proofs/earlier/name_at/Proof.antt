@@ -1,6 +1,9 @@
 -- `group_limited::earlier::name_at` meets its contract: site and sequence number are read where they stand.
 -- Assumes nothing.
+use mathlib.Core.Path.{sym, _∙_}
+use Rattle.edit_history.specs.EditsHeld.{recordAt}
 use Rattle.edit_history.proofs.FieldsInPlace.{site-in-place, seq-in-place}
+use Rattle.group_limited.proofs.NamesOfSets.{name-is}
 use borrow.Author.Needs.{needs}
 use Rattle.group_limited.proofs.earlier.name_at.Statement.{statement}
 use Rattle.group_limited.proofs.earlier.name_at.Tie as tie
@@ -35,12 +38,9 @@ add-result c = search needs
 returns : tie.Need-returns
 returns c =
     let a = c .before .before .before .args in
-    rw (
-      c .two-at .ensures,
-      c .before .byte-at .ensures,
-      site-in-place (a .recs .now) (a .p),
-      seq-in-place (a .recs .now) (a .p),
-    )
+    let rs = a .recs .now in
+    name-is (recordAt rs (a .p)) _ _ (c .before .byte-at .ensures ∙ sym (site-in-place rs (a .p)))
+    (c .two-at .ensures ∙ sym (seq-in-place rs (a .p))) (search needs) (search needs)
 
 pub name-at-spec : {M : Type 1} → statement M
 name-at-spec =

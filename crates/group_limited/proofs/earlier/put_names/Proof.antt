@@ -1,12 +1,11 @@
 -- `group_limited::earlier::put_names` meets its contract: after i places, their names are put down. Assumes nothing.
-use mathlib.Core.Path.{_≡_, refl, sym, _∙_}
-use Prim.Native.Nat.{ℕ, _-_, _≤_, _<_}
+use mathlib.Core.Path.{_≡_, refl}
+use Prim.Native.Nat.{_-_, _≤_}
 use native.Mathlib.Decide.{ℕ-discrete}
 use native.Mathlib.Omega.{arith}
-use lib.ListN.{length, getD, length-set}
+use lib.ListN.{length, length-set}
 use lib.Seq.{getD-set-same, getD-set-other}
-use Rattle.edit_record.specs.Answer1.{nameOf}
-use Rattle.edit_history.specs.EditsHeld.{recordAt}
+use Rattle.group_limited.specs.LimitedForms.{NamesIn}
 use borrow.Author.Needs.{needs}
 use Rattle.group_limited.proofs.earlier.put_names.Statement.{statement}
 use Rattle.group_limited.proofs.earlier.put_names.Tie as tie
@@ -15,7 +14,7 @@ abbrev Inv-loop : tie.InvT-loop
 Inv-loop names₀ recs places k i₀ names i =
     (i ≤ k)
     × (length names ≡ length names₀)
-    × ((j : ℕ) → j < i → getD names j 0 ≡ nameOf (recordAt recs (getD places j 0)))
+    × NamesIn recs places i names
 
 abbrev μ-loop : tie.MeasureT-loop
 μ-loop names₀ recs places k i₀ names i = k - i
@@ -51,8 +50,8 @@ loop-again c =
       omega arith,
       simp length-set (l .inv .1),
       λ j m. elim (ℕ-discrete j (l .i)) [
-        | yes e ↦ rw e (getD-set-same (l .names) (l .i) _ 0 (omega (arith, l .inv .1, s .pre .0)) ∙ c .name-at .ensures)
-        | no d ↦ getD-set-other (l .names) (l .i) j _ 0 d ∙ l .inv .2 j (omega (arith, d))
+        | yes e ↦ rw (e, getD-set-same (l .names) (l .i) _ 0 (omega (arith, l .inv .1, s .pre .0))) (c .name-at .ensures)
+        | no d ↦ rw (getD-set-other (l .names) (l .i) j _ 0 d) (l .inv .2 j (omega (arith, d)))
       ],
     )
 

@@ -1,6 +1,5 @@
 -- `list_print::all_lines::put_object` meets its contract: what is gathered of the object is ready to be printed.
 -- Assumes nothing.
-use mathlib.Core.Path.{refl}
 use Prim.Native.Nat.{_≤_}
 use native.Mathlib.Omega.{arith}
 use denote.Ref.{now}
@@ -18,36 +17,28 @@ slice-aggregate-put-chained : tie.Need-slice-aggregate-put-chained
 slice-aggregate-put-chained c = search needs
 
 put-chained-requires : tie.Need-put-chained-requires
-put-chained-requires c κs =
-    let p = c .before .before .before .before .before .before .before .before .before .before .pre in
-    (p .0, p .2, p .1, refl)
+put-chained-requires c κs = search needs
 
 slice-aggregate-gather : tie.Need-slice-aggregate-gather
 slice-aggregate-gather c = search needs
 
 gather-requires : tie.Need-gather-requires
-gather-requires c κs =
-    let s8 = c .before .before .before .before .before .before .before .before in
-    let s16 = s8 .before .before .before .before .before .before .before .before in
-    let p = s16 .pre in
-    (p .0, p .2, c .before .before .before .before .before .put-chained .ensures, p .5, p .6, p .7)
+gather-requires c κs = search needs
 
 put-versions-requires : tie.Need-put-versions-requires
 put-versions-requires c κs =
-    let s8 = c .before .before .before .before .before .before .before .before in
-    let s16 = s8 .before .before .before .before .before .before .before .before in
-    let s24 = s16 .before .before .before .before .before .before .before .before in
-    let start = s24 .before .before .before .before in
+    let start = c .before .before .before .before .before .before .before .before .before .before .before .before .before .before .before .before .before .before .before .before .before .before .before .before .before .before .before .before .before .before .before .before .before .before in
     let a = start .args in
     let t = tablesOf (a .c) (now (a .records)) (now (a .objects)) (now (a .groups)) in
-    let g = s8 .before .before .before .gather in
-    let wide : mostSets ≤ length (g .last .0) = omega (arith, g .kept .0, start .pre .5) in
-    let tall : mostSets ≤ length (g .last .1 .0) = omega (arith, g .kept .1 .0, start .pre .6) in
-    let long : mostGroups ≤ length (g .last .1 .1 .0) = omega (arith, g .kept .1 .1 .0, start .pre .7) in (
+    let g = c .before .before .before .before .before .before .before .before .before .before .before .before .before .before .gather in
+    let wide : mostSets ≤ length (g .last .0) = omega (arith, g .kept .0, start .pre .6) in
+    let tall : mostSets ≤ length (g .last .1 .0) = omega (arith, g .kept .1 .0, start .pre .7) in
+    let long : mostGroups ≤ length (g .last .1 .1 .0) = omega (arith, g .kept .1 .1 .0, start .pre .8) in (
       gathered-ready t (sound-at t (start .pre .0)) (a .o) (start .pre .2) _ _ _ _ (g .ensures) wide tall long,
       g .ensures .few-groups,
       start .pre .3,
       start .pre .4,
+      start .pre .5,
     )
 
 same-length : tie.Need-same-length
@@ -65,24 +56,30 @@ same-length-4 c = search needs
 same-length-5 : tie.Need-same-length-5
 same-length-5 c = search needs
 
+same-length-6 : tie.Need-same-length-6
+same-length-6 c = search needs
+
+same-length-7 : tie.Need-same-length-7
+same-length-7 c = search needs
+
+same-length-8 : tie.Need-same-length-8
+same-length-8 c = search needs
+
 returns : tie.Need-returns
 returns c =
-    let s8 = c .before .before .before .before .before .before .before .before in
-    let s16 = s8 .before .before .before .before .before .before .before .before in
-    let s24 = s16 .before .before .before .before .before .before .before .before in
-    let s32 = s24 .before .before .before .before .before .before .before .before in
-    let start = s32 .before in
+    let start = c .before .before .before .before .before .before .before .before .before .before .before .before .before .before .before .before .before .before .before .before .before .before .before .before .before .before .before .before .before .before .before .before .before .before .before .before .before .before .before .before .before .before .before .before .before in
     let a = start .args in
     let t = tablesOf (a .c) (now (a .records)) (now (a .objects)) (now (a .groups)) in
-    let g = s16 .gather in
-    let wide : mostSets ≤ length (g .last .0) = omega (arith, g .kept .0, start .pre .5) in
-    let tall : mostSets ≤ length (g .last .1 .0) = omega (arith, g .kept .1 .0, start .pre .6) in
-    let long : mostGroups ≤ length (g .last .1 .1 .0) = omega (arith, g .kept .1 .1 .0, start .pre .7) in
+    let g = c .before .before .before .before .before .before .before .before .before .before .before .before .before .before .before .before .before .before .before .before .before .before .before .before .before .gather in
+    let p = c .before .before .before .before .before .before .before .before .before .before .put-versions in
+    let wide : mostSets ≤ length (g .last .0) = omega (arith, g .kept .0, start .pre .6) in
+    let tall : mostSets ≤ length (g .last .1 .0) = omega (arith, g .kept .1 .0, start .pre .7) in
+    let long : mostGroups ≤ length (g .last .1 .1 .0) = omega (arith, g .kept .1 .1 .0, start .pre .8) in
     let lines = gathered-lines t (sound-at t (start .pre .0)) (a .o) (start .pre .2) _ _ _ _ (g .ensures) wide tall long
-    in
-    rw (← lines)
-    (fewer-behind (now (a .out)) (a .n) (omega (arith, g .ensures .few-groups))
-    (c .before .before .before .before .put-versions .ensures))
+    in (
+      rw (← lines) (fewer-behind (now (a .out)) (a .n) (omega (arith, g .ensures .few-groups)) (p .ensures .0)),
+      p .ensures .1,
+    )
 
 pub put-object-spec : {M : Type 1} → statement M
 put-object-spec =
@@ -98,4 +95,7 @@ put-object-spec =
     same-length-3
     same-length-4
     same-length-5
+    same-length-6
+    same-length-7
+    same-length-8
     returns)

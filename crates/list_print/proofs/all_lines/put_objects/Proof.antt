@@ -2,10 +2,10 @@
 -- it. Assumes nothing.
 use mathlib.Core.Path.{_≡_, refl, _∙_}
 use mathlib.Core.List.{map}
-use Prim.Native.Nat.{_-_, _*_, _≤_}
+use Prim.Native.Nat.{ℕ, _-_, _*_, _≤_}
 use native.Mathlib.Omega.{arith}
 use denote.Ref.{now}
-use lib.ListN.{length, take}
+use lib.ListN.{length, take, replicate, length-replicate}
 use Rattle.group_step.specs.GroupRows.{mostSets, mostGroups}
 use Rattle.table_drawing.specs.Tables.{tablesOf}
 use Rattle.table_soundness.proofs.SoundFacts.{sound-at}
@@ -17,25 +17,26 @@ use Rattle.list_print.specs.Printing.{joined}
 use Rattle.list_print.specs.PrintForms.{Behind}
 use Rattle.list_print.proofs.BytesBehind.{fewer-behind, no-piece, piece-behind}
 use Rattle.list_print.proofs.LinesJoined.{sorted-lines}
+use Rattle.list_line.specs.LineForms.{pieces, pieceLength, Kept}
+use Rattle.list_line.proofs.KeptPieces.{none-kept}
 use borrow.Author.Needs.{needs}
 use Rattle.list_print.proofs.all_lines.put_objects.Statement.{statement}
 use Rattle.list_print.proofs.all_lines.put_objects.Tie as tie
 
 abbrev Inv-loop : tie.InvT-loop
-Inv-loop out₀ line₀ n c records objects groups chain m order disputes₀ stamps₀ versions₀ w₀ i₀ out line disputes stamps
-    versions w i =
+Inv-loop out₀ line₀ n c records objects groups chain m order texts₀ lens₀ told₀ disputes₀ stamps₀ versions₀ w₀ i₀ out line texts lens told disputes stamps versions w i =
     (i ≤ m)
     × (length out ≡ length out₀)
     × (length line ≡ length line₀)
     × (length disputes ≡ mostSets)
     × (length stamps ≡ mostSets)
     × (length versions ≡ mostGroups)
+    × Kept texts lens told
     × Behind out₀ n (joined (map (λ o. joined (linesFor (tablesOf c records objects groups) o)) (take i order)))
     (i * (mostGroups * lineLength)) out w
 
 abbrev μ-loop : tie.MeasureT-loop
-μ-loop out₀ line₀ n c records objects groups chain m order disputes₀ stamps₀ versions₀ w₀ i₀ out line disputes stamps
-    versions w i =
+μ-loop out₀ line₀ n c records objects groups chain m order texts₀ lens₀ told₀ disputes₀ stamps₀ versions₀ w₀ i₀ out line texts lens told disputes stamps versions w i =
     m - i
 
 cast-m : tie.Need-cast-m Inv-loop μ-loop
@@ -60,8 +61,9 @@ loop-holds c =
     let a = c .before .before .before .before .before .before .before .before .before .before .before .args in
     let t = tablesOf (a .c) (now (a .records)) (now (a .objects)) (now (a .groups)) in
     let order = c .before .sort-objects .last .0 in
+    let kept = none-kept (replicate (pieces * pieceLength) 1) (length-replicate {A = ℕ} (pieces * pieceLength) 1) in
     let none = no-piece (λ o. joined (linesFor t o)) (mostGroups * lineLength) (now (a .out)) order (a .n) in
-    (search needs, refl, refl, refl, refl, refl, none)
+    (search needs, refl, refl, refl, refl, refl, kept, none)
 
 mul-o : tie.Need-mul-o Inv-loop μ-loop
 mul-o c = search needs
@@ -95,21 +97,29 @@ slice-aggregate-put-object-2 c = search needs
 slice-aggregate-put-object-3 : tie.Need-slice-aggregate-put-object-3 Inv-loop μ-loop
 slice-aggregate-put-object-3 c = search needs
 
+slice-aggregate-put-object-4 : tie.Need-slice-aggregate-put-object-4 Inv-loop μ-loop
+slice-aggregate-put-object-4 c = search needs
+
+slice-aggregate-put-object-5 : tie.Need-slice-aggregate-put-object-5 Inv-loop μ-loop
+slice-aggregate-put-object-5 c = search needs
+
+slice-aggregate-put-object-6 : tie.Need-slice-aggregate-put-object-6 Inv-loop μ-loop
+slice-aggregate-put-object-6 c = search needs
+
 put-object-requires : tie.Need-put-object-requires Inv-loop μ-loop
 put-object-requires c κs =
-    let turn = c .before .before .before .before .before in
-    let l = turn .before .loop in
-    let sorted = turn .before .before .before in
-    let start = sorted .before .before .before .before .before .before .before .before .before .before in
+    let start = c .before .before .before .before .before .before .before .before .before .before .before .before .before .before .before .before .before .before .before .before .before in
+    let l = c .before .before .before .before .before .before .before .before .before .loop in
     let a = start .args in
     let t = tablesOf (a .c) (now (a .records)) (now (a .objects)) (now (a .groups)) in
     let f = sound-at t (start .pre .0) in
-    let more = turn .loop-test .taken in (
+    let more = c .before .before .before .before .before .before .before .before .loop-test .taken in (
       start .pre .0,
       start .pre .1,
-      sorted-low t f _ (sorted .sort-objects .ensures ∙ in-order t f) (l .i) (omega (arith, more)),
-      omega (arith, more, f .few-objects, start .pre .2, l .inv .6 .end, l .inv .6 .few),
+      sorted-low t f _ (c .before .before .before .before .before .before .before .before .before .before .before .sort-objects .ensures ∙ in-order t f) (l .i) (omega (arith, more)),
+      omega (arith, more, f .few-objects, start .pre .2, l .inv .7 .end, l .inv .7 .few),
       omega (arith, start .pre .3, l .inv .2),
+      l .inv .6,
       omega (arith, l .inv .3),
       omega (arith, l .inv .4),
       omega (arith, l .inv .5),
@@ -123,24 +133,23 @@ loop-less c = omega arith
 
 loop-again : tie.Need-loop-again Inv-loop μ-loop
 loop-again c =
-    let s8 = c .before .before .before .before .before .before .before .before in
-    let s16 = s8 .before .before .before .before .before .before .before .before in
-    let s24 = s16 .before .before .before .before .before .before .before .before in
-    let start = s24 .before .before in
+    let start = c .before .before .before .before .before .before .before .before .before .before .before .before .before .before .before .before .before .before .before .before .before .before .before .before .before .before .before .before .before .before .before .before in
     let a = start .args in
     let t = tablesOf (a .c) (now (a .records)) (now (a .objects)) (now (a .groups)) in
-    let p = c .before .before .before .before .before .before .before .put-object in
-    let l = s8 .before .before .before .before .before .before .loop in
-    let more = s8 .before .before .before .before .before .loop-test .taken in
-    let few = sound-at t (start .pre .0) .few-objects in (
+    let p = c .before .before .before .before .before .before .before .before .before .before .put-object in
+    let l = c .before .before .before .before .before .before .before .before .before .before .before .before .before .before .before .before .before .before .before .before .loop in
+    let more = c .before .before .before .before .before .before .before .before .before .before .before .before .before .before .before .before .before .before .before .loop-test .taken in
+    let few = sound-at t (start .pre .0) .few-objects in
+    let work = p .kept .1 .1 .1 .1 .1 in (
       omega (arith, more),
       p .kept .0 ∙ l .inv .1,
       p .kept .1 .0 ∙ l .inv .2,
-      p .kept .1 .1 .0 ∙ l .inv .3,
-      p .kept .1 .1 .1 .0 ∙ l .inv .4,
-      p .kept .1 .1 .1 .1 .0 ∙ l .inv .5,
+      work .0 ∙ l .inv .3,
+      work .1 .0 ∙ l .inv .4,
+      work .1 .1 .0 ∙ l .inv .5,
+      p .ensures .1,
       piece-behind (λ o. joined (linesFor t o)) (mostGroups * lineLength) (now (a .out)) _ (a .n) (l .i)
-          (omega (arith, few, more, s16 .sort-objects .kept .0)) (l .inv .6) (p .ensures),
+          (omega (arith, few, more, c .before .before .before .before .before .before .before .before .before .before .before .before .before .before .before .before .before .before .before .before .before .before .sort-objects .kept .0)) (l .inv .7) (p .ensures .0),
     )
 
 same-length : tie.Need-same-length Inv-loop μ-loop
@@ -151,15 +160,14 @@ same-length-2 c = c .before .loop .inv .2
 
 returns : tie.Need-returns Inv-loop μ-loop
 returns c =
-    let s8 = c .before .before .before .before .before .before .before .before in
-    let start = s8 .before .before .before .before .before in
+    let start = c .before .before .before .before .before .before .before .before .before .before .before .before .before in
     let a = start .args in
     let t = tablesOf (a .c) (now (a .records)) (now (a .objects)) (now (a .groups)) in
     let l = c .before .loop in
     let f = sound-at t (start .pre .0) in
     let ordered = c .before .before .before .sort-objects .ensures ∙ in-order t f in
     rw (← sorted-lines t _ ordered (l .i) (omega arith))
-    (fewer-behind (now (a .out)) (a .n) (omega (arith, f .few-objects)) (l .inv .6))
+    (fewer-behind (now (a .out)) (a .n) (omega (arith, f .few-objects)) (l .inv .7))
 
 pub put-objects-spec : {M : Type 1} → statement M
 put-objects-spec =
@@ -178,6 +186,9 @@ put-objects-spec =
     slice-aggregate-put-object
     slice-aggregate-put-object-2
     slice-aggregate-put-object-3
+    slice-aggregate-put-object-4
+    slice-aggregate-put-object-5
+    slice-aggregate-put-object-6
     put-object-requires
     add-i
     loop-less

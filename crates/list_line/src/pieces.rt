@@ -1,0 +1,142 @@
+// Pieces of lines that are kept from line to line, since the lines of an object have most of them in common: a setting
+// of each key, and the names of the Sets in dispute. A piece is formed anew only where the last one in its place was told
+// by another number. It is copied whole, with what stands behind it: that is written over next.
+use edit_causal::shown;
+use edit_record::VALUES;
+use group_step::SETS;
+use list_text::PLUS;
+use list_text::SPACE;
+use list_text::put_byte;
+use list_text::put_dotted;
+use list_text::put_equated;
+use list_version::ALL_KEYS;
+use list_version::SEQ_NUMBERS;
+use list_version::SITE_NUMBERS;
+use list_version::sets::NUMBERS;
+use table_output::copy_in;
+ghost use mathlib.Core.Path.{_≡_};
+ghost use mathlib.Core.Bool.{not, _&&_};
+ghost use mathlib.Core.List.{_∷_, _++_};
+ghost use Prim.Native.Nat.{_+_, _*_, _≤_, _<_};
+ghost use lib.Dec.{eqb};
+ghost use lib.ListN.{length, take, drop, getD};
+ghost use Rattle.edit_record.specs.Layout.{keys};
+ghost use Rattle.list_text.specs.Pieces.{plus, dottedLength, equatedLength};
+ghost use Rattle.list_line.specs.Line.{nameText};
+ghost use Rattle.list_version.specs.VersionForms.{nameBy};
+ghost use Rattle.list_line.specs.LineForms.{pieceLength, pieces, stampText, pieceText, pieceMost, pieceAt, Kept};
+
+// The bytes of the place of a piece, and how many places there are: one for each key, then one for each Set.
+pub const PIECE: usize = 16;
+
+pub const PIECES: usize = ALL_KEYS + SETS;
+
+// Forms ` key=value` at the front by the stamp s.
+fn form_setting(text: &mut [u8], key: u8, s: u64) -> usize
+    requires { ⌜ (key < keys) × (0 < s) × (pieceLength ≤ length (now text)) ⌝ }
+    ensures { λ r. ⌜ (take r (now (text .exit)) ≡ stampText key s) × (r ≤ 1 + equatedLength) ⌝ }
+{
+    let w = put_byte(text, 0, SPACE);
+    put_equated(text, w, key, shown(key, ((s - 1) % VALUES) as u32))
+}
+
+// Forms `+` and the name of the Set in dispute x at the front.
+fn form_name(text: &mut [u8], x: u64) -> usize
+    requires { ⌜ pieceLength ≤ length (now text) ⌝ }
+    ensures { λ r. ⌜ (take r (now (text .exit)) ≡ plus ∷ nameText (nameBy x)) × (r ≤ 1 + dottedLength) ⌝ }
+{
+    let name = x / NUMBERS;
+    let w = put_byte(text, 0, PLUS);
+    put_dotted(
+        text,
+        w,
+        (name / SEQ_NUMBERS % SITE_NUMBERS) as u8,
+        (name % SEQ_NUMBERS) as u16,
+    )
+}
+
+// Forms the piece of place j that v tells at the front.
+fn form(text: &mut [u8], j: usize, v: u64) -> usize
+    requires { ⌜ (j < pieces) × (j < keys → 0 < v) × (pieceLength ≤ length (now text)) ⌝ }
+    ensures { λ r. ⌜ (take r (now (text .exit)) ≡ pieceText j v) × (r ≤ pieceMost j) ⌝ }
+{
+    if j < ALL_KEYS {
+        return form_setting(text, j as u8, v);
+    }
+    form_name(text, v)
+}
+
+// Whether the piece in place j is the one that v tells.
+pub fn is_kept(lens: &[u8], told: &[u64], j: usize, v: u64) -> bool
+    requires { ⌜ (j < length (now lens)) × (j < length (now told)) ⌝ }
+    ensures { λ r. ⌜ r ≡ (not (eqb (getD (now (lens .entry)) j 0) 0) && eqb (getD (now (told .entry)) j 0) v) ⌝ }
+{
+    (lens[j] != 0) & (told[j] == v)
+}
+
+// Forms the piece that v tells in place j.
+fn renew(texts: &mut [u8], lens: &mut [u8], told: &mut [u64], j: usize, v: u64)
+    requires { ⌜ (j < pieces) × (j < keys → 0 < v) × Kept (now texts) (now lens) (now told) ⌝ }
+    ensures { λ r. ⌜ Kept (now (texts .exit)) (now (lens .exit)) (now (told .exit))
+        × (pieceAt (now (texts .exit)) (now (lens .exit)) j ≡ pieceText j v) ⌝ }
+{
+    let at = j * PIECE;
+    let end = at + PIECE;
+    let n = form(&mut texts[at..end], j, v);
+    lens[j] = n as u8;
+    told[j] = v;
+}
+
+// The bytes of place j.
+fn piece_at(texts: &[u8], j: usize) -> [u8; PIECE]
+    requires { ⌜ (j < pieces) × (length (now texts) ≡ pieces * pieceLength) ⌝ }
+    ensures { λ r. ⌜ r ≡ take pieceLength (drop (j * pieceLength) (now (texts .entry))) ⌝ }
+{
+    let at = j * PIECE;
+    let mut piece = [0u8; PIECE];
+    let mut i: usize = 0;
+    while i < PIECE {
+        piece[i] = texts[at + i];
+        i += 1;
+    }
+    piece
+}
+
+// Puts the piece that stands in place j behind the first n bytes, and what is behind it in its place.
+pub fn put_piece(out: &mut [u8], n: usize, texts: &[u8], lens: &[u8], j: usize) -> usize
+    requires { ⌜ (j < pieces)
+        × (length (now texts) ≡ pieces * pieceLength)
+        × (length (now lens) ≡ pieces)
+        × (getD (now lens) j 0 ≤ pieceMost j)
+        × (n + pieceLength ≤ length (now out)) ⌝ }
+    ensures { λ r.
+        ⌜ (take r (now (out .exit))
+        ≡ take n (now (out .entry)) ++ pieceAt (now (texts .entry)) (now (lens .entry)) j)
+        × (r ≡ n + getD (now (lens .entry)) j 0) ⌝ }
+{
+    let piece = piece_at(texts, j);
+    copy_in(&mut out[n..], &piece, PIECE);
+    n + lens[j] as usize
+}
+
+// Forms the piece that v tells in place j, and puts it behind the first n bytes.
+pub fn put_anew(
+    out: &mut [u8],
+    n: usize,
+    texts: &mut [u8],
+    lens: &mut [u8],
+    told: &mut [u64],
+    j: usize,
+    v: u64,
+) -> usize
+    requires { ⌜ (j < pieces)
+        × (j < keys → 0 < v)
+        × (n + pieceLength ≤ length (now out))
+        × Kept (now texts) (now lens) (now told) ⌝ }
+    ensures { λ r. ⌜ (take r (now (out .exit)) ≡ take n (now (out .entry)) ++ pieceText j v)
+        × (r ≤ n + pieceMost j)
+        × Kept (now (texts .exit)) (now (lens .exit)) (now (told .exit)) ⌝ }
+{
+    renew(texts, lens, told, j, v);
+    put_piece(out, n, texts, lens, j)
+}
