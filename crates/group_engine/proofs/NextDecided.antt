@@ -17,7 +17,8 @@ use borrow.Author.Tests.{eqb-true, eqb-false, ltb-true, lt-ltb, not-true}
 use Rattle.math_lists.proofs.Booleans.{clash, decide, both, and-on, either, or-left, or-right}
 use Rattle.math_maximal.specs.Groups.{bit}
 use Rattle.math_maximal.specs.Step.{compatible}
-use Rattle.math_maximal.proofs.Bits.{bit-none, bit-high, bit-below, bit-or, bit-minus, bit-power, compatible-on, compatible-at}
+use Rattle.math_maximal.proofs.Bits.{bit-none, bit-high, bit-below, bit-or, bit-minus, bit-power}
+use Rattle.math_maximal.proofs.Bits.{compatible-on, compatible-at}
 use Rattle.math_maximal.proofs.FirstMember.{first-member}
 use Rattle.group_step.specs.GroupRows.{mostGroups, mostSets}
 use Rattle.group_engine.specs.SearchForms.{Conflicts, conflict, isGroup, Partial, Waiting, Stuck, FoundSoFar}

@@ -13,8 +13,8 @@ use lib.Bits.{bitAnd}
 use lib.ListN.{getD}
 use borrow.Author.Tests.{eqb-true, ne-eqb, ltb-true, lt-ltb, le-ltb, not-true}
 use Rattle.math_lists.proofs.LastBelow.{last}
-use Rattle.math_lists.proofs.Booleans.{clash, decide, off, same-test, both, and-on, either, neither, or-left, or-right, eqb-self}
-use Rattle.math_lists.proofs.Booleans.{then-off}
+use Rattle.math_lists.proofs.Booleans.{clash, decide, off, same-test, both, and-on, either, neither}
+use Rattle.math_lists.proofs.Booleans.{or-left, or-right, eqb-self, then-off}
 use Rattle.math_maximal.specs.Groups.{bit}
 use Rattle.math_maximal.specs.Step.{compatible}
 use Rattle.math_maximal.proofs.Bits.{bit-minus, bit-power, bit-high, bit-below, compatible-on, compatible-at}

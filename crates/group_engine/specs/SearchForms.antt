@@ -52,7 +52,8 @@ pub record Waiting (ms : List ℕ) (n u taken lone : ℕ) : Type 0 where
   pub decided : (i : ℕ) → bit lone i ≡ true → u ≤ i
   pub leftOut : (i : ℕ) → bit lone i ≡ true → bit taken i ≡ false
   pub fits : (i : ℕ) → bit lone i ≡ true → compatible (getD ms i 0) taken ≡ true
-  pub noneMissed : (i : ℕ) → i < n → u ≤ i → bit taken i ≡ false → compatible (getD ms i 0) taken ≡ true → bit lone i ≡ true
+  pub noneMissed :
+      (i : ℕ) → i < n → u ≤ i → bit taken i ≡ false → compatible (getD ms i 0) taken ≡ true → bit lone i ≡ true
 
 -- a member of `lone` conflicts with none of `may`
 abbrev pub Stuck : List ℕ → ℕ → ℕ → Type 0

@@ -70,9 +70,9 @@ fn put_group(
 }
 
 // Decides the Sets that are left, the first ones, `undecided` of them, where the members of `first` are in and of the
-// undecided those in `those` can still come in. Puts the groups that come of it behind the `found` first numbers of out,
-// and says how many they are then. The last that can come in is left out, by a call, and then taken in, by going on.
-// The members of `unmet` are those left out that conflict with none that is in: each needs one that can come in and
+// undecided those in `those` can still come in. Puts the groups that come of it behind the `found` first numbers of
+// out, and says how many they are then. The last that can come in is left out, by a call, and then taken in, by going
+// on. The members of `unmet` are those left out that conflict with none that is in: each needs one that can come in and
 // that it conflicts with, and what can end in no group is cut off. Where out is full, the first that finds no place is
 // counted, and nothing more is sought.
 fn decide_rest(

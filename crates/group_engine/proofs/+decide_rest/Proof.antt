@@ -1,6 +1,6 @@
--- The proof of the cycle of calls {decide_rest}. The measure is the number undecided: the call has less. The loop goes on
--- with the Set that was left out taken in; what has been found when a number is reached are the groups below it, so what
--- the call finds, or what there was where it is not made, is what the loop goes on from. Assumes nothing.
+-- The proof of the cycle of calls {decide_rest}. The measure is the number undecided: the call has less. The loop goes
+-- on with the Set that was left out taken in; what has been found when a number is reached are the groups below it, so
+-- what the call finds, or what there was where it is not made, is what the loop goes on from. Assumes nothing.
 use mathlib.Core.Path.{_≡_, sym, ap, _∙_}
 use mathlib.Core.Logic.{inl, inr}
 use Prim.Native.Nat.{ℕ, _+_, _<_}
