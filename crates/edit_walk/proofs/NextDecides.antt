@@ -67,7 +67,7 @@ module _
     (n : ℕ)
     (pass : recordsPass sites rs n ≡ true) where
   -- what the edit in place p had seen is held
-  seen-held : (p t : ℕ) → p < n → t < mostSites → getD (recordAt rs p .vector) t 0 ≤ countFrom t (editsOf rs n)
+  pub seen-held : (p t : ℕ) → p < n → t < mostSites → getD (recordAt rs p .vector) t 0 ≤ countFrom t (editsOf rs n)
   seen-held p t lp lt =
       let turn = passed-at sites rs n pass p lp .inTurn in
       elim (ℕ-discrete t (recordAt rs p .site .0)) [
@@ -126,15 +126,25 @@ module _
 
 -- ---- 1 and 5 decide
 
-pub next-decides :
+-- they do of an edit whose turn it is, if it is whole then
+pub turn-decides :
     (sites : ℕ) → sites ≤ mostSites → (rs : List ℕ) (n : ℕ) → recordsPass sites rs n ≡ true →
     (ps : List ℕ) → Indexed rs n ps → (counts : List ℕ) → Counted counts (editsOf rs n) →
-    (e : Edit) (x : ℕ) → x < n → isNext (recordAt rs x .vector) (e .vector) (e .site .0) ≡ true →
-    e .seq .0 ≡ getD counts (e .site .0) 0 + 1 →
+    (e : Edit) → e .seq .0 ≡ getD counts (e .site .0) 0 + 1 →
+    ((t : ℕ) → t < mostSites → (t ≡ e .site .0 → ⊥) → getD (e .vector) t 0 ≤ countFrom t (editsOf rs n)) →
+    (InTurn sites (editsOf rs n) e → isTorn (editsOf rs n) e ≡ false) →
     passesAgainst sites counts rs ps e ≡ not (unfit sites e || isAimed e && not (targetHeld counts rs ps e))
 unfolding passesAgainst aheadElsewhere
-next-decides sites few rs n pass ps ix counts counted e x lx grown next = go (decide (unfit sites e))
+turn-decides sites few rs n pass ps ix counts counted e next others whole = go (decide (unfit sites e))
   where
+    early : earlyAgainst counts e ≡ false
+    early =
+        or-off _ _ (le-ltb (getD counts (e .site .0) 0 + 1) (e .seq .0) (omega arith))
+        (some-off mostSites (λ t. not (eqb t (e .site .0)) && ltb (getD counts t 0) (getD (e .vector) t 0)) (λ t l.
+        off-where (not (eqb t (e .site .0))) (ltb (getD counts t 0) (getD (e .vector) t 0)) (λ y.
+        le-ltb (getD counts t 0) (getD (e .vector) t 0)
+        (rw (counted t l) (others t l (eqb-false t (e .site .0) (not-true (eqb t (e .site .0)) y)))))))
+
     go : (unfit sites e ≡ true) ⊎ (unfit sites e ≡ false) →
         not
         (unfit sites e
@@ -145,30 +155,28 @@ next-decides sites few rs n pass ps ix counts counted e x lx grown next = go (de
         ≡ not (unfit sites e || isAimed e && not (targetHeld counts rs ps e))
     go (inl u) = rw u
     go (inr u) =
-        let low : e .site .0 < mostSites = omega (arith, well-formed sites e u .site, few) in
-        let held = counted (e .site .0) low in
-        let others : (t : ℕ) → t < mostSites → (t ≡ e .site .0 → ⊥) → getD (e .vector) t 0 ≤ countFrom t (editsOf rs n)
-        = λ t l d.
-        rw (other (recordAt rs x .vector) (e .vector) (e .site .0) grown t l d)
-        (seen-held sites few rs n pass x t lx l) in
+        let held = counted (e .site .0) (omega (arith, well-formed sites e u .site, few)) in
         let turn : InTurn sites (editsOf rs n) e
         = record { formed = well-formed sites e u; next = rw (← held) next; others = others } in
-        let early : earlyAgainst counts e ≡ false = none-early turn in
         rw (
           u,
           lt-leb (e .seq .0) (getD counts (e .site .0) 0) (omega arith),
           early,
           news-same sites few rs n pass ps ix e turn,
-          next-whole sites few rs n pass e x lx grown ps ix turn,
+          whole turn,
         )
-      where
-        none-early : InTurn sites (editsOf rs n) e → earlyAgainst counts e ≡ false
-        none-early turn =
-            or-off _ _ (le-ltb (getD counts (e .site .0) 0 + 1) (e .seq .0) (omega arith))
-            (some-off mostSites (λ t. not (eqb t (e .site .0)) && ltb (getD counts t 0) (getD (e .vector) t 0)) (λ t l.
-            off-where (not (eqb t (e .site .0))) (ltb (getD counts t 0) (getD (e .vector) t 0)) (λ y.
-            le-ltb (getD counts t 0) (getD (e .vector) t 0)
-            (rw (counted t l) (turn .others t l (eqb-false t (e .site .0) (not-true (eqb t (e .site .0)) y)))))))
+
+pub next-decides :
+    (sites : ℕ) → sites ≤ mostSites → (rs : List ℕ) (n : ℕ) → recordsPass sites rs n ≡ true →
+    (ps : List ℕ) → Indexed rs n ps → (counts : List ℕ) → Counted counts (editsOf rs n) →
+    (e : Edit) (x : ℕ) → x < n → isNext (recordAt rs x .vector) (e .vector) (e .site .0) ≡ true →
+    e .seq .0 ≡ getD counts (e .site .0) 0 + 1 →
+    passesAgainst sites counts rs ps e ≡ not (unfit sites e || isAimed e && not (targetHeld counts rs ps e))
+next-decides sites few rs n pass ps ix counts counted e x lx grown next =
+    turn-decides sites few rs n pass ps ix counts counted e next
+    (λ t l d. rw (other (recordAt rs x .vector) (e .vector) (e .site .0) grown t l d)
+    (seen-held sites few rs n pass x t lx l))
+    (next-whole sites few rs n pass e x lx grown ps ix)
 
 -- what says so of a record with no entry past the sites says it of one that follows
 pub next-tells :

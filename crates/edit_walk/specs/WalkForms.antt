@@ -106,6 +106,10 @@ sameBut v w s = all mostSites (λ t. eqb t s || eqb (getD v t 0) (getD w t 0))
 unfoldable pub isNext : List ℕ → List ℕ → ℕ → Bool
 isNext v w s = eqb (getD w s 0) (getD v s 0 + 1) && sameBut v w s
 
+-- e is the next edit of its site after those that are counted, and has seen all of them
+unfoldable pub seesAll : List ℕ → Edit → Bool
+seesAll counts e = eqb (e .seq .0) (getD counts (e .site .0) 0 + 1) && sameBut counts (e .vector) (e .site .0)
+
 -- the first n records pass, and the counts and the index are theirs
 pub record Passing (sites : ℕ) (counts rs : List ℕ) (n : ℕ) (ps : List ℕ) : Type 0 where
   pub few : sites ≤ mostSites

@@ -1,6 +1,7 @@
 // One walk that tests the records of a table: whether each passes answers 1 to 5 of document 01 after those before it,
 // with the counts of the edits and the index of their places that it keeps.
 pub mod next;
+pub mod whole;
 
 use edit_history::RECORDS;
 use edit_record::AT_KIND;

@@ -120,10 +120,6 @@ pub fn is_torn_next(held: &[u16], recs: &[u8], places: &[u16], p: usize, rec: &[
         × (inTurnAgainst sites (now held) (decodeOf (now rec)) ≡ true)) ⌝ }
     ensures { λ r. ⌜ r ≡ isTorn (editsOf (now (recs .entry)) p) (decodeOf (now (rec .entry))) ⌝ }
 {
-    let r = likely_before(held, recs, places, p, rec);
-    if is_next_at(recs, p, r, rec) {
-        return false;
-    }
     let v = edit_record::vector_of(rec);
     is_torn_by_news(recs, places, v, Site(rec[AT_SITE]))
 }
@@ -149,7 +145,7 @@ fn is_set_unfit(n: u8, rec: &[u8]) -> bool
 
 // Whether none of 1 to 5 is given to a record that is there whole and follows one of those before it, by the counts
 // and the index of these.
-fn is_fit_and_aimed(sites: u8, held: &[u16], recs: &[u8], places: &[u16], rec: &[u8]) -> bool
+pub fn is_fit_and_aimed(sites: u8, held: &[u16], recs: &[u8], places: &[u16], rec: &[u8]) -> bool
     requires { ⌜ recordLength ≤ length (now rec) ⌝ }
     ensures { λ r.
         ⌜ ((leb sites (decodeOf (now (rec .entry)) .site .0) ≡ false →
