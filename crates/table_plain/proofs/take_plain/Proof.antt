@@ -1,4 +1,4 @@
--- `table_replay::plain::take_plain` meets its contract: what it asks of the record is what taking it needs, and what it
+-- `table_plain::take_plain` meets its contract: what it asks of the record is what taking it needs, and what it
 -- writes is what that leaves. Assumes nothing.
 use mathlib.Core.Path.{_≡_, refl, sym, ap, _∙_}
 use mathlib.Core.Bool.{true, false}
@@ -14,11 +14,11 @@ use Rattle.edit_record.specs.RecordBytes.{decodeOf}
 use Rattle.edit_record.specs.Answer1.{isCreate, isSet, isLimited}
 use Rattle.edit_sum.specs.WordSum.{wrapped, recordWords, sumOf}
 use Rattle.table_soundness.proofs.SoundFacts.{sound-at}
-use Rattle.table_replay.proofs.PlainGoes.{look-asks, span-is, create-enters, layer-enters, set-enters, set-steps}
-use Rattle.table_replay.proofs.PlainGoes.{set-kept, create-left, layer-left, set-left}
+use Rattle.table_plain.proofs.PlainGoes.{look-asks, span-is, create-enters, layer-enters, set-enters, set-steps}
+use Rattle.table_plain.proofs.PlainGoes.{set-kept, create-left, layer-left, set-left}
 use borrow.Author.Needs.{needs}
-use Rattle.table_replay.proofs.plain.take_plain.Statement.{statement}
-use Rattle.table_replay.proofs.plain.take_plain.Tie as tie
+use Rattle.table_plain.proofs.take_plain.Statement.{statement}
+use Rattle.table_plain.proofs.take_plain.Tie as tie
 
 -- ---- where things stand
 

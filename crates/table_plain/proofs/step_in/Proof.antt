@@ -1,7 +1,7 @@
--- `table_replay::plain::step_in` meets its contract. Assumes nothing.
+-- `table_plain::step_in` meets its contract. Assumes nothing.
 use borrow.Author.Needs.{needs}
-use Rattle.table_replay.proofs.plain.step_in.Statement.{statement}
-use Rattle.table_replay.proofs.plain.step_in.Tie as tie
+use Rattle.table_plain.proofs.step_in.Statement.{statement}
+use Rattle.table_plain.proofs.step_in.Tie as tie
 
 gain-at-requires : tie.Need-gain-at-requires
 gain-at-requires c κs = search needs

@@ -1,4 +1,4 @@
--- `table_replay::plain::enter` meets its contract. Assumes nothing.
+-- `table_plain::enter` meets its contract. Assumes nothing.
 use mathlib.Core.Path.{refl, ap, _∙_}
 use Prim.Native.Nat.{ℕ}
 use lib.ListN.{getD, set}
@@ -6,8 +6,8 @@ use denote.Ref.{now}
 use Rattle.edit_record.specs.Layout.{siteAt}
 use Rattle.edit_walk.specs.WalkForms.{slotOf}
 use borrow.Author.Needs.{needs}
-use Rattle.table_replay.proofs.plain.enter.Statement.{statement}
-use Rattle.table_replay.proofs.plain.enter.Tie as tie
+use Rattle.table_plain.proofs.enter.Statement.{statement}
+use Rattle.table_plain.proofs.enter.Tie as tie
 
 array-read-s : tie.Need-array-read-s
 array-read-s c = search needs

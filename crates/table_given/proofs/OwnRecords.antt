@@ -21,8 +21,8 @@ use Rattle.table_soundness.proofs.SoundFacts.{Sound}
 use Rattle.table_arrival.specs.Arrival.{putRecord, acceptanceOf}
 use Rattle.table_arrival.proofs.Admitted.{Accepted, accepted, admitted-span, was-taken, taken-records}
 use Rattle.table_arrival.proofs.RecordsOneMore.{Room, put-bytes-here, put-bytes-before}
-use Rattle.table_replay.specs.Replay.{Replayed, replayed, oneMore, replayOf, editsIn}
-use Rattle.table_replay.proofs.ReplayGoes.{Going, going-faithful}
+use Rattle.table_given.specs.Replay.{Replayed, replayed, oneMore, replayOf, editsIn}
+use Rattle.table_given.proofs.ReplayGoes.{Going, going-faithful}
 
 -- ---- only the records' bytes count
 

@@ -5,7 +5,7 @@ use mathlib.Core.List.{List}
 use Prim.Native.Nat.{ℕ, zero, suc, _≤_}
 use lib.Dec.{eqb}
 use Rattle.edit_record.specs.Layout.{mostSites}
-use Rattle.table_replay.specs.Replay.{replayOf, oneMore}
+use Rattle.table_given.specs.Replay.{replayOf, oneMore}
 use Rattle.table_arrival.proofs.Faithful.{Faithful, empty-faithful, acceptance-faithful}
 
 pub replay-faithful :

@@ -33,10 +33,10 @@ use Rattle.table_arrival.proofs.CodeInHand.{holds}
 use Rattle.table_arrival.proofs.PlainTaken.{fit-admitted, site-count, create-stored, layer-stored, set-stored, row-kept}
 use Rattle.table_arrival.proofs.PlainTaken.{object-few, used-few, used-ascends, used-small, used-apart, zero-behind}
 use Rattle.table_arrival.proofs.RecordsOneMore.{put-here}
-use Rattle.table_replay.specs.ReplayForms.{TakesPlain, LeavesPlain, spotOf, Enters, steppedBy, Steps}
-use Rattle.table_replay.specs.ReplayForms.{rowsBy}
-use Rattle.table_replay.proofs.IndexGoesAlong.{counted-on, grown, has-room, room-on, holds-on, index-on}
-use Rattle.table_replay.proofs.IndexGoesAlong.{numbered-on}
+use Rattle.table_plain.specs.TakingForms.{TakesPlain, LeavesPlain, spotOf, Enters, steppedBy, Steps}
+use Rattle.table_plain.specs.TakingForms.{rowsBy}
+use Rattle.table_plain.proofs.IndexGoesAlong.{counted-on, grown, has-room, room-on, holds-on, index-on}
+use Rattle.table_plain.proofs.IndexGoesAlong.{numbered-on}
 
 module _
     (sites n m sum : ℕ)

@@ -21,8 +21,8 @@ use Rattle.table_soundness.proofs.SoundFacts.{sound-on}
 use Rattle.table_index.specs.IndexForms.{countersOf}
 use Rattle.table_arrival.specs.Arrival.{acceptanceOf}
 use Rattle.table_arrival.proofs.Faithful.{Faithful, acceptance-faithful}
-use Rattle.table_replay.specs.Replay.{Replayed, replayed, replayOf}
-use Rattle.table_replay.proofs.ReplayFaithful.{replay-faithful}
+use Rattle.table_given.specs.Replay.{Replayed, replayed, replayOf}
+use Rattle.table_given.proofs.ReplayFaithful.{replay-faithful}
 
 -- no record below i is refused, and they give t
 abbrev pub Going : ℕ → (ℕ → List ℕ) → ℕ → Tables → Type 0

@@ -27,8 +27,8 @@ ghost use Rattle.group_step.specs.StepForms.{Apart};
 ghost use Rattle.table_drawing.specs.Tables.{tablesOf, objectsLength};
 ghost use Rattle.table_index.specs.IndexForms.{countersOf, linkedIn};
 ghost use Rattle.table_arrival.specs.Arrival.{putRecord, putCounts, putEntry};
-ghost use Rattle.table_replay.specs.ReplayForms.{TakesPlain, LeavesPlain, spotOf, Enters};
-ghost use Rattle.table_replay.specs.ReplayForms.{steppedBy, Steps, rowsBy};
+ghost use Rattle.table_plain.specs.TakingForms.{TakesPlain, LeavesPlain, spotOf, Enters};
+ghost use Rattle.table_plain.specs.TakingForms.{steppedBy, Steps, rowsBy};
 
 // Whether a record was taken, how many objects there are then, and the sum.
 pub struct Took {

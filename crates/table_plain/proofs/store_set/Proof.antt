@@ -1,9 +1,9 @@
--- `table_replay::plain::store_set` meets its contract. Assumes nothing.
+-- `table_plain::store_set` meets its contract. Assumes nothing.
 use mathlib.Core.Path.{refl}
 use Rattle.math_lists.proofs.Booleans.{clash}
 use borrow.Author.Needs.{needs}
-use Rattle.table_replay.proofs.plain.store_set.Statement.{statement}
-use Rattle.table_replay.proofs.plain.store_set.Tie as tie
+use Rattle.table_plain.proofs.store_set.Statement.{statement}
+use Rattle.table_plain.proofs.store_set.Tie as tie
 
 mul-g : tie.Need-mul-g
 mul-g c = search needs
