@@ -18,20 +18,12 @@ use Rattle.edit_history.specs.EditsHeld.{recordAt, editsOf}
 use Rattle.edit_history.specs.Answers2to5.{passes, recordsPass}
 use Rattle.edit_history.specs.SurveyForms.{bump, Counted}
 use Rattle.edit_walk.specs.WalkForms.{placesLength, slotOf, placeOf, Indexed, SameStarts, countIn, Spaced}
-use Rattle.edit_walk.specs.WalkForms.{passesAgainst, Roomy}
+use Rattle.edit_walk.specs.WalkForms.{passesAgainst, Roomy, Walking}
 use Rattle.edit_history.proofs.EditsHeld.{edits-length, count-grows}
 use Rattle.edit_history.proofs.ByCounts.{counted-none, counted-few, counted-more}
 use Rattle.edit_history.proofs.RecordsPassed.{formed-at, seq-held, seq-later}
 use Rattle.edit_walk.proofs.NewsDecide.{news-decide}
 use Rattle.edit_walk.proofs.RoomInIndex.{spaced-same, slot-within, starts-stay, put-here, put-elsewhere, counts-few}
-
-pub record Walking (sites : ℕ) (room : ℕ → ℕ) (rs : List ℕ) (n : ℕ) (held ps : List ℕ) : Type 0 where
-  pub pass : recordsPass sites rs n ≡ true
-  pub wide : length held ≡ mostSites
-  pub spaced : Spaced room ps
-  pub fits : Roomy room rs n
-  pub counted : Counted held (editsOf rs n)
-  pub indexed : Indexed rs n ps
 
 no-edits : (rs : List ℕ) (s : ℕ) → countIn rs 0 s ≤ 0
 no-edits rs s = omega (arith, counts-few (editsOf rs 0) (suc s), sum-past s (suc s) (countIn rs 0) (omega arith), edits-length rs 0)

@@ -27,10 +27,11 @@ ghost use Rattle.table_drawing.specs.Tables.{entryLength, tablesOf};
 ghost use Rattle.table_soundness.specs.Sound.{withinLimits, zeroFrom, sound};
 ghost use Rattle.table_soundness.specs.SoundnessForms.{Passed, FewSets};
 
-// What one pass over the records gathers: whether every place is zero past its record, and then the sum of their words
-// and how many of them are Creates.
+// What one pass over the records gathers: whether all are right, and then how many edits of each site they are, the sum
+// of their words and how many of them are Creates.
 pub struct Tally {
-    pub rests: bool,
+    pub right: bool,
+    pub held: [u16; SITES],
     pub sum: u32,
     pub creates: u16,
 }
@@ -78,33 +79,29 @@ fn unused_zero(records: &[u8], objects: &[u16], groups: &[u64], n: usize, m: usi
     a & b & d
 }
 
-// Whether tables within their limits whose records pass are sound but for 16, by the counts and the index that the
-// records gave; then no object has more Sets than it may have.
+// Whether tables within their limits whose records are right are sound but for 16, by what the pass over the records
+// gathered; then no object has more Sets than it may have.
 fn rest_sound(
     c: Counters,
-    held: [u16; SITES],
-    places: &[u16],
+    g: Tally,
+    earlier: &[u8],
+    tallies: &[u8],
     records: &[u8],
     objects: &[u16],
     groups: &[u64],
 ) -> bool
-    requires { ⌜ Passed (tablesOf c (now records) (now objects) (now groups)) held (now places) ⌝ }
+    requires { ⌜ Passed (tablesOf c (now records) (now objects) (now groups)) g (now earlier) (now tallies) ⌝ }
     ensures { λ r. ⌜ ((r && recordsNamed (now (records .entry)) (c .records))
         ≡ sound (tablesOf c (now (records .entry)) (now (objects .entry)) (now (groups .entry))))
         × (r ≡ true → FewSets (now (records .entry)) (c .records)) ⌝ }
 {
     let given = c.held;
+    let held = g.held;
     let kept = c.sum;
     let n = c.records as usize;
     let m = c.objects as usize;
     let agree = counts_agree(given, held);
-    let mut earlier = [0u8; RECORDS];
-    let mut tallies = [0u8; RECORDS];
-    let g = gathering::gather(records, n, places, &mut earlier, &mut tallies);
-    if !g.rests {
-        return false;
-    }
-    let each = objects::objects_sound(records, n, objects, groups, &earlier, &tallies, m);
+    let each = objects::objects_sound(records, n, objects, groups, earlier, tallies, m);
     let zero = unused_zero(records, objects, groups, n, m);
     agree & (kept == g.sum) & (m == g.creates as usize) & each & zero
 }
@@ -133,15 +130,17 @@ pub fn is_sound_with(
     if !is_room_enough(given) {
         return false;
     }
-    let w = edit_walk::walk(c.sites, given, records, c.records as usize, places);
-    if !w.ok {
+    let n = c.records as usize;
+    let mut earlier = [0u8; RECORDS];
+    let mut tallies = [0u8; RECORDS];
+    let g = gathering::gather(c.sites, given, records, n, places, &mut earlier, &mut tallies);
+    if !g.right {
         return false;
     }
-    let held = w.held;
-    if !rest_sound(c, held, places, records, objects, groups) {
+    if !rest_sound(c, g, &earlier, &tallies, records, objects, groups) {
         return false;
     }
-    group_named::are_all_named(records, c.records as usize, places)
+    group_named::are_all_named(records, n, places)
 }
 
 // Whether the tables are sound, whatever stands in them.
