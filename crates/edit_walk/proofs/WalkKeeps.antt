@@ -132,7 +132,7 @@ module _
   counted-next = unfold editsOf in counted-more held (editsOf rs n) (w .wide) (w .counted) (recordAt rs n)
 
   module _ (next : passesAgainst sites held rs ps (recordAt rs n) ≡ true) where
-    pass-more : recordsPass sites rs (suc n) ≡ true
+    pub pass-more : recordsPass sites rs (suc n) ≡ true
     unfolding recordsPass all
     pass-more =
         and-on (recordsPass sites rs n) (passes sites (editsOf rs n) (recordAt rs n)) (w .pass) (sym decided ∙ next)

@@ -145,9 +145,9 @@ fn is_next_in(recs: &[u8], r: usize, p: usize) -> bool
     if SITES <= own as usize {
         return false;
     }
-    let was = edit_record::pair_at(recs, r * PLACE + AT_VECTOR + 2 * own as usize);
-    let is = edit_record::pair_at(recs, p * PLACE + AT_VECTOR + 2 * own as usize);
-    if is as u32 != was as u32 + 1 {
+    let had = edit_record::pair_at(recs, r * PLACE + AT_VECTOR + 2 * own as usize);
+    let has = edit_record::pair_at(recs, p * PLACE + AT_VECTOR + 2 * own as usize);
+    if has as u32 != had as u32 + 1 {
         return false;
     }
     is_same_in(recs, r, p, own)

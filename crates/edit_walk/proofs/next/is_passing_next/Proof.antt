@@ -1,22 +1,13 @@
--- `edit_walk::next::is_passing_next` meets its contract: where the record follows one before it, 1 and 5
--- decide. Assumes nothing.
-use mathlib.Core.Path.{_≡_}
-use mathlib.Core.List.{List}
-use Prim.Native.Nat.{ℕ, _*_, _-_}
-use native.Mathlib.Omega.{arith}
-use lib.Seq.{take-all}
-use lib.ListN.{length, take, drop, length-drop}
+-- `edit_walk::next::is_passing_next` meets its contract: where the record follows one before it, 1 and 5 decide. Assumes
+-- nothing.
+use Prim.Native.Nat.{_*_}
 use denote.Ref.{now}
 use Rattle.edit_record.specs.Layout.{placeLength}
 use Rattle.edit_history.specs.EditsHeld.{recordAt}
-use Rattle.edit_walk.proofs.NextDecides.{next-tells}
+use Rattle.edit_walk.proofs.NextDecides.{from-place, next-tells}
 use borrow.Author.Needs.{needs}
 use Rattle.edit_walk.proofs.next.is_passing_next.Statement.{statement}
 use Rattle.edit_walk.proofs.next.is_passing_next.Tie as tie
-
--- what is lent is all of the table from the place on
-from-place : (rs : List ℕ) (from : ℕ) → take (length rs - from) (drop from rs) ≡ drop from rs
-from-place rs from = take-all (length rs - from) (drop from rs) (simp length-drop (omega arith))
 
 mul-at : tie.Need-mul-at
 mul-at c = search needs
