@@ -117,16 +117,13 @@ fn one_less(q: u16) -> u16
     if 0 < q { q - 1 } else { 0 }
 }
 
-// The latest edit of each site that an edit of site s with the vector v has seen, itself left out; 0 is none.
-fn seen_before(v: [u16; SITES], s: Site) -> [u16; SITES]
-    ensures { λ r. ⌜ r ≡ seenBefore v s ⌝ }
+// The latest edit of site t that an edit of site s with the vector v has seen, itself left out; 0 is none. It is found
+// where it is asked for: a vector with one entry written anew is slow to be read whole.
+fn latest_seen(v: [u16; SITES], s: Site, t: Site) -> u16
+    ensures { λ r. ⌜ r ≡ getD (seenBefore v s) (t .0) 0 ⌝ }
 {
-    let mut w = v;
-    let i = s.0 as usize;
-    if i < SITES {
-        w[i] = one_less(w[i]);
-    }
-    w
+    let q = edit_record::entry(v, t);
+    if t.0 == s.0 { one_less(q.0) } else { q.0 }
 }
 
 // The vector of the edit s.q by the index; zeros where q is 0.
@@ -157,13 +154,12 @@ fn is_torn_at(recs: &[u8], places: &[u16], w: [u16; SITES], s: Site, q: Seq) -> 
 pub fn is_torn_by_news(recs: &[u8], places: &[u16], w: [u16; SITES], s: Site) -> bool
     ensures { λ r. ⌜ r ≡ tornByNews (now (recs .entry)) (now (places .entry)) w s ⌝ }
 {
-    let seen = seen_before(w, s);
-    let last = edit_record::entry(seen, s);
-    let was = vector_by(recs, places, s, last);
+    let last = latest_seen(w, s, s);
+    let was = vector_by(recs, places, s, Seq(last));
     let mut found = edit_history::is_larger_somewhere(was, w);
     let mut t: u8 = 0;
     while (t as usize) < SITES {
-        let q = seen[t as usize];
+        let q = latest_seen(w, s, Site(t));
         if q != was[t as usize] {
             found = found | is_torn_at(recs, places, w, Site(t), Seq(q));
         }
@@ -238,14 +234,7 @@ fn is_passing_at(sites: u8, held: &[u16], recs: &[u8], places: &[u16], p: usize)
 
 // Whether the walk over the first i records goes on: none of 1 to 5 is given to the record in place i, and the index
 // has room for its edit.
-pub fn goes_on(
-    sites: u8,
-    room: &[u16],
-    held: &[u16],
-    recs: &[u8],
-    places: &[u16],
-    i: usize,
-) -> bool
+pub fn goes_on(sites: u8, room: &[u16], held: &[u16], recs: &[u8], places: &[u16], i: usize) -> bool
     requires { ⌜ (sites ≤ mostSites)
         × (length (now room) ≡ mostSites)
         × (i < mostRecords)

@@ -133,7 +133,15 @@ pub fn is_sound_with(
     let n = c.records as usize;
     let mut earlier = [0u8; RECORDS];
     let mut tallies = [0u8; RECORDS];
-    let g = gathering::gather(c.sites, given, records, n, places, &mut earlier, &mut tallies);
+    let g = gathering::gather(
+        c.sites,
+        given,
+        records,
+        n,
+        places,
+        &mut earlier,
+        &mut tallies,
+    );
     if !g.right {
         return false;
     }

@@ -20,8 +20,7 @@ use Rattle.edit_walk.proofs.goes_on.Tie as tie
 is-passing-next-requires : tie.Need-is-passing-next-requires
 is-passing-next-requires c κs =
     let z = c .before .before .before .before in
-    let w = z .pre .4 in
-    (
+    let w = z .pre .4 in (
       z .pre .2,
       z .pre .3,
       w .wide,
@@ -81,8 +80,7 @@ returns-2 : tie.Need-returns-2
 returns-2 c =
     let k = c .before .before in
     let z = k .before .before .before .before .before .before .before in
-    let own = site-in-place (now (z .args .recs)) (z .args .i) in
-    (
+    let own = site-in-place (now (z .args .recs)) (z .args .i) in (
       λ h. (passes-here k, rw own (ltb-true _ _ h)),
       λ h m l y. crowded (z .pre .0) (z .pre .4) (passes-here k) m l (rw own (ltb-false _ _ h)),
     )

@@ -99,8 +99,7 @@ returns-4 c h =
     let w = recordAt rs p .vector in
     let was = c .before .before .before .pair-at .ensures ∙ sym (entry-in-place rs r own (omega arith)) in
     let is = c .before .before .pair-at2 .ensures ∙ sym (entry-in-place rs p own (omega arith)) in
-    let more : getD w own 0 ≡ getD v own 0 + 1 = omega (arith, was, is) in
-    (
+    let more : getD w own 0 ≡ getD v own 0 + 1 = omega (arith, was, is) in (
       omega arith,
       rw (site-in-place rs p)
           (and-on (eqb (getD w own 0) (getD v own 0 + 1)) (sameBut v w own) (eq-eqb _ _ more) (sym (c .is-same-in .ensures) ∙ h)),

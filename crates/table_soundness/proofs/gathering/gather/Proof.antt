@@ -171,8 +171,7 @@ loop-again c =
     let w = at .loop .inv .1 in
     let on = c .before .before .before .put-next .ensures (s .args .sites) _ (s .pre .0) w goes in
     let tallies = c .before .before .before .before .before .before .before .before .before .before .tally-set in
-    let below = sums .before .before .before .before .before .before .loop-test .taken in
-    (
+    let below = sums .before .before .before .before .before .before .loop-test .taken in (
       omega (arith, below),
       on,
       rw (c .before .before .before .before .before .before .one-if .ensures .0, ← kind-in-place rs (at .loop .i))
