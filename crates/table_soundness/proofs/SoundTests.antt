@@ -24,7 +24,7 @@ use Rattle.table_drawing.specs.declared.Counters.{Counters}
 use Rattle.table_drawing.specs.Tables.{Tables, entryLength, heldBy, recordsLength, objectsLength, groupsLength}
 use Rattle.table_drawing.specs.Tables.{lengthsRight, sitesRight}
 use Rattle.table_soundness.specs.Sound.{withinLimits, countsAgree, objectSound, zeroFrom, restZero, sound}
-use Rattle.table_soundness.specs.SoundnessForms.{Targeted, GatheredOver, FewSets, Passed}
+use Rattle.table_soundness.specs.SoundnessForms.{Targeted, GatheredOver, SetsWithinLimit, Passed}
 use Rattle.table_soundness.specs.declared.Tally.{Tally}
 use Rattle.table_soundness.proofs.EachObject.{object-at}
 use Rattle.table_soundness.proofs.SoundFacts.{sound-at}
@@ -157,7 +157,7 @@ module _ (t : Tables) (g : Tally) (ns ts : List ℕ) (w : Passed t g ns ts) wher
       rw (same-counts, w .lengths, w .limits, w .gathered .pass, w .gathered .rests) (simp (and-assoc, and-true))
 
   -- where all of that holds no object has too many Sets
-  pub rest-few : (counts? && added? && made? && each? && zero?) ≡ true → FewSets (t .records) (t .counters .records)
+  pub rest-few : (counts? && added? && made? && each? && zero?) ≡ true → SetsWithinLimit (t .records) (t .counters .records)
   rest-few h =
       let (h1, _) = both (counts? && added? && made? && each?) zero? h in
       let (h2, each) = both (counts? && added? && made?) each? h1 in

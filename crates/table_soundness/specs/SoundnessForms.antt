@@ -14,12 +14,13 @@ use Rattle.edit_record.specs.declared.Seq.{Seq}
 use Rattle.edit_record.specs.Answer1.{isCreate, isSet}
 use Rattle.edit_history.specs.EditsHeld.{recordAt, editsOf, creates, setsOn, mostRecords}
 use Rattle.edit_history.specs.Answers2to5.{recordsPass}
+use Rattle.edit_history.specs.Answer16.{recordsNamed}
 use Rattle.edit_history.specs.SurveyForms.{Counted}
 use Rattle.edit_sum.specs.WordSum.{sumHeld}
 use Rattle.edit_walk.specs.WalkForms.{placeOf, Indexed, Roomy}
 use Rattle.group_step.specs.GroupRows.{mostSets}
 use Rattle.table_drawing.specs.Tables.{Tables, lengthsRight}
-use Rattle.table_soundness.specs.Sound.{withinLimits, restZero}
+use Rattle.table_soundness.specs.Sound.{withinLimits, restZero, sound}
 use Rattle.table_soundness.specs.declared.Tally.{Tally}
 
 -- ---- what is known of the targets
@@ -82,8 +83,8 @@ pub record GatheredOver (sites : ℕ) (room : ℕ → ℕ) (rs : List ℕ) (n : 
   pub wrong : g .right ≡ false → recordsPass sites rs n ≡ true → Roomy room rs n → all n (restZero rs) ≡ true → ⊥
 
 -- no object has more Sets, among the first n records, than it may have
-abbrev pub FewSets : List ℕ → ℕ → Type 0
-FewSets rs n = (s : Site) (q : Seq) → length (setsOn s q (editsOf rs n)) ≤ mostSets
+abbrev pub SetsWithinLimit : List ℕ → ℕ → Type 0
+SetsWithinLimit rs n = (s : Site) (q : Seq) → length (setsOn s q (editsOf rs n)) ≤ mostSets
 
 -- ---- what is known of tables once their limits are tested and their records passed over
 
@@ -91,3 +92,10 @@ pub record Passed (t : Tables) (g : Tally) (ns ts : List ℕ) : Type 0 where
   pub lengths : lengthsRight (t .records) (t .objects) (t .groups) ≡ true
   pub limits : withinLimits (t .counters) ≡ true
   pub gathered : Gathered (t .counters .sites) (t .records) (t .counters .records) g ns ts
+
+-- r tells whether the tables are sound but for 16; where they are, ps is the index of their records
+pub record SoundButNamed (t : Tables) (r : Bool) (ps : List ℕ) : Type 0 where
+  pub whole : (r && recordsNamed (t .records) (t .counters .records)) ≡ sound t
+  pub pass : r ≡ true → recordsPass (t .counters .sites) (t .records) (t .counters .records) ≡ true
+  pub few : r ≡ true → SetsWithinLimit (t .records) (t .counters .records)
+  pub indexed : r ≡ true → Indexed (t .records) (t .counters .records) ps
