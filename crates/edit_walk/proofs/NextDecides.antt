@@ -1,7 +1,7 @@
 -- Where the records held pass 1 to 5, an edit whose vector is that of one of them with one edit more of its own has
 -- seen nothing that is missing and nothing torn: whatever it has seen that one had seen, and that one passed. So 1 and
 -- 5 decide, but for its entries past the sites. Assumes no more sites than entries.
-use mathlib.Core.Path.{_≡_, refl, sym, _∙_}
+use mathlib.Core.Path.{_≡_, sym, _∙_}
 use mathlib.Core.Logic.{_⊎_, inl, inr}
 use mathlib.Core.Bool.{Bool, true, false, not, _&&_, _||_}
 use mathlib.Core.List.{List}

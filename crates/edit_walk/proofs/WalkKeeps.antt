@@ -7,7 +7,7 @@ use mathlib.Core.List.{List}
 use Prim.Native.Nat.{ℕ, suc, _+_, _≤_, _<_}
 use native.Mathlib.Omega.{arith}
 use native.Mathlib.Decide.{ℕ-discrete}
-use lib.ListN.{length, getD, set, replicate, length-set}
+use lib.ListN.{getD, set, replicate, length-set}
 use lib.Seq.{getD-set-same, getD-set-other}
 use Rattle.math_lists.specs.NumbersBelow.{all}
 use Rattle.math_lists.proofs.Booleans.{clash, and-on}
@@ -23,10 +23,17 @@ use Rattle.edit_history.proofs.EditsHeld.{edits-length, count-grows}
 use Rattle.edit_history.proofs.ByCounts.{counted-none, counted-few, counted-more}
 use Rattle.edit_history.proofs.RecordsPassed.{formed-at, seq-held, seq-later}
 use Rattle.edit_walk.proofs.NewsDecide.{news-decide}
-use Rattle.edit_walk.proofs.RoomInIndex.{spaced-same, slot-within, starts-stay, put-here, put-elsewhere, counts-few}
+use Rattle.edit_walk.proofs.RoomInIndex.{spaced-same, slot-within, starts-stay, put-here, put-elsewhere}
+use Rattle.edit_walk.proofs.RoomInIndex.{counts-few}
 
 no-edits : (rs : List ℕ) (s : ℕ) → countIn rs 0 s ≤ 0
-no-edits rs s = omega (arith, counts-few (editsOf rs 0) (suc s), sum-past s (suc s) (countIn rs 0) (omega arith), edits-length rs 0)
+no-edits rs s =
+    omega (
+      arith,
+      counts-few (editsOf rs 0) (suc s),
+      sum-past s (suc s) (countIn rs 0) (omega arith),
+      edits-length rs 0,
+    )
 
 pub walking-starts :
     (sites : ℕ) (room : ℕ → ℕ) (rs ps : List ℕ) → Spaced room ps →

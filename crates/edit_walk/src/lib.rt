@@ -241,7 +241,8 @@ pub fn goes_on(sites: u8, room: &[u16], held: &[u16], recs: &[u8], places: &[u16
         × (i * placeLength + placeLength ≤ length (now recs))
         × Walking sites (λ s. getD (now room) s 0) (now recs) i (now held) (now places) ⌝ }
     ensures { λ r. ⌜ (r ≡ true →
-        GoesOn sites (λ s. getD (now (room .entry)) s 0) (now (recs .entry)) i (now (held .entry)) (now (places .entry)))
+        GoesOn sites (λ s. getD (now (room .entry)) s 0) (now (recs .entry)) i (now (held .entry))
+        (now (places .entry)))
         × (r ≡ false → Stops sites (λ s. getD (now (room .entry)) s 0) (now (recs .entry)) i) ⌝ }
 {
     if !next::is_passing_next(sites, held, recs, places, i) {

@@ -1,5 +1,5 @@
 -- The tests of soundness put together. Assumes nothing.
-use mathlib.Core.Path.{_≡_, refl, sym, ap}
+use mathlib.Core.Path.{_≡_, refl, ap}
 use mathlib.Core.Bool.{Bool, true, false, not, _&&_, _||_, and-assoc, and-true, and-false, or-false}
 use mathlib.Core.List.{List}
 use Prim.Native.Nat.{ℕ, _*_, _≤_, _<_}
@@ -98,13 +98,15 @@ crowded t h =
     let es = editsOf (t .records) (t .counters .records) in
     let fits = counted-in-all (t .counters .held) es (s .held) in
     let long = edits-length (t .records) (t .counters .records) in
-    let few : sum mostSites (λ s. getD (t .counters .held) s 0) ≤ mostRecords = omega (arith, fits, long, s .few-records) in
+    let few : sum mostSites (λ s. getD (t .counters .held) s 0) ≤ mostRecords
+    = omega (arith, fits, long, s .few-records) in
     clash (le-leb (sum mostSites (λ s. getD (t .counters .held) s 0)) mostRecords few) h)
 
 -- records that do not pass, more of a site than are counted, or a place that is not zero past its record
 pub not-right :
     (t : Tables) (g : Tally) (ps ns ts : List ℕ) →
-    GatheredOver (t .counters .sites) (λ s. getD (t .counters .held) s 0) (t .records) (t .counters .records) g ps ns ts →
+    GatheredOver (t .counters .sites) (λ s. getD (t .counters .held) s 0) (t .records) (t .counters .records) g ps ns
+    ts →
     g .right ≡ false → sound t ≡ false
 not-right t g ps ns ts over h =
     off (sound t) (λ y.
@@ -157,7 +159,8 @@ module _ (t : Tables) (g : Tally) (ns ts : List ℕ) (w : Passed t g ns ts) wher
       rw (same-counts, w .lengths, w .limits, w .gathered .pass, w .gathered .rests) (simp (and-assoc, and-true))
 
   -- where all of that holds no object has too many Sets
-  pub rest-few : (counts? && added? && made? && each? && zero?) ≡ true → SetsWithinLimit (t .records) (t .counters .records)
+  pub rest-few :
+      (counts? && added? && made? && each? && zero?) ≡ true → SetsWithinLimit (t .records) (t .counters .records)
   rest-few h =
       let (h1, _) = both (counts? && added? && made? && each?) zero? h in
       let (h2, each) = both (counts? && added? && made?) each? h1 in

@@ -66,7 +66,8 @@ abbrev pub WrongPast : ℕ → (ℕ → ℕ) → List ℕ → ℕ → Type 0
 WrongPast sites room rs n =
     (m : ℕ) → n < m → recordsPass sites rs m ≡ true → Roomy room rs m → all m (restZero rs) ≡ true → ⊥
 
--- g is gathered from records that pass 1 to 5 and whose places are zero past them, with the numbers ns and the tallies ts
+-- g is gathered from records that pass 1 to 5 and whose places are zero past them, with the numbers ns and the tallies
+-- ts
 pub record Gathered (sites : ℕ) (rs : List ℕ) (n : ℕ) (g : Tally) (ns ts : List ℕ) : Type 0 where
   pub pass : recordsPass sites rs n ≡ true
   pub rests : all n (restZero rs) ≡ true

@@ -45,7 +45,8 @@ fn is_next_right(
         × (i * placeLength + placeLength ≤ length (now recs))
         × Walking sites (λ s. getD (now room) s 0) (now recs) i (now held) (now places) ⌝ }
     ensures { λ r. ⌜ (r ≡ true →
-        GoesOn sites (λ s. getD (now (room .entry)) s 0) (now (recs .entry)) i (now (held .entry)) (now (places .entry))
+        GoesOn sites (λ s. getD (now (room .entry)) s 0) (now (recs .entry)) i (now (held .entry))
+        (now (places .entry))
         × (restZero (now (recs .entry)) i ≡ true))
         × (r ≡ false →
         WrongPast sites (λ s. getD (now (room .entry)) s 0) (now (recs .entry)) i) ⌝ }

@@ -67,14 +67,16 @@ mul-result c = omega (arith, own-counts c)
 
 shared-slice-read-result : tie.Need-shared-slice-read-result
 shared-slice-read-result c =
-    omega (arith, own-counts (c .before), c .before .before .before .before .before .before .before .before .pre .4 .wide)
+    let z = c .before .before .before .before .before .before .before .before in
+    omega (arith, own-counts (c .before), z .pre .4 .wide)
 
 mul-result-2 : tie.Need-mul-result-2
 mul-result-2 c = omega (arith, own-counts (c .before))
 
 shared-slice-read-result-2 : tie.Need-shared-slice-read-result-2
 shared-slice-read-result-2 c =
-    omega (arith, own-counts (c .before .before), c .before .before .before .before .before .before .before .before .before .pre .1)
+    let z = c .before .before .before .before .before .before .before .before .before in
+    omega (arith, own-counts (c .before .before), z .pre .1)
 
 returns-2 : tie.Need-returns-2
 returns-2 c =

@@ -44,7 +44,8 @@ unfolding some
 loop-holds c = (
   omega arith,
   c .is-larger-somewhere .ensures
-      ∙ sym (or-false (largerSomewhere (c .before .vector-by .result) (c .before .before .before .before .before .args .w))),
+      ∙ sym (or-false
+      (largerSomewhere (c .before .vector-by .result) (c .before .before .before .before .before .args .w))),
 )
 
 cast-loop : tie.Need-cast-loop Inv-loop μ-loop
@@ -99,11 +100,12 @@ returns c =
     let a = z .before .before .before .before .args in
     let rs = now (a .recs) in
     let ps = now (a .places) in
+    let seen = seenBefore (a .w) (a .s) in
     let k : c .before .loop .t ≡ mostSites = omega arith in
     let was : z .vector-by .result ≡ seenByLast rs ps (a .w) (a .s)
     = z .vector-by .ensures ∙ ap (vectorBy rs ps (a .s .0)) (z .before .latest-seen .ensures) in
     (rw k at (c .before .loop .inv .1))
-    ∙ ap (λ (y : List ℕ). largerSomewhere y (a .w) || some mostSites (isNews rs ps (a .w) (seenBefore (a .w) (a .s)) y)) was
+    ∙ ap (λ (y : List ℕ). largerSomewhere y (a .w) || some mostSites (isNews rs ps (a .w) seen y)) was
 
 pub is-torn-by-news-spec : {M : Type 1} → statement M
 is-torn-by-news-spec =

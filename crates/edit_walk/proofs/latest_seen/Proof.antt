@@ -1,5 +1,5 @@
 -- `edit_walk::latest_seen` meets its contract: past the last entry nothing is set. Assumes nothing.
-use mathlib.Core.Path.{_≡_, ap, sym, _∙_}
+use mathlib.Core.Path.{_≡_, sym, _∙_}
 use mathlib.Core.List.{List}
 use Prim.Native.Nat.{ℕ, _-_}
 use native.Mathlib.Omega.{arith}
@@ -34,7 +34,8 @@ returns c =
 returns-2 : tie.Need-returns-2
 returns-2 c =
     let a = c .before .before .before .before .args in
-    rw (c .before .before .before .entry .ensures) (sym (getD-set-other (a .v) (a .s .0) (a .t .0) (getD (a .v) (a .s .0) 0 - 1) 0 (c .if1 .left)))
+    rw (c .before .before .before .entry .ensures)
+    (sym (getD-set-other (a .v) (a .s .0) (a .t .0) (getD (a .v) (a .s .0) 0 - 1) 0 (c .if1 .left)))
 
 pub latest-seen-spec : {M : Type 1} → statement M
 latest-seen-spec = tie.close (tie.spec entry-requires one-less-requires returns returns-2)

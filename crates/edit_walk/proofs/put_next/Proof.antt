@@ -1,6 +1,6 @@
--- `edit_walk::put_next` meets its contract: the record's site has a count and its edit a slot, and with both the walk has
--- one record more. Assumes nothing.
-use mathlib.Core.Path.{_≡_, sym, _∙_}
+-- `edit_walk::put_next` meets its contract: the record's site has a count and its edit a slot, and with both the walk
+-- has one record more. Assumes nothing.
+use mathlib.Core.Path.{_≡_}
 use mathlib.Core.List.{List}
 use Prim.Native.Nat.{ℕ, _+_, _*_, _<_}
 use native.Mathlib.Numerals.{add-one}
@@ -10,7 +10,6 @@ use denote.Ref.{now}
 use borrow.Author.Needs.{needs}
 use Rattle.edit_record.specs.Layout.{mostSites, placeLength, siteAt, seqAt}
 use Rattle.edit_record.specs.RecordBytes.{two}
-use Rattle.edit_history.specs.EditsHeld.{recordAt}
 use Rattle.edit_history.proofs.FieldsInPlace.{site-in-place, seq-in-place}
 use Rattle.edit_walk.specs.WalkForms.{placesLength, slotOf}
 use Rattle.edit_walk.proofs.WalkKeeps.{walking-more, held-few, own-low, slot-more}
@@ -68,7 +67,9 @@ mul-start : tie.Need-mul-start
 mul-start c = omega (arith, own-counts (c .before .before .before .before))
 
 slice-read-start : tie.Need-slice-read-start
-slice-read-start c = omega (arith, own-counts (c .before .before .before .before .before), places-long (c .before .before .before .before .before))
+slice-read-start c =
+    let s = c .before .before .before .before .before in
+    omega (arith, own-counts s, places-long s)
 
 add-pair-at : tie.Need-add-pair-at
 add-pair-at c = search needs
@@ -92,13 +93,17 @@ mul-places : tie.Need-mul-places
 mul-places c = omega (arith, slot-fits (c .before .before .before .before .before .before), c .pair-at .ensures)
 
 slice-write-places : tie.Need-slice-write-places
-slice-write-places c = omega (arith, slot-fits (c .before .before .before .before .before .before), places-long (c .before .before .before .before .before .before), c .pair-at .ensures)
+slice-write-places c =
+    let s = c .before .before .before .before .before .before in
+    omega (arith, slot-fits s, places-long s, c .pair-at .ensures)
 
 mul-held : tie.Need-mul-held
 mul-held c = omega (arith, own-counts (c .before .before .before .before .before .before))
 
 slice-read-held : tie.Need-slice-read-held
-slice-read-held c = omega (arith, own-counts (c .before .before .before .before .before .before .before), counts-long (c .before .before .before .before .before .before .before))
+slice-read-held c =
+    let s = c .before .before .before .before .before .before .before in
+    omega (arith, own-counts s, counts-long s)
 
 add-held : tie.Need-add-held
 add-held c = omega (arith, few-counted (c .before .before .before .before .before .before .before))
@@ -107,7 +112,9 @@ mul-held-2 : tie.Need-mul-held-2
 mul-held-2 c = omega (arith, own-counts (c .before .before .before .before .before .before .before))
 
 slice-write-held : tie.Need-slice-write-held
-slice-write-held c = omega (arith, own-counts (c .before .before .before .before .before .before .before), counts-long (c .before .before .before .before .before .before .before))
+slice-write-held c =
+    let s = c .before .before .before .before .before .before .before in
+    omega (arith, own-counts s, counts-long s)
 
 same-length : tie.Need-same-length
 same-length c = search needs

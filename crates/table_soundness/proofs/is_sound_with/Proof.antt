@@ -94,7 +94,8 @@ returns-5 c =
     let a = start-of x .args in
     let yes = not-false (y .result) (c .before .before .before .if4 .left) in
     let indexed = y .ensures .indexed yes in
-    let named = c .are-all-named .ensures (a .c .sites) (few-sites (a .c) (limits-on x)) (y .ensures .pass yes) indexed in
+    let sites = few-sites (a .c) (limits-on x) in
+    let named = c .are-all-named .ensures (a .c .sites) sites (y .ensures .pass yes) indexed in
     (named ∙ (rw yes at (y .ensures .whole)), λ z. indexed)
 
 pub is-sound-with-spec : {M : Type 1} → statement M

@@ -102,7 +102,8 @@ returns-4 c h =
     let more : getD w own 0 ≡ getD v own 0 + 1 = omega (arith, was, is) in (
       omega arith,
       rw (site-in-place rs p)
-          (and-on (eqb (getD w own 0) (getD v own 0 + 1)) (sameBut v w own) (eq-eqb _ _ more) (sym (c .is-same-in .ensures) ∙ h)),
+          (and-on (eqb (getD w own 0) (getD v own 0 + 1)) (sameBut v w own) (eq-eqb _ _ more)
+          (sym (c .is-same-in .ensures) ∙ h)),
     )
 
 pub is-next-in-spec : {M : Type 1} → statement M

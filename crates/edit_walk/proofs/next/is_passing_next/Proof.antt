@@ -1,5 +1,5 @@
--- `edit_walk::next::is_passing_next` meets its contract: where the record follows one before it, 1 and 5 decide. Assumes
--- nothing.
+-- `edit_walk::next::is_passing_next` meets its contract: where the record follows one before it, 1 and 5 decide.
+-- Assumes nothing.
 use Prim.Native.Nat.{_*_}
 use denote.Ref.{now}
 use Rattle.edit_record.specs.Layout.{placeLength}
@@ -39,8 +39,9 @@ returns c =
     let a = s .args in
     let rs = now (a .recs) in
     let rest = from-place rs (a .p * placeLength) in
-    let (before, grown) = c .before .before .before .before .is-next-in .ensures (c .before .before .before .if1 .taken) in
-    let likely = c .before .before .before .before .before .likely-before in
+    let x = c .before .before .before .before in
+    let (before, grown) = x .is-next-in .ensures (c .before .before .before .if1 .taken) in
+    let likely = x .before .likely-before in
     let (_, next) = rw rest at (likely .ensures before) in
     next-tells (a .sites) (s .pre .3) (recordAt rs (a .p)) (likely .result) before grown next
     (rw rest at (c .is-set-fit-and-aimed .ensures))
@@ -54,8 +55,9 @@ returns-2 c =
     let a = s .args in
     let rs = now (a .recs) in
     let rest = from-place rs (a .p * placeLength) in
-    let (before, grown) = c .before .before .before .before .is-next-in .ensures (c .before .before .before .if1 .taken) in
-    let likely = c .before .before .before .before .before .likely-before in
+    let x = c .before .before .before .before in
+    let (before, grown) = x .is-next-in .ensures (c .before .before .before .if1 .taken) in
+    let likely = x .before .likely-before in
     let (_, next) = rw rest at (likely .ensures before) in
     next-tells (a .sites) (s .pre .3) (recordAt rs (a .p)) (likely .result) before grown next
     (rw rest at (c .is-fit-and-aimed .ensures))

@@ -30,8 +30,9 @@ returns c =
     let e = decodeOf (now (a .rec)) in
     let (before, grown) = c .before .is-next-at .ensures (c .if1 .taken) in
     sym
-    (next-whole sites (ok .few) rs (a .p) (ok .pass) e (c .before .before .likely-before .result) before grown (now (a .places))
-    (ok .indexed) (turn-against sites (ok .few) (now (a .held)) (editsOf rs (a .p)) (ok .counted) e y))
+    (next-whole sites (ok .few) rs (a .p) (ok .pass) e (c .before .before .likely-before .result) before grown
+    (now (a .places)) (ok .indexed)
+    (turn-against sites (ok .few) (now (a .held)) (editsOf rs (a .p)) (ok .counted) e y))
 
 vector-of-requires : tie.Need-vector-of-requires
 vector-of-requires c κs = search needs

@@ -119,12 +119,15 @@ shared-slice-read-kind c = search needs
 
 cast-earlier : tie.Need-cast-earlier Inv-loop μ-loop
 cast-earlier c =
-    let at = c .before .before .before .before .before .before .before .before .before .before .before .before .before in
-    omega (arith, at .loop .inv .2 .made, creates-le (now (start-of at .args .recs)) (at .loop .i), start-of at .pre .2)
+    let late = c .before .before .before .before .before .before .before in
+    let at = late .before .before .before .before .before .before in
+    let few = creates-le (now (start-of at .args .recs)) (at .loop .i) in
+    omega (arith, at .loop .inv .2 .made, few, start-of at .pre .2)
 
 slice-write-earlier : tie.Need-slice-write-earlier Inv-loop μ-loop
 slice-write-earlier c =
-    let at = c .before .before .before .before .before .before .before .before .before .before .before .before .before in
+    let late = c .before .before .before .before .before .before .before in
+    let at = late .before .before .before .before .before .before in
     omega (arith, at .loop .inv .2 .long, start-of at .pre .2)
 
 one-if-requires : tie.Need-one-if-requires Inv-loop μ-loop
@@ -135,7 +138,8 @@ cast-creates c = search needs
 
 add-creates : tie.Need-add-creates Inv-loop μ-loop
 add-creates c =
-    let at = c .before .before .before .before .before .before .before .before .before .before .before .before .before .before in
+    let late = c .before .before .before .before .before .before .before in
+    let at = late .before .before .before .before .before .before .before in
     let few = creates-le (now (start-of at .args .recs)) (at .loop .i) in
     omega (arith, at .loop .inv .2 .made, few, start-of at .pre .2, c .one-if .ensures .1)
 
@@ -144,11 +148,12 @@ slice-aggregate-put-next c = search needs
 
 put-next-requires : tie.Need-put-next-requires Inv-loop μ-loop
 put-next-requires c κs =
-    let at = c .before .before .before .before .before .before .before .before .before .before .before .before .before .before .before .before in
+    let late = c .before .before .before .before .before .before .before in
+    let at = late .before .before .before .before .before .before .before .before .before in
     let s = start-of at in
-    let r = c .before .before .before .before .before .before .before .before .before .before .before .is-next-right in
-    let goes = r .ensures .0 (not-false (r .result) (c .before .before .before .before .before .before .before .before .before .before .if1 .left)) .0 in
-    let below = c .before .before .before .before .before .before .before .before .before .before .before .before .before .before .before .loop-test .taken in (
+    let r = late .before .before .before .before .is-next-right in
+    let goes = r .ensures .0 (not-false (r .result) (late .before .before .before .if1 .left)) .0 in
+    let below = late .before .before .before .before .before .before .before .before .loop-test .taken in (
       omega (arith, below, s .pre .2),
       omega (arith, below, s .pre .3),
       (s .args .sites, _, s .pre .0, at .loop .inv .1, goes),
@@ -162,7 +167,8 @@ loop-less c = search needs
 
 loop-again : tie.Need-loop-again Inv-loop μ-loop
 loop-again c =
-    let sums = c .before .before .before .before .before .before .before .before .before .before .before .before .before in
+    let late = c .before .before .before .before .before .before .before in
+    let sums = late .before .before .before .before .before .before in
     let at = sums .before .before .before .before .before .before .before in
     let s = start-of at in
     let rs = now (s .args .recs) in
@@ -170,7 +176,7 @@ loop-again c =
     let (goes, rest) = r .ensures .0 (not-false (r .result) (sums .before .if1 .left)) in
     let w = at .loop .inv .1 in
     let on = c .before .before .before .put-next .ensures (s .args .sites) _ (s .pre .0) w goes in
-    let tallies = c .before .before .before .before .before .before .before .before .before .before .tally-set in
+    let tallies = late .before .before .before .tally-set in
     let below = sums .before .before .before .before .before .before .loop-test .taken in (
       omega (arith, below),
       on,
@@ -187,7 +193,8 @@ same-length-5 c = c .before .loop .inv .2 .long ∙ sym (start-of (c .before) .p
 
 same-length-6 : tie.Need-same-length-6 Inv-loop μ-loop
 same-length-6 c =
-    let long : length (now (start-of (c .before) .args .tallies)) ≡ mostRecords = rw (start-of (c .before) .pre .6) refl in
+    let s = start-of (c .before) in
+    let long : length (now (s .args .tallies)) ≡ mostRecords = rw (s .pre .6) refl in
     c .before .loop .inv .2 .aimed .0 ∙ sym long
 
 returns-2 : tie.Need-returns-2 Inv-loop μ-loop

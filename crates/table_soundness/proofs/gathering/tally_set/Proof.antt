@@ -1,6 +1,5 @@
--- `table_soundness::gathering::tally_set` meets its contract: the tally of the target's place grows by one for a Set, and
--- past the last place there is nothing to tally. Assumes nothing.
-use mathlib.Core.Path.{sym, _∙_}
+-- `table_soundness::gathering::tally_set` meets its contract: the tally of the target's place grows by one for a Set,
+-- and past the last place there is nothing to tally. Assumes nothing.
 use mathlib.Core.Bool.{cond}
 use Prim.Native.Nat.{_+_, _≤_}
 use native.Mathlib.Omega.{arith}
@@ -15,6 +14,9 @@ use Rattle.table_soundness.proofs.CountingPasses.{aimed-low, aimed-more
 use borrow.Author.Needs.{needs}
 use Rattle.table_soundness.proofs.gathering.tally_set.Statement.{statement}
 use Rattle.table_soundness.proofs.gathering.tally_set.Tie as tie
+
+abbrev start-of : tie.After-place-at → tie.Start
+start-of x = x .before .before .before .before .before .before .before
 
 mul-at : tie.Need-mul-at
 mul-at c = search needs
@@ -50,11 +52,11 @@ one-if-requires : tie.Need-one-if-requires
 one-if-requires c κs = search needs
 
 slice-read-tallies : tie.Need-slice-read-tallies
-slice-read-tallies c = search (needs, c .before .before .before .before .before .before .before .before .before .before .before .pre .3 .0)
+slice-read-tallies c = search (needs, start-of (c .before .before .before .before) .pre .3 .0)
 
 add-tallies : tie.Need-add-tallies
 add-tallies c =
-    let s = c .before .before .before .before .before .before .before .before .before .before .before in
+    let s = start-of (c .before .before .before .before) in
     let a = s .args in
     let p = c .before .before .before .before .place-at .result in
     omega (
@@ -65,14 +67,14 @@ add-tallies c =
     )
 
 slice-write-tallies : tie.Need-slice-write-tallies
-slice-write-tallies c = search (needs, c .before .before .before .before .before .before .before .before .before .before .before .pre .3 .0)
+slice-write-tallies c = search (needs, start-of (c .before .before .before .before) .pre .3 .0)
 
 same-length : tie.Need-same-length
 same-length c = search needs
 
 returns : tie.Need-returns
 returns c =
-    let s = c .before .before .before .before .before .before .before .before .before .before .before in
+    let s = start-of (c .before .before .before .before) in
     let a = s .args in
     rw (
       c .before .before .one-if .ensures .0,
@@ -87,14 +89,15 @@ returns c =
 
 returns-2 : tie.Need-returns-2
 returns-2 c =
-    let s = c .before .before .before .before .before .before .before .before .before .before in
+    let x = c .before .before .before in
+    let s = start-of x in
     let a = s .args in
     let rs = now (a .recs) in
     let ts = now (a .tallies) in
     let e = recordAt rs (a .i) in
     let p = placeOf (now (a .places)) (e .tsite .0) (e .tseq .0) in
-    let q = c .before .before .before .place-at in
-    let is = rw (c .before .before .before .before .pair-at .ensures, ← target-in-place rs (a .i), ← target-seq-in-place rs (a .i)) at (q .ensures) in
+    let seq = x .before .pair-at .ensures in
+    let is = rw (seq, ← target-in-place rs (a .i), ← target-seq-in-place rs (a .i)) at (x .place-at .ensures) in
     let past : length ts ≤ p = omega (arith, is, s .pre .3 .0) in
     rw (set-out ts p (getD ts p 0 + cond (isSet e) 1 0) past) at
     (aimed-more rs (now (a .places)) ts (a .i) (s .pre .3))
