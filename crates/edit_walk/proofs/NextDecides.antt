@@ -1,16 +1,16 @@
 -- Where the records held pass 1 to 5, an edit whose vector is that of one of them with one edit more of its own has
 -- seen nothing that is missing and nothing torn: whatever it has seen that one had seen, and that one passed. So 1 and
 -- 5 decide, but for its entries past the sites. Assumes no more sites than entries.
-use mathlib.Core.Path.{_≡_, refl, sym, _∙_}
+use mathlib.Core.Path.{_≡_, sym, _∙_}
 use mathlib.Core.Logic.{_⊎_, inl, inr}
 use mathlib.Core.Bool.{Bool, true, false, not, _&&_, _||_}
 use mathlib.Core.List.{List}
-use Prim.Native.Nat.{ℕ, _+_, _≤_, _<_}
+use Prim.Native.Nat.{ℕ, _+_, _-_, _≤_, _<_}
 use native.Mathlib.Omega.{arith}
 use native.Mathlib.Decide.{ℕ-discrete}
 use lib.Dec.{eqb, leb, ltb}
-use lib.ListN.{getD}
-use lib.Seq.{getD-set-other}
+use lib.ListN.{length, getD, take, drop, length-drop}
+use lib.Seq.{take-all, getD-set-other}
 use borrow.Author.Tests.{eqb-true, eqb-false, eq-eqb, leb-true, leb-false, lt-leb, le-ltb, ltb-true}
 use borrow.Author.Tests.{not-true}
 use Rattle.math_lists.proofs.Booleans.{decide, off, both, either, off-where, or-off}
@@ -28,6 +28,11 @@ use Rattle.edit_walk.specs.WalkForms.{placeOf, Indexed, tornBy, tornByNe
 use Rattle.edit_walk.specs.WalkForms.{sameBut, isNext, Passing}
 use Rattle.edit_walk.proofs.LatestDecides.{latestSeen, tornAt, tornByLatest, one-before, torn-same}
 use Rattle.edit_walk.proofs.NewsDecide.{seen-through, news-same}
+
+-- ---- what is lent of a table from a place on
+
+pub from-place : (rs : List ℕ) (from : ℕ) → take (length rs - from) (drop from rs) ≡ drop from rs
+from-place rs from = take-all (length rs - from) (drop from rs) (simp length-drop (omega arith))
 
 -- ---- the entries
 
