@@ -1,3 +1,4 @@
+pub mod JoinedLater
 pub mod SettledByRecords
 pub mod AllTaken
 pub mod TrueExactly
