@@ -1,5 +1,5 @@
 -- The tests of a list's members, one by one. Assumes nothing.
-use mathlib.Core.Path.{_≡_, refl, sym, ap, ap₂, _∙_}
+use mathlib.Core.Path.{_≡_, refl, ap₂}
 use mathlib.Core.Bool.{Bool, true, false, not, _&&_, _||_}
 use mathlib.Core.List.{List}
 use Prim.Native.Nat.{ℕ, zero, suc, _+_, _-_, _/_, _%_, _≤_, _<_}
@@ -71,7 +71,9 @@ wrong-more count (suc i) m last l e =
     let next : suc (suc i) - 1 ≡ suc i = omega arith in
     let before : suc i - 1 ≡ i = omega arith in
     let on = lt-ltb (i + 1) count (omega arith) in
-    rw (next, e (omega arith), before, on, ne-eqb (suc i) 0 (λ z. omega arith), add-one) (turned (some i (hasWrongByte m) || hasWrongByte m i)
+    let behind = ne-eqb (suc i) 0 (λ z. omega arith) in
+    rw (next, e (omega arith), before, on, behind, add-one)
+    (turned (some i (hasWrongByte m) || hasWrongByte m i)
     (some i (isOutOfOrder count m)) (hasWrongByte m (suc i)) (leb (nameIn (getD m (suc i) 0)) (nameIn (getD m i 0))))
   where
     turned : (a b z o : Bool) → (((a || b) || z) || o) ≡ ((a || z) || (b || o))

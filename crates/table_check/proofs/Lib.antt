@@ -3,4 +3,3 @@ pub mod AllTaken
 pub mod TrueExactly
 pub mod SetsInTurn
 pub mod RowWorkedOut
-pub mod RowsTold

@@ -1,6 +1,6 @@
--- `edit_record::lists::are_members_wrong` meets its contract: `found` is what both tests say of the first i members, and
--- `last` the name of the one before. Assumes nothing.
-use mathlib.Core.Path.{_≡_, refl, sym, ap, _∙_}
+-- `edit_record::lists::are_members_wrong` meets its contract: `found` is what both tests say of the first i members,
+-- and `last` the name of the one before. Assumes nothing.
+use mathlib.Core.Path.{_≡_, refl, sym, _∙_}
 use Prim.Native.Nat.{_+_, _*_, _≤_, _<_, _-_}
 use native.Mathlib.Numerals.{add-one}
 use native.Mathlib.Omega.{arith}
@@ -9,7 +9,7 @@ use denote.Ref.{now}
 use borrow.Author.Needs.{needs}
 use Rattle.math_lists.specs.NumbersBelow.{some}
 use Rattle.edit_record.specs.Layout.{mostMembers, membersAt}
-use Rattle.edit_record.specs.RecordBytes.{four, firstFours}
+use Rattle.edit_record.specs.RecordBytes.{firstFours}
 use Rattle.edit_record.specs.Answer1.{nameIn}
 use Rattle.edit_record.proofs.FoursInBytes.{four-drop, fours-at, fours-past}
 use Rattle.edit_record.proofs.MembersTested.{isWrongAmong, wrong-more, wrong-all}
@@ -57,8 +57,7 @@ loop-again c =
     let here : c .before .four-at .result ≡ getD m (l .i) 0 = c .before .four-at .ensures
     ∙ sym (fours-at mostMembers (a .k) (drop membersAt s) (l .i) (omega arith) low
     ∙ four-drop membersAt s (4 * l .i)) in
-    let next : l .i + 1 - 1 ≡ l .i = omega arith in
-    (
+    let next : l .i + 1 - 1 ≡ l .i = omega arith in (
       omega arith,
       rw (add-one, l .inv .1, c .name-in .ensures, here) (wrong-more (a .k) (l .i) m (l .last) low (l .inv .2)),
       λ h. rw (next, c .name-in .ensures, here),
