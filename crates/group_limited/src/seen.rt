@@ -74,8 +74,8 @@ fn last_of(m: u64) -> usize
     63 - u64::leading_zeros(m) as usize
 }
 
-// Those of the Sets before Set i that its author had seen, if it is one of the last of the k first Sets, for which `sees`
-// has them; else none.
+// Those of the Sets before Set i that its author had seen, if it is one of the last of the k first Sets, for which
+// `sees` has them; else none.
 fn known_by(sees: &[u64], k: usize, i: usize) -> u64
     requires { ⌜ (mostRecent ≤ length (now sees)) × (i < mostSets) ⌝ }
     ensures { λ r.

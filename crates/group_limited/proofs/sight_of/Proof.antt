@@ -1,5 +1,5 @@
 -- `group_limited::sight_of` meets its contract. Assumes nothing.
-use mathlib.Core.Path.{_≡_, ap}
+use mathlib.Core.Path.{ap}
 use Prim.Native.Nat.{ℕ}
 use lib.Dec.{eqb}
 use Rattle.edit_record.specs.Layout.{limitedKind}

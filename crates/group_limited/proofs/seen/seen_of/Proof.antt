@@ -8,7 +8,6 @@ use Prim.Native.Nat.{ℕ, suc, _-_, _^_, _<_}
 use native.Mathlib.Omega.{arith}
 use lib.Bits.{bitOr}
 use lib.ListN.{length, getD}
-use denote.Ref.{now}
 use Rattle.math_lists.proofs.Booleans.{or-left, eqb-self}
 use Rattle.math_maximal.specs.Groups.{bit}
 use Rattle.math_maximal.proofs.Bits.{bit-below, bit-or, bit-power}
