@@ -4,4 +4,3 @@ pub mod AllTaken
 pub mod TrueExactly
 pub mod SetsInTurn
 pub mod RowWorkedOut
-pub mod RowsTold

@@ -3,6 +3,7 @@
 // held against the table's.
 use edit_history::RECORDS;
 use edit_walk::PLACES;
+use group_limited::RECENT;
 use group_limited::earlier::put_names;
 use group_step::GROUPS;
 use group_step::SETS;
@@ -24,7 +25,7 @@ ghost use Rattle.edit_record.specs.Answer1.{isLimited};
 ghost use Rattle.edit_walk.specs.WalkForms.{Indexed};
 ghost use Rattle.group_step.specs.GroupRows.{mostGroups, mostSets, row};
 ghost use Rattle.group_step.specs.StepForms.{Apart};
-ghost use Rattle.group_limited.specs.LimitedForms.{setsIn, NamesIn};
+ghost use Rattle.group_limited.specs.LimitedForms.{mostRecent, setsIn, NamesIn};
 ghost use Rattle.table_drawing.specs.Tables.{tablesOf};
 ghost use Rattle.table_drawing.specs.AnswerNumbers.{numberOf};
 ghost use Rattle.table_soundness.specs.Sound.{sound};
@@ -147,6 +148,7 @@ fn step_limited(
     gs: &mut [u64],
     plain: &mut [u64],
     ctx: &mut [u64],
+    sees: &mut [u64],
     recs: &[u8],
     places: &[u16],
     names: &[u32],
@@ -156,6 +158,7 @@ fn step_limited(
         × (take 1 (now gs) ≡ 0 ∷ [])
         × (k ≤ length (now plain))
         × (k ≤ length (now ctx))
+        × (mostRecent ≤ length (now sees))
         × (k ≤ length (now places))
         × (k ≤ mostSets)
         × ProperInTurn (now recs) (now places) k
@@ -166,12 +169,13 @@ fn step_limited(
     let mut n: usize = 1;
     let mut i: usize = 0;
     while i < k {
-        let t = group_limited::told_at(recs, places, names, i, plain, ctx, places[i]);
+        let t = group_limited::told_at(recs, places, names, sees, i, plain, ctx, places[i]);
         n = group_step::step_apart(gs, n, t.conflicts, i);
         if GROUPS < n {
             return n;
         }
         group_limited::put_told(plain, ctx, i, t.row, t.context);
+        sees[i % RECENT] = t.seen;
         i += 1;
     }
     n
@@ -194,9 +198,10 @@ fn work_out(recs: &[u8], places: &[u16], k: usize, gs: &mut [u64]) -> usize
     // what work space holds at first does not matter; zeros would be set by memset (docs/DECISIONS.md, 24)
     let mut plain = [1u64; SETS];
     let mut ctx = [1u64; SETS];
+    let mut sees = [1u64; RECENT];
     let mut names = [1u32; SETS];
     put_names(&mut names, recs, places, k);
-    step_limited(gs, &mut plain, &mut ctx, recs, places, &names, k)
+    step_limited(gs, &mut plain, &mut ctx, &mut sees, recs, places, &names, k)
 }
 
 // Whether the row of object o has the groups of the object's Sets, which are found by the chain.

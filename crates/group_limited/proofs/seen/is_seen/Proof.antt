@@ -1,8 +1,8 @@
--- `group_limited::earlier::is_seen` meets its contract. Assumes nothing.
+-- `group_limited::seen::is_seen` meets its contract. Assumes nothing.
 use Rattle.group_limited.proofs.NamesOfSets.{same-name}
 use borrow.Author.Needs.{needs}
-use Rattle.group_limited.proofs.earlier.is_seen.Statement.{statement}
-use Rattle.group_limited.proofs.earlier.is_seen.Tie as tie
+use Rattle.group_limited.proofs.seen.is_seen.Statement.{statement}
+use Rattle.group_limited.proofs.seen.is_seen.Tie as tie
 
 cast-seq : tie.Need-cast-seq
 cast-seq c = search needs

@@ -1,4 +1,4 @@
--- `group_limited::earlier::is_conflict_with` meets its contract. Assumes nothing.
+-- `group_limited::seen::is_conflict_with` meets its contract. Assumes nothing.
 use mathlib.Core.Path.{ap, ap₂, _∙_}
 use mathlib.Core.List.{List}
 use Prim.Native.Nat.{ℕ, _+_, _*_, _-_, _≤_}
@@ -11,8 +11,8 @@ use Rattle.edit_record.specs.RecordBytes.{decodeOf}
 use Rattle.edit_causal.specs.Conflict.{doConflict}
 use borrow.Author.Needs.{needs}
 use Rattle.group_limited.proofs.OneMoreTaken.{both-at-most}
-use Rattle.group_limited.proofs.earlier.is_conflict_with.Statement.{statement}
-use Rattle.group_limited.proofs.earlier.is_conflict_with.Tie as tie
+use Rattle.group_limited.proofs.seen.is_conflict_with.Statement.{statement}
+use Rattle.group_limited.proofs.seen.is_conflict_with.Tie as tie
 
 mul-at : tie.Need-mul-at
 mul-at c = search needs
