@@ -1,4 +1,3 @@
-pub mod ValueInPlace
 pub mod LargestWhere
 pub mod LoopTurns
 pub mod MembersByTest

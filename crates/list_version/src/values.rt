@@ -9,8 +9,9 @@ use edit_record::AT_KEY;
 use edit_record::AT_SITE;
 use edit_record::AT_VALUE;
 use edit_record::KEYS;
-use edit_record::PLACE;
 use edit_record::VALUES;
+use edit_record::vector_of;
+use table_sets::copied::copy_at;
 ghost use mathlib.Core.Path.{_≡_};
 ghost use mathlib.Core.Bool.{_||_};
 ghost use Prim.Native.Nat.{ℕ, _+_, _*_, _-_, _≤_, _<_, max};
@@ -33,16 +34,15 @@ fn stamped(key: u8, sum: u32, site: u8, value: u32) -> u64
     key as u64 * PLACINGS + ((sum as u64 * SITE_NUMBERS + site as u64) * VALUES + value as u64 + 1)
 }
 
-// The stamp of the record in place p, whose fields are read where they stand; 0 for a key that is none.
+// The stamp of the record in place p; 0 for a key that is none.
 fn stamp_at(recs: &[u8], p: u16) -> u64
     ensures { λ r. ⌜ (r ≡ stampOf (recordAt (now (recs .entry)) p)) × Small (recordAt (now (recs .entry)) p) ⌝ }
 {
-    let at = p as usize * PLACE;
-    let v = edit_history::vector_at(recs, p as usize);
-    let sum = vector_sum(v);
-    let site = edit_record::byte_at(recs, at + AT_SITE);
-    let key = edit_record::byte_at(recs, at + AT_KEY);
-    let value = edit_record::four_at(recs, at + AT_VALUE);
+    let rec = copy_at(recs, p);
+    let sum = vector_sum(vector_of(&rec));
+    let value = edit_record::four_at(&rec, AT_VALUE);
+    let site = rec[AT_SITE];
+    let key = rec[AT_KEY];
     if KEYS <= key {
         return 0;
     }

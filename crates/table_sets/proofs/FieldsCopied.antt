@@ -45,14 +45,14 @@ fields-copied b rs p h =
     ∙ ap (two rs) (omega arith)
     ∙ sym (entry-in-place rs p i l) in
     let long = counts-length mostSites (drop vectorAt b) in
-    let long′ = counts-length mostSites (drop vectorAt (drop at rs)) in
+    let same = long ∙ sym (counts-length mostSites (drop vectorAt (drop at rs))) in
     let value : four b valueAt ≡ four rs (at + valueAt)
     = ap₂ (λ (x y : ℕ). x + y * 65536) (two-copied b rs at valueAt h (lit< tt))
     (two-copied b rs at (valueAt + 2) h (lit< tt) ∙ ap (two rs) (omega arith)) in
     record {
       site = h siteAt (lit< tt) ∙ sym (site-in-place rs p);
       seq = two-copied b rs at seqAt h (lit< tt) ∙ sym (seq-in-place rs p);
-      vector = ext-getD 0 (counts mostSites (drop vectorAt b)) v (long ∙ sym long′) (λ i l. one i (omega (arith, long)));
+      vector = ext-getD 0 (counts mostSites (drop vectorAt b)) v same (λ i l. one i (omega (arith, long)));
       key = h keyAt (lit< tt) ∙ sym (key-in-place rs p);
       value = value ∙ sym (value-in-place rs p);
     }

@@ -40,10 +40,11 @@ loop-again : tie.Need-loop-again Inv-loop μ-loop
 loop-again c =
     let l = c .before .before .loop in
     let a = c .before .before .before .before .args in
-    let x = c .byte-at .result in (
+    let byte = c .byte-at in
+    let x = byte .result in (
       omega arith,
       length-set (l .copy) (l .i) x ∙ l .inv .1,
-      copied-more (l .copy) (a .recs .now) (a .at) (l .i) x (omega (arith, l .inv .1)) (l .inv .2) (c .byte-at .ensures),
+      copied-more (l .copy) (a .recs .now) (a .at) (l .i) x (omega (arith, l .inv .1)) (l .inv .2) (byte .ensures),
     )
 
 returns : tie.Need-returns Inv-loop μ-loop
