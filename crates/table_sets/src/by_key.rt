@@ -123,19 +123,21 @@ pub fn take_set(
     m
 }
 
-// Which of the t Sets are in dispute, bit i for the i-th.
-pub fn disputed_in(recs: &[u8], places: &[u16], t: usize) -> u64
-    requires { ⌜ (t ≤ length (now places)) × (t ≤ mostSets) × TellsIn (now recs) (now places) t ⌝ }
+// Which of the t Sets are in dispute, bit i for the i-th; `tolds` is work space.
+pub fn disputed_in(tolds: &mut [u64], recs: &[u8], places: &[u16], t: usize) -> u64
+    requires { ⌜ (t ≤ length (now places))
+        × (t ≤ mostSets)
+        × (t ≤ length (now tolds))
+        × TellsIn (now recs) (now places) t ⌝ }
     ensures { λ r. ⌜ DisputedBy (now (recs .entry)) (now (places .entry)) t r ⌝ }
 {
     let mut latest = [0u8; KEY_CHAINS];
     // what work space holds at first does not matter; zeros would be set by memset (docs/DECISIONS.md, 24)
     let mut earlier = [1u8; SETS];
-    let mut tolds = [1u64; SETS];
     let mut all: u64 = 0;
     let mut i: usize = 0;
     while i < t {
-        let m = take_set(&mut latest, &mut earlier, &mut tolds, recs, places, i);
+        let m = take_set(&mut latest, &mut earlier, tolds, recs, places, i);
         if m != 0 {
             all = all | m | (1 << i);
         }
