@@ -12,3 +12,5 @@ pub mod VersionsSorted
 pub mod RanksStrict
 pub mod ValueShown
 pub mod LastInAnyOrder
+pub mod HighestMember
+pub mod StampsByKey
