@@ -1,4 +1,5 @@
 -- `list_line::put_line` meets its contract: the Create, the identifier, the values and a newline. Assumes nothing.
+use mathlib.Core.Path.{_∙_}
 use mathlib.Core.List.{[], _∷_}
 use native.Mathlib.Omega.{arith}
 use lib.ListN.{take}
@@ -59,7 +60,16 @@ put-byte-requires c κs =
     )
 
 same-length : tie.Need-same-length
-same-length c = search needs
+same-length c =
+    let s8 = c .before .before .before .before .before .before .before .before in
+    let set = s8 .before .before .before .before in
+    let t8 = set .before .before .before .before .before .before .before .before in
+    let marked = t8 .before .before .before .before .before in
+    let named = marked .before .before .before .before .before .before .before in
+    c .before .before .put-byte .kept .0
+    ∙ set .put-settings .kept .0
+    ∙ marked .put-identifier .kept .0
+    ∙ named .put-dotted .kept .0
 
 same-length-2 : tie.Need-same-length-2
 same-length-2 c = search needs

@@ -1,6 +1,6 @@
 -- `list_line::put_settings` meets its contract: the settings of the keys passed stand behind the first n bytes.
 -- Assumes nothing.
-use mathlib.Core.Path.{_≡_, refl, _∙_}
+use mathlib.Core.Path.{_≡_, refl, sym, _∙_}
 use mathlib.Core.List.{_++_}
 use Prim.Native.Nat.{_+_, _-_, _*_, _≤_}
 use native.Mathlib.Omega.{arith}
@@ -65,16 +65,25 @@ loop-again c =
     )
 
 same-length : tie.Need-same-length Inv-loop μ-loop
-same-length c = search needs
+same-length c = c .before .loop .inv .2
 
 same-length-2 : tie.Need-same-length-2 Inv-loop μ-loop
-same-length-2 c = search needs
+same-length-2 c =
+    let looped = c .before in
+    let start = looped .before .before .before .before .before .before .before in
+    looped .loop .inv .3 .texts-long ∙ sym (start .pre .1 .texts-long)
 
 same-length-3 : tie.Need-same-length-3 Inv-loop μ-loop
-same-length-3 c = search needs
+same-length-3 c =
+    let looped = c .before in
+    let start = looped .before .before .before .before .before .before .before in
+    looped .loop .inv .3 .lens-long ∙ sym (start .pre .1 .lens-long)
 
 same-length-4 : tie.Need-same-length-4 Inv-loop μ-loop
-same-length-4 c = search needs
+same-length-4 c =
+    let looped = c .before in
+    let start = looped .before .before .before .before .before .before .before in
+    looped .loop .inv .3 .told-long ∙ sym (start .pre .1 .told-long)
 
 returns : tie.Need-returns Inv-loop μ-loop
 returns c =
