@@ -1,6 +1,6 @@
--- An edit that is the next of its site and has seen all that is held: nothing is missing, and no vector that is held has
--- a larger entry. So 1 and 5 decide, but for its entries past the sites, where nothing is counted. Assumes no more sites
--- than entries.
+-- An edit that is the next of its site and has seen all that is held: nothing is missing, and no vector that is held
+-- has a larger entry. So 1 and 5 decide, but for its entries past the sites, where nothing is counted. Assumes no more
+-- sites than entries.
 use mathlib.Core.Path.{_≡_, sym, _∙_}
 use mathlib.Core.Logic.{inl, inr}
 use mathlib.Core.Bool.{Bool, true, false, not, _&&_, _||_}

@@ -32,14 +32,14 @@ use Rattle.list_objects.specs.ObjectForms.{goesFirst, GatheredOf}
 use Rattle.list_objects.proofs.GatheredIs.{names-differ}
 use Rattle.list_objects.proofs.KeysByTops.{in-order}
 use Rattle.list_lines.specs.List.{linesFor}
-use Rattle.list_lines.specs.LinesForms.{Ready, lineIn}
+use Rattle.list_lines.specs.LinesForms.{LongEnough, lineIn}
 
 -- ---- what is gathered of an object
 
 module _ (t : Tables) (s : Sound t) (o : ℕ) (low : o < t .counters .objects) (g : Gathered) (ds ss ks vs : List ℕ)
     (f : GatheredOf t o g ds ss ks vs) (disputes-long : mostSets ≤ length ds) (stamps-long : mostSets ≤ length ss)
     (keyed-long : keys ≤ length ks) (versions-long : mostGroups ≤ length vs) where
-  pub gathered-ready : Ready g ds ss ks vs
+  pub gathered-ready : LongEnough g ds ss ks vs
   gathered-ready =
       record {
         few = f .few-sets;

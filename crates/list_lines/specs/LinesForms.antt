@@ -24,7 +24,7 @@ use Rattle.list_lines.specs.List.{linesFor}
 -- ---- the lines of what is gathered
 
 -- the arrays are as long as they must be: the Sets in dispute, the stamps, the Sets of each key, and the versions
-pub record Ready (g : Gathered) (ds ss ks vs : List ℕ) : Type 0 where
+pub record LongEnough (g : Gathered) (ds ss ks vs : List ℕ) : Type 0 where
   pub few : g .sets ≤ mostSets
   pub disputed : g .disputes ≤ mostSets
   pub disputes-long : mostSets ≤ length ds

@@ -32,7 +32,7 @@ ghost use Rattle.list_line.specs.Line.{lineLength};
 ghost use Rattle.list_line.specs.LineForms.{pieceLength};
 ghost use Rattle.list_lines.specs.List.{linesFor, linesOf};
 ghost use Rattle.list_lines.specs.LineByNumber.{lineOf};
-ghost use Rattle.list_lines.specs.LinesForms.{Ready, lineIn, headOf, FoundIn, NumberedAs};
+ghost use Rattle.list_lines.specs.LinesForms.{LongEnough, lineIn, headOf, FoundIn, NumberedAs};
 
 // Where a line of a version is found: whether there is one, the object, and which of its versions it is.
 struct LinePlace {
@@ -116,7 +116,7 @@ fn put_version(
     versions: &[u64],
     v: usize,
 ) -> usize
-    requires { ⌜ Ready g (now disputes) (now stamps) (now keyed) (now versions)
+    requires { ⌜ LongEnough g (now disputes) (now stamps) (now keyed) (now versions)
         × (v < mostGroups)
         × (lineLength + pieceLength ≤ length (now out)) ⌝ }
     ensures { λ r.

@@ -10,7 +10,7 @@ ghost use Rattle.group_step.specs.GroupRows.{mostGroups};
 ghost use Rattle.list_line.specs.Line.{lineLength};
 ghost use Rattle.list_line.specs.LineForms.{pieceLength, Kept};
 ghost use Rattle.list_print.specs.Printing.{joined, listLength};
-ghost use Rattle.list_lines.specs.LinesForms.{Ready, lineIn};
+ghost use Rattle.list_lines.specs.LinesForms.{LongEnough, lineIn};
 ghost use Rattle.list_print.specs.PrintForms.{Behind};
 
 // Puts the first k bytes of a line behind the first n bytes of out, if they have room there; says where they end, room
@@ -42,7 +42,7 @@ fn put_version(
     versions: &[u64],
     v: usize,
 ) -> usize
-    requires { ⌜ Ready g (now disputes) (now stamps) (now keyed) (now versions)
+    requires { ⌜ LongEnough g (now disputes) (now stamps) (now keyed) (now versions)
         × (v < mostGroups)
         × (n + lineLength ≤ listLength)
         × (lineLength + pieceLength ≤ length (now line))
@@ -84,7 +84,7 @@ pub fn put_versions(
     keyed: &[u64],
     versions: &[u64],
 ) -> usize
-    requires { ⌜ Ready g (now disputes) (now stamps) (now keyed) (now versions)
+    requires { ⌜ LongEnough g (now disputes) (now stamps) (now keyed) (now versions)
         × (g .count ≤ mostGroups)
         × (n + mostGroups * lineLength ≤ listLength)
         × (lineLength + pieceLength ≤ length (now line))

@@ -49,8 +49,8 @@ abbrev pub isIn : ℕ → ℕ → Bool
 isIn g x = bit g (x % mostSets)
 
 -- the names ascend
-abbrev pub Named : List ℕ → Type 0
-Named xs = Asc (λ x y. nameBy x < nameBy y) xs
+abbrev pub NamesAscend : List ℕ → Type 0
+NamesAscend xs = Asc (λ x y. nameBy x < nameBy y) xs
 
 -- of the Sets in dispute, xs, the names of the members of g
 unfoldable pub identifierBy : List ℕ → ℕ → List ℕ

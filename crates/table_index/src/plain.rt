@@ -68,8 +68,8 @@ fn marks_unless(
     chain::marks_along(recs, n, numbers, chains, q, rec)
 }
 
-// What is found of a Set that is not limited and passes 1 to 5, where it is known of some that they have seen all of the
-// first n records.
+// What is found of a Set that is not limited and passes 1 to 5, where it is known of some that they have seen all of
+// the first n records.
 fn look_at_set(
     all: bool,
     recs: &[u8],

@@ -20,7 +20,7 @@ ghost use Rattle.edit_causal.specs.ConflictForms.{plainMarks};
 ghost use Rattle.group_step.specs.GroupRows.{mostSets};
 ghost use Rattle.group_limited.specs.LimitedForms.{setsIn};
 ghost use Rattle.table_sets.specs.FieldForms.{HasFields};
-ghost use Rattle.table_sets.specs.KeyForms.{setAt, chainOf, unlike, Tells, TellsIn, Told};
+ghost use Rattle.table_sets.specs.KeyForms.{setAt, chainOf, unlike, Tells, TellsIn, ToldAs};
 ghost use Rattle.table_sets.specs.KeyForms.{DisputedBy, LastOf, NotedTo, LinkedTo};
 
 // The chains of an object's Sets: one for each key.
@@ -33,7 +33,7 @@ const SITE_NUMBERS: u64 = edit_record::SITE_NUMBERS as u64;
 
 // What a later Set is told of the one with these bytes, whose key is known, as one number.
 fn told_of(rec: &[u8], key: u8) -> u64
-    ensures { λ r. ⌜ ((e : Edit) → HasFields (now (rec .entry)) e → key ≡ e .key → Told r e) ⌝ }
+    ensures { λ r. ⌜ ((e : Edit) → HasFields (now (rec .entry)) e → key ≡ e .key → ToldAs r e) ⌝ }
 {
     let site = edit_record::byte_at(rec, AT_SITE);
     let seq = edit_record::two_at(rec, AT_SEQ);
@@ -46,7 +46,7 @@ fn told_of(rec: &[u8], key: u8) -> u64
 // differently.
 fn is_unlike(x: u64, y: u64, rec: &[u8]) -> bool
     requires { ⌜ recordLength ≤ length (now rec) ⌝ }
-    ensures { λ r. ⌜ ((a b : Edit) → Told x a → Told y b → HasFields (now (rec .entry)) b → r ≡ unlike a b) ⌝ }
+    ensures { λ r. ⌜ ((a b : Edit) → ToldAs x a → ToldAs y b → HasFields (now (rec .entry)) b → r ≡ unlike a b) ⌝ }
 {
     let site = (x / (SEQ_NUMBERS * VALUES) % SITE_NUMBERS) as u8;
     let seq = (x / VALUES % SEQ_NUMBERS) as u16;
@@ -71,7 +71,7 @@ fn marks_along(
         × (i ≤ length (now tolds))
         × NotedTo (now recs) (now places) i (now earlier) (now tolds)
         × LastOf (now recs) (now places) (chainOf (setAt (now recs) (now places) i)) i from
-        × Told y (setAt (now recs) (now places) i)
+        × ToldAs y (setAt (now recs) (now places) i)
         × HasFields (now rec) (setAt (now recs) (now places) i)
         × (recordLength ≤ length (now rec))
         × ((j : ℕ) → j < i → Tells (setAt (now recs) (now places) j) (setAt (now recs) (now places) i)) ⌝ }

@@ -24,7 +24,7 @@ use Rattle.table_drawing.specs.declared.Counters.{Counters}
 use Rattle.table_drawing.specs.Tables.{Tables, entryLength, heldBy, recordsLength, objectsLength, groupsLength}
 use Rattle.table_drawing.specs.Tables.{lengthsRight, sitesRight}
 use Rattle.table_soundness.specs.Sound.{withinLimits, countsAgree, objectSound, zeroFrom, restZero, sound}
-use Rattle.table_soundness.specs.SoundnessForms.{Targeted, GatheredOver, SetsWithinLimit, Passed}
+use Rattle.table_soundness.specs.SoundnessForms.{Targeted, GatheredOver, SetsWithinLimit, PassedOver}
 use Rattle.table_soundness.specs.declared.Tally.{Tally}
 use Rattle.table_soundness.proofs.EachObject.{object-at}
 use Rattle.table_soundness.proofs.SoundFacts.{sound-at}
@@ -126,7 +126,7 @@ targeted sites rs n pass p l h =
 
 -- ---- the whole
 
-module _ (t : Tables) (g : Tally) (ns ts : List ℕ) (w : Passed t g ns ts) where
+module _ (t : Tables) (g : Tally) (ns ts : List ℕ) (w : PassedOver t g ns ts) where
   same-counts :
       let given = t .counters .held in
       all mostSites (λ s. eqb (getD given s 0) (getD (g .held) s 0))

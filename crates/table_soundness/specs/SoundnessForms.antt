@@ -68,7 +68,7 @@ WrongPast sites room rs n =
 
 -- g is gathered from records that pass 1 to 5 and whose places are zero past them, with the numbers ns and the tallies
 -- ts
-pub record Gathered (sites : ℕ) (rs : List ℕ) (n : ℕ) (g : Tally) (ns ts : List ℕ) : Type 0 where
+pub record GatheredFrom (sites : ℕ) (rs : List ℕ) (n : ℕ) (g : Tally) (ns ts : List ℕ) : Type 0 where
   pub pass : recordsPass sites rs n ≡ true
   pub rests : all n (restZero rs) ≡ true
   pub counted : Counted (g .held) (editsOf rs n)
@@ -79,7 +79,7 @@ pub record Gathered (sites : ℕ) (rs : List ℕ) (n : ℕ) (g : Tally) (ns ts :
 
 -- g is what the pass over the first n records gives, with the index ps
 pub record GatheredOver (sites : ℕ) (room : ℕ → ℕ) (rs : List ℕ) (n : ℕ) (g : Tally) (ps ns ts : List ℕ) : Type 0 where
-  pub right : g .right ≡ true → Gathered sites rs n g ns ts
+  pub right : g .right ≡ true → GatheredFrom sites rs n g ns ts
   pub indexed : g .right ≡ true → Indexed rs n ps
   pub wrong : g .right ≡ false → recordsPass sites rs n ≡ true → Roomy room rs n → all n (restZero rs) ≡ true → ⊥
 
@@ -89,10 +89,10 @@ SetsWithinLimit rs n = (s : Site) (q : Seq) → length (setsOn s q (editsOf rs n
 
 -- ---- what is known of tables once their limits are tested and their records passed over
 
-pub record Passed (t : Tables) (g : Tally) (ns ts : List ℕ) : Type 0 where
+pub record PassedOver (t : Tables) (g : Tally) (ns ts : List ℕ) : Type 0 where
   pub lengths : lengthsRight (t .records) (t .objects) (t .groups) ≡ true
   pub limits : withinLimits (t .counters) ≡ true
-  pub gathered : Gathered (t .counters .sites) (t .records) (t .counters .records) g ns ts
+  pub gathered : GatheredFrom (t .counters .sites) (t .records) (t .counters .records) g ns ts
 
 -- r tells whether the tables are sound but for 16; where they are, ps is the index of their records
 pub record SoundButNamed (t : Tables) (r : Bool) (ps : List ℕ) : Type 0 where

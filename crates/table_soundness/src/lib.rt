@@ -25,7 +25,7 @@ ghost use Rattle.edit_history.specs.Answer16.{recordsNamed};
 ghost use Rattle.edit_walk.specs.WalkForms.{placesLength, Indexed};
 ghost use Rattle.table_drawing.specs.Tables.{entryLength, tablesOf, lengthsRight};
 ghost use Rattle.table_soundness.specs.Sound.{withinLimits, zeroFrom, sound};
-ghost use Rattle.table_soundness.specs.SoundnessForms.{Passed, SetsWithinLimit, SoundButNamed};
+ghost use Rattle.table_soundness.specs.SoundnessForms.{PassedOver, SetsWithinLimit, SoundButNamed};
 
 // What one pass over the records gathers: whether all are right, and then how many edits of each site they are, the sum
 // of their words and how many of them are Creates.
@@ -90,7 +90,7 @@ fn rest_sound(
     objects: &[u16],
     groups: &[u64],
 ) -> bool
-    requires { ⌜ Passed (tablesOf c (now records) (now objects) (now groups)) g (now earlier) (now tallies) ⌝ }
+    requires { ⌜ PassedOver (tablesOf c (now records) (now objects) (now groups)) g (now earlier) (now tallies) ⌝ }
     ensures { λ r. ⌜ ((r && recordsNamed (now (records .entry)) (c .records))
         ≡ sound (tablesOf c (now (records .entry)) (now (objects .entry)) (now (groups .entry))))
         × (r ≡ true → SetsWithinLimit (now (records .entry)) (c .records)) ⌝ }

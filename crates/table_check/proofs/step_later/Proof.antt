@@ -1,5 +1,5 @@
--- `table_check::step_later` meets its contract: a Set without conflict waits with those that did, and before a step that
--- has conflicts all of them join the groups. Assumes nothing.
+-- `table_check::step_later` meets its contract: a Set without conflict waits with those that did, and before a step
+-- that has conflicts all of them join the groups. Assumes nothing.
 use mathlib.Core.Path.{sym, ap, _∙_}
 use native.Mathlib.Omega.{arith}
 use lib.Bits.{bitOr}
