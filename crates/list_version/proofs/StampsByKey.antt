@@ -1,5 +1,5 @@
 -- The Sets of each key, and the peaks among them, one Set after another. Assumes nothing.
-use mathlib.Core.Path.{_≡_, refl, sym, ap, subst, _∙_}
+use mathlib.Core.Path.{_≡_, sym, ap, subst, _∙_}
 use mathlib.Core.Bool.{Bool, true, _&&_, _||_, and-false}
 use mathlib.Core.Logic.{_⊎_, inl, inr}
 use mathlib.Core.List.{List}
@@ -10,12 +10,12 @@ use lib.Bits.{bitOr}
 use lib.Dec.{eqb, ltb}
 use lib.ListN.{length, getD, set, replicate, getD-replicate}
 use lib.Seq.{getD-set-same, getD-set-other}
-use borrow.Author.Tests.{eq-eqb, ne-eqb, lt-ltb, le-ltb, eqb-true}
+use borrow.Author.Tests.{ne-eqb, lt-ltb, le-ltb, eqb-true}
 use Rattle.math_lists.proofs.Booleans.{clash, either, and-true, or-false, eqb-self, eqb-comm}
 use Rattle.edit_record.specs.Layout.{keys}
 use Rattle.math_maximal.specs.Groups.{bit}
 use Rattle.math_maximal.proofs.Bits.{bit-none, bit-or, bit-power}
-use Rattle.list_version.specs.VersionForms.{placings, KeyedBy, KeyedTo}
+use Rattle.list_version.specs.VersionForms.{placings, KeyedTo}
 
 pub keyed-none :
     (stamps by tops : List ℕ) → by ≡ replicate keys 0 → KeyedTo stamps by tops 0 0

@@ -12,7 +12,6 @@ use Rattle.list_lines.specs.LinesForms.{lineIn}
 use Rattle.list_print.specs.Printing.{joined}
 use Rattle.list_print.specs.PrintForms.{Behind}
 use Rattle.list_print.proofs.BytesBehind.{no-piece, piece-behind}
-use borrow.Author.Needs.{needs}
 use Rattle.list_print.proofs.object_lines.put_versions.Statement.{statement}
 use Rattle.list_print.proofs.object_lines.put_versions.Tie as tie
 

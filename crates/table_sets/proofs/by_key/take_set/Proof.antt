@@ -1,5 +1,5 @@
 -- `table_sets::by_key::take_set` meets its contract: the chain of its key is what is told by. Assumes nothing.
-use mathlib.Core.Path.{refl, sym, subst, _∙_}
+use mathlib.Core.Path.{sym, subst, _∙_}
 use Prim.Native.Nat.{ℕ, _+_, _%_}
 use native.Mathlib.Omega.{arith}
 use lib.ListN.{getD, set}
