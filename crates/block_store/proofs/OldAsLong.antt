@@ -9,8 +9,8 @@ use lib.ListN.{length}
 use Rattle.edit_form.specs.OldForm.{longForm, startOf, storedIn, chained}
 use Rattle.edit_form.proofs.Stretches.{stored-whole, chained-starts, chained-stored}
 use Rattle.table_drawing.specs.Tables.{Tables, lengthsRight}
-use Rattle.table_replay.specs.Replay.{Replayed, replayed}
-use Rattle.table_replay.proofs.OwnRecords.{replay-same}
+use Rattle.table_given.specs.Replay.{Replayed, replayed}
+use Rattle.table_given.proofs.OwnRecords.{replay-same}
 use Rattle.block_trailer.specs.Trailer.{fileLimit}
 use Rattle.block_trailer.specs.Locating.{located}
 use Rattle.block_store.specs.Reading.{orEmpty, recordsRead, readingOf}

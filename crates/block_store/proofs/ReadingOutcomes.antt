@@ -15,8 +15,8 @@ use Rattle.edit_history.specs.EditsHeld.{mostRecords}
 use Rattle.table_drawing.specs.Tables.{Tables, emptyDrawing, recordsLength, objectsLength, groupsLength, lengthsRight}
 use Rattle.table_drawing.specs.Tables.{sitesRight}
 use Rattle.table_arrival.proofs.Faithful.{Faithful}
-use Rattle.table_replay.specs.Replay.{Replayed, replayed, replayOf}
-use Rattle.table_replay.proofs.ReplayFaithful.{replay-faithful}
+use Rattle.table_given.specs.Replay.{Replayed, replayed, replayOf}
+use Rattle.table_given.proofs.ReplayFaithful.{replay-faithful}
 use Rattle.block_trailer.specs.Locating.{Found, found, located}
 use Rattle.block_store.specs.Reading.{recordsRead, readingOf}
 use Rattle.block_store.proofs.WrittenLocated.{accepted-at}

@@ -17,9 +17,9 @@ use Rattle.edit_history.specs.EditsHeld.{bytesAt}
 use Rattle.edit_sum.proofs.SumOfRecords.{passing-fit}
 use Rattle.table_drawing.specs.Tables.{Tables, emptyDrawing, lengthsRight, sitesRight}
 use Rattle.table_soundness.specs.Sound.{sound}
-use Rattle.table_replay.specs.Replay.{Replayed, replayed, replayOf}
-use Rattle.table_replay.proofs.ReplayGoes.{Going, going-faithful, going-sound}
-use Rattle.table_replay.proofs.OwnRecords.{going-of, holds, own-records}
+use Rattle.table_given.specs.Replay.{Replayed, replayed, replayOf}
+use Rattle.table_given.proofs.ReplayGoes.{Going, going-faithful, going-sound}
+use Rattle.table_given.proofs.OwnRecords.{going-of, holds, own-records}
 use Rattle.block_trailer.specs.Trailer.{fileLimit}
 use Rattle.block_trailer.specs.Locating.{Found, Located, located}
 use Rattle.block_store.specs.Writing.{recordBytes, blockOf}

@@ -21,8 +21,8 @@ use Rattle.edit_sum.proofs.SumOfRecords.{passing-fit}
 use Rattle.table_drawing.specs.Tables.{Tables, sitesRight}
 use Rattle.table_soundness.specs.Sound.{sound}
 use Rattle.table_soundness.proofs.SoundFacts.{sound-at}
-use Rattle.table_replay.specs.Replay.{replayOf}
-use Rattle.table_replay.proofs.OwnRecords.{replay-same}
+use Rattle.table_given.specs.Replay.{replayOf}
+use Rattle.table_given.proofs.OwnRecords.{replay-same}
 use Rattle.block_trailer.specs.Trailer.{fileLimit, trailerOf, trailerAt, recordsIn, sitesIn, formIn, startIn}
 use Rattle.block_trailer.specs.Trailer.{distanceIn}
 use Rattle.block_trailer.specs.Locating.{found, Located, acceptedIn, sitesFit, located}

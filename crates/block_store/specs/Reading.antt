@@ -7,7 +7,7 @@ use mathlib.Core.Bool.{cond}
 use lib.Dec.{eqb}
 use Rattle.edit_form.specs.OldForm.{storedIn}
 use Rattle.table_drawing.specs.Tables.{Tables, emptyDrawing, lengthsRight}
-use Rattle.table_replay.specs.Replay.{Replayed, replayed, replayOf}
+use Rattle.table_given.specs.Replay.{Replayed, replayed, replayOf}
 use Rattle.block_trailer.specs.Locating.{located}
 
 -- the answer, the index and the tables of a replay; a refused record leaves an empty drawing

@@ -17,7 +17,7 @@ ghost use Rattle.edit_history.specs.EditsHeld.{mostRecords, bytesAt};
 ghost use Rattle.edit_sum.specs.WordSum.{ListsFit};
 ghost use Rattle.table_drawing.specs.Tables.{tablesOf, lengthsRight, sitesRight};
 ghost use Rattle.table_drawing.specs.AnswerNumbers.{numberOf};
-ghost use Rattle.table_replay.specs.Replay.{replayed};
+ghost use Rattle.table_given.specs.Replay.{replayed};
 ghost use Rattle.block_trailer.specs.Trailer.{trailerLength, trailerOf};
 ghost use Rattle.table_output.specs.Output.{writing};
 ghost use Rattle.block_store.specs.Writing.{writingOf};

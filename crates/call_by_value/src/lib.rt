@@ -6,7 +6,7 @@ ghost use Rattle.table_drawing.specs.Tables.{tablesOf};
 ghost use Rattle.table_drawing.specs.AnswerNumbers.{outcomeOf};
 ghost use Rattle.table_drawing.specs.Opening.{openingOf};
 ghost use Rattle.table_arrival.specs.Arrival.{arrivalOf};
-ghost use Rattle.table_replay.specs.Replay.{replayed};
+ghost use Rattle.table_given.specs.Replay.{replayed};
 ghost use Rattle.block_store.specs.Reading.{readingOf};
 
 // The number of an answer, and the counters after the call.

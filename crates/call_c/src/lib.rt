@@ -12,7 +12,7 @@ ghost use Rattle.table_drawing.specs.Tables.{tablesOf};
 ghost use Rattle.table_drawing.specs.AnswerNumbers.{outcomeOf, numberOf};
 ghost use Rattle.table_drawing.specs.Opening.{openingOf};
 ghost use Rattle.table_arrival.specs.Arrival.{arrivalOf};
-ghost use Rattle.table_replay.specs.Replay.{replayed};
+ghost use Rattle.table_given.specs.Replay.{replayed};
 ghost use Rattle.table_check.specs.Check.{checkOf};
 ghost use Rattle.table_engine.specs.Enumeration.{enumeration, enumerationOf};
 ghost use Rattle.table_output.specs.Output.{writing};

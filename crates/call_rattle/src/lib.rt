@@ -12,7 +12,7 @@ ghost use Rattle.table_drawing.specs.Tables.{tablesOf};
 ghost use Rattle.table_drawing.specs.AnswerNumbers.{outcomeOf};
 ghost use Rattle.table_drawing.specs.Opening.{openingOf};
 ghost use Rattle.table_arrival.specs.Arrival.{arrivalOf};
-ghost use Rattle.table_replay.specs.Replay.{replayed};
+ghost use Rattle.table_given.specs.Replay.{replayed};
 ghost use Rattle.block_store.specs.Reading.{readingOf};
 
 // Opens an empty drawing of n sites, on a copy of the counters, which is given back.

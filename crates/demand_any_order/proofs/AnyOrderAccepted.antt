@@ -8,7 +8,7 @@ use Prim.Native.Nat.{ℕ, zero, suc, _≤_}
 use Rattle.edit_record.specs.declared.Edit.{Edit}
 use Rattle.edit_record.specs.Layout.{mostSites}
 use Rattle.edit_record.specs.RecordBytes.{decodeOf}
-use Rattle.table_replay.specs.Replay.{replayOf, editsIn}
+use Rattle.table_given.specs.Replay.{replayOf, editsIn}
 use Rattle.math_lists.specs.Rearranged.{Rearranged}
 use Rattle.demand_any_order.specs.Records.{recordsOf}
 use Rattle.demand_any_order.specs.Settled.{AllAccepted, Causal, Settled}

@@ -29,8 +29,8 @@ use Rattle.table_arrival.specs.Answers6and7.{answerTo}
 use Rattle.table_arrival.specs.Arrival.{taken, acceptanceOf}
 use Rattle.table_arrival.proofs.Admitted.{accepted, taken-records}
 use Rattle.table_arrival.proofs.Faithful.{Faithful}
-use Rattle.table_replay.specs.Replay.{Replayed, replayed, replayOf, editsIn}
-use Rattle.table_replay.proofs.ReplayFaithful.{replay-faithful}
+use Rattle.table_given.specs.Replay.{Replayed, replayed, replayOf, editsIn}
+use Rattle.table_given.proofs.ReplayFaithful.{replay-faithful}
 use Rattle.demand_any_order.specs.Records.{recordsOf, Whole}
 use Rattle.demand_any_order.specs.Settled.{listAnswer, AllAccepted}
 use Rattle.math_lists.proofs.ListMembers.{mem-middle, split-snoc}

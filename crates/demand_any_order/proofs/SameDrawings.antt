@@ -18,8 +18,8 @@ use Rattle.edit_record.specs.RecordBytes.{noEdit}
 use Rattle.group_true.specs.TrueGroups.{trueGroups}
 use Rattle.table_soundness.proofs.ObjectsByNumber.{object-create}
 use Rattle.table_arrival.proofs.Faithful.{Faithful}
-use Rattle.table_replay.specs.Replay.{replayOf, editsIn}
-use Rattle.table_replay.proofs.ReplayFaithful.{replay-faithful}
+use Rattle.table_given.specs.Replay.{replayOf, editsIn}
+use Rattle.table_given.proofs.ReplayFaithful.{replay-faithful}
 use Rattle.math_lists.specs.Rearranged.{Rearranged}
 use Rattle.demand_any_order.specs.Records.{recordsOf}
 use Rattle.demand_any_order.specs.Settled.{AllAccepted, Causal, Apart, Settled}

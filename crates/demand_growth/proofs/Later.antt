@@ -19,8 +19,8 @@ use Rattle.table_soundness.proofs.SoundFacts.{sound-on}
 use Rattle.table_arrival.specs.Answers6and7.{answerTo}
 use Rattle.table_arrival.specs.Arrival.{taken, acceptanceOf, arrivalOf}
 use Rattle.table_arrival.proofs.Faithful.{Faithful, acceptance-faithful}
-use Rattle.table_replay.specs.Replay.{oneMore, replayOf}
-use Rattle.table_replay.proofs.ReplayFaithful.{replay-faithful}
+use Rattle.table_given.specs.Replay.{oneMore, replayOf}
+use Rattle.table_given.proofs.ReplayFaithful.{replay-faithful}
 use Rattle.list_objects.specs.Objects.{createOf, setsFor}
 use Rattle.demand_list.specs.OtherBoxes.{ownOf}
 use Rattle.demand_list.proofs.OtherBoxes.{Leaves, leaves}

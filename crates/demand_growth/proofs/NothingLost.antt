@@ -17,8 +17,8 @@ use Rattle.table_drawing.specs.Tables.{Tables, emptyDrawing}
 use Rattle.table_arrival.specs.Answers6and7.{rowOf}
 use Rattle.table_arrival.proofs.Faithful.{Faithful, empty-faithful}
 use Rattle.table_arrival.proofs.ProperWith.{proper-held}
-use Rattle.table_replay.specs.Replay.{replayOf}
-use Rattle.table_replay.proofs.ReplayFaithful.{replay-faithful}
+use Rattle.table_given.specs.Replay.{replayOf}
+use Rattle.table_given.proofs.ReplayFaithful.{replay-faithful}
 use Rattle.list_version.specs.Identifier.{identifierOf}
 use Rattle.list_version.proofs.IdentifiersGrow.{NamesDiffer, members-grow, identifier-grows}
 use Rattle.list_version.proofs.IdentifiersGrow.{members-never-in-one, identifiers-never-in-one}

@@ -10,8 +10,8 @@ use Rattle.edit_record.specs.Answer1.{isCreate}
 use Rattle.edit_history.specs.EditsHeld.{creates}
 use Rattle.edit_sum.specs.SumOfEdits.{sumOver}
 use Rattle.table_drawing.specs.Tables.{Tables, heldBy}
-use Rattle.table_replay.specs.Replay.{replayOf, editsIn}
-use Rattle.table_replay.proofs.ReplayFaithful.{replay-faithful}
+use Rattle.table_given.specs.Replay.{replayOf, editsIn}
+use Rattle.table_given.proofs.ReplayFaithful.{replay-faithful}
 use Rattle.math_lists.specs.Rearranged.{Rearranged}
 use Rattle.demand_any_order.specs.Records.{recordsOf}
 use Rattle.demand_any_order.specs.Settled.{Causal, Settled}

@@ -18,8 +18,8 @@ use Rattle.table_drawing.specs.Tables.{Tables}
 use Rattle.edit_record.specs.RecordBytes.{noEdit}
 use Rattle.table_arrival.specs.Answers6and7.{answerTo}
 use Rattle.table_arrival.specs.Arrival.{acceptanceOf}
-use Rattle.table_replay.specs.Replay.{oneMore, replayOf, editsIn}
-use Rattle.table_replay.proofs.ReplayFaithful.{replay-faithful}
+use Rattle.table_given.specs.Replay.{oneMore, replayOf, editsIn}
+use Rattle.table_given.proofs.ReplayFaithful.{replay-faithful}
 use Rattle.demand_any_order.specs.Settled.{listAnswer}
 use Rattle.demand_any_order.proofs.ReplayAccepted.{next-answer, replay-holds}
 use Rattle.list_lines.specs.List.{linesOf}

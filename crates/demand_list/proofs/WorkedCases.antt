@@ -27,7 +27,7 @@ use Rattle.math_maximal.specs.Groups.{bit, fits, isMaximal, groups}
 use Rattle.table_arrival.specs.Answers6and7.{firstOf}
 use Rattle.group_true.specs.TrueGroups.{groupsOf, trueGroups}
 use Rattle.group_true.specs.Disputed.{isDisputed}
-use Rattle.table_replay.specs.Replay.{replayOf, editsIn}
+use Rattle.table_given.specs.Replay.{replayOf, editsIn}
 use Rattle.demand_any_order.specs.Settled.{fullOver, crowdedOver, listAnswer}
 use Rattle.list_text.specs.Decimal.{lastDigits, decimal}
 use Rattle.list_text.specs.Pieces.{newline, sitesWord, objectsWord, versionsWord, sumWord, wordDigits}

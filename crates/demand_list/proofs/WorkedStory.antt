@@ -21,7 +21,7 @@ use Rattle.edit_sum.specs.SumOfEdits.{wordsIn, wordsOver, sumOver}
 use Rattle.table_arrival.specs.Answers6and7.{firstOf}
 use Rattle.group_true.specs.TrueGroups.{groupsOf, trueGroups}
 use Rattle.group_true.specs.Disputed.{isDisputed}
-use Rattle.table_replay.specs.Replay.{editsIn}
+use Rattle.table_given.specs.Replay.{editsIn}
 use Rattle.demand_any_order.specs.Settled.{fullOver, crowdedOver, listAnswer}
 use Rattle.list_text.specs.Decimal.{lastDigits, decimal}
 use Rattle.list_text.specs.HeadAndRefusal.{headLine}

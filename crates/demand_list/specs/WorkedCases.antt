@@ -11,7 +11,7 @@ use Rattle.edit_record.specs.declared.Edit.{Edit}
 use Rattle.edit_record.specs.Layout.{mostSites, mostMembers, twoBytes, limitedKind, createKind, setKind}
 use Rattle.edit_form.specs.OldForm.{longForm, storedIn}
 use Rattle.edit_record.specs.RecordBytes.{encodeOf}
-use Rattle.table_replay.specs.Replay.{Replayed, replayOf}
+use Rattle.table_given.specs.Replay.{Replayed, replayOf}
 use Rattle.list_lines.specs.List.{linesOf}
 
 -- ---- what a case is

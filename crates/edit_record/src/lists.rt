@@ -2,24 +2,21 @@
 use super::AT_COUNT;
 use super::AT_KIND;
 use super::AT_MEMBERS;
-use super::Edit;
 use super::LIMITED;
 use super::MEMBER;
 use super::MEMBERS;
 use super::byte_at;
-use super::decode;
 use super::four_at;
 use super::name_in;
 use super::two_at;
 ghost use mathlib.Core.Path.{_≡_};
-ghost use Prim.Native.Nat.{_+_, _/_, _%_, _≤_};
-ghost use lib.ListN.{getD, drop};
-ghost use mathlib.Core.Bool.{cond, not, _&&_};
-ghost use lib.Dec.{eqb, leb, ltb};
-ghost use Rattle.math_lists.specs.NumbersBelow.{some};
+ghost use Prim.Native.Nat.{_≤_};
+ghost use lib.ListN.{drop};
+ghost use mathlib.Core.Bool.{cond, _&&_};
 ghost use Rattle.edit_record.specs.Layout.{countAt, membersAt, mostMembers};
 ghost use Rattle.edit_record.specs.RecordBytes.{two, four, firstFours, limits, decodeOf};
-ghost use Rattle.edit_record.specs.Answer1.{isLimited, nameIn, listUnfit};
+ghost use Rattle.edit_record.specs.declared.Edit.{Edit};
+ghost use Rattle.edit_record.specs.Answer1.{isLimited, listUnfit};
 
 // The count of a limited Set with its zero bytes, and 0 for every other kind.
 pub fn count_of(rec: &[u8]) -> u32
@@ -61,57 +58,37 @@ pub fn members_of(rec: &[u8]) -> [u32; MEMBERS]
     }
 }
 
-// Whether the zero byte of a member is none.
-fn is_zero_byte_wrong(members: [u32; MEMBERS]) -> bool
-    ensures { λ r. ⌜ r ≡ some mostMembers (λ i. not (eqb (getD members i 0 / 256 % 256) 0)) ⌝ }
+// Whether the list of k members, which are read where they stand, is wrong: a zero byte is none, or of two members that
+// follow each other the second has no larger name.
+fn are_members_wrong(rec: &[u8], k: usize) -> bool
+    requires { ⌜ k ≤ mostMembers ⌝ }
+    ensures { λ r.
+        ⌜ ((e : Edit) → e .count ≡ k → e .members ≡ firstFours mostMembers k (drop membersAt (now (rec .entry))) →
+        r ≡ listUnfit e) ⌝ }
 {
     let mut found = false;
+    let mut last: u32 = 0;
     let mut i: usize = 0;
-    while i < MEMBERS {
-        found = found | (members[i] / 256 % 256 != 0);
+    while i < k {
+        let m = four_at(rec, AT_MEMBERS + MEMBER * i);
+        let name = name_in(m);
+        found = found | (m / 256 % 256 != 0) | ((i != 0) & (name <= last));
+        last = name;
         i += 1;
     }
     found
 }
 
-// Whether of two members that follow each other below count the second has no larger name.
-fn is_order_wrong(count: usize, members: [u32; MEMBERS]) -> bool
-    requires { ⌜ count ≤ mostMembers ⌝ }
-    ensures { λ r. ⌜ r ≡ some mostMembers (λ i. ltb (i + 1) count
-        && leb (nameIn (getD members (i + 1) 0)) (nameIn (getD members i 0))) ⌝ }
-{
-    let mut found = false;
-    let mut i: usize = 0;
-    while i + 1 < count {
-        found = found | (name_in(members[i + 1]) <= name_in(members[i]));
-        i += 1;
-    }
-    found
-}
-
-// Whether the edit is a limited Set whose list is wrong: every other kind is done with at once.
-fn is_list_unfit(e: Edit) -> bool
-    ensures { λ r. ⌜ r ≡ (isLimited e && listUnfit e) ⌝ }
-{
-    if e.kind != LIMITED {
-        return false;
-    }
-    if MEMBERS < e.count as usize {
-        return true;
-    }
-    let members = e.members;
-    let zero = is_zero_byte_wrong(members);
-    let order = is_order_wrong(e.count as usize, members);
-    zero | order
-}
-
-// The same of the record at the front of rec, which is decoded only where it is a limited Set.
+// Whether the record at the front of rec is a limited Set whose list is wrong: every other kind is done with at once.
 pub fn is_list_unfit_in(rec: &[u8]) -> bool
     ensures { λ r. ⌜ r ≡ (isLimited (decodeOf (now (rec .entry))) && listUnfit (decodeOf (now (rec .entry)))) ⌝ }
 {
     if byte_at(rec, AT_KIND) != LIMITED {
         return false;
     }
-    let e = decode(rec);
-    is_list_unfit(e)
+    let count = four_at(rec, AT_COUNT) as usize;
+    if MEMBERS < count {
+        return true;
+    }
+    are_members_wrong(rec, count)
 }

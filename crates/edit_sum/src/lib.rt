@@ -45,8 +45,8 @@ fn sum_words(s: &[u8], n: usize) -> u32
     sum
 }
 
-// The words of the record at the front of rec added up, wrapped at the top. Most records are no limited Sets, and have a
-// number of words that is known beforehand.
+// The words of the record at the front of rec added up, wrapped at the top. Most records are no limited Sets, and have
+// a number of words that is known beforehand.
 pub fn sum_record(rec: &[u8]) -> u32
     requires { ⌜ spanOf (now rec) ≤ length (now rec) ⌝ }
     ensures { λ r. ⌜ r ≡ sumOf (recordWords (now (rec .entry))) (now (rec .entry)) ⌝ }

@@ -1,16 +1,16 @@
 -- Where the records held pass 1 to 5, an edit whose vector is that of one of them with one edit more of its own has
 -- seen nothing that is missing and nothing torn: whatever it has seen that one had seen, and that one passed. So 1 and
 -- 5 decide, but for its entries past the sites. Assumes no more sites than entries.
-use mathlib.Core.Path.{_≡_, refl, sym, _∙_}
+use mathlib.Core.Path.{_≡_, sym, _∙_}
 use mathlib.Core.Logic.{_⊎_, inl, inr}
 use mathlib.Core.Bool.{Bool, true, false, not, _&&_, _||_}
 use mathlib.Core.List.{List}
-use Prim.Native.Nat.{ℕ, _+_, _≤_, _<_}
+use Prim.Native.Nat.{ℕ, _+_, _-_, _≤_, _<_}
 use native.Mathlib.Omega.{arith}
 use native.Mathlib.Decide.{ℕ-discrete}
 use lib.Dec.{eqb, leb, ltb}
-use lib.ListN.{getD}
-use lib.Seq.{getD-set-other}
+use lib.ListN.{length, getD, take, drop, length-drop}
+use lib.Seq.{take-all, getD-set-other}
 use borrow.Author.Tests.{eqb-true, eqb-false, eq-eqb, leb-true, leb-false, lt-leb, le-ltb, ltb-true}
 use borrow.Author.Tests.{not-true}
 use Rattle.math_lists.proofs.Booleans.{decide, off, both, either, off-where, or-off}
@@ -28,6 +28,11 @@ use Rattle.edit_walk.specs.WalkForms.{placeOf, Indexed, tornBy, tornByNe
 use Rattle.edit_walk.specs.WalkForms.{sameBut, isNext, Passing}
 use Rattle.edit_walk.proofs.LatestDecides.{latestSeen, tornAt, tornByLatest, one-before, torn-same}
 use Rattle.edit_walk.proofs.NewsDecide.{seen-through, news-same}
+
+-- ---- what is lent of a table from a place on
+
+pub from-place : (rs : List ℕ) (from : ℕ) → take (length rs - from) (drop from rs) ≡ drop from rs
+from-place rs from = take-all (length rs - from) (drop from rs) (simp length-drop (omega arith))
 
 -- ---- the entries
 
@@ -67,7 +72,7 @@ module _
     (n : ℕ)
     (pass : recordsPass sites rs n ≡ true) where
   -- what the edit in place p had seen is held
-  seen-held : (p t : ℕ) → p < n → t < mostSites → getD (recordAt rs p .vector) t 0 ≤ countFrom t (editsOf rs n)
+  pub seen-held : (p t : ℕ) → p < n → t < mostSites → getD (recordAt rs p .vector) t 0 ≤ countFrom t (editsOf rs n)
   seen-held p t lp lt =
       let turn = passed-at sites rs n pass p lp .inTurn in
       elim (ℕ-discrete t (recordAt rs p .site .0)) [
@@ -126,15 +131,25 @@ module _
 
 -- ---- 1 and 5 decide
 
-pub next-decides :
+-- they do of an edit whose turn it is, if it is whole then
+pub turn-decides :
     (sites : ℕ) → sites ≤ mostSites → (rs : List ℕ) (n : ℕ) → recordsPass sites rs n ≡ true →
     (ps : List ℕ) → Indexed rs n ps → (counts : List ℕ) → Counted counts (editsOf rs n) →
-    (e : Edit) (x : ℕ) → x < n → isNext (recordAt rs x .vector) (e .vector) (e .site .0) ≡ true →
-    e .seq .0 ≡ getD counts (e .site .0) 0 + 1 →
+    (e : Edit) → e .seq .0 ≡ getD counts (e .site .0) 0 + 1 →
+    ((t : ℕ) → t < mostSites → (t ≡ e .site .0 → ⊥) → getD (e .vector) t 0 ≤ countFrom t (editsOf rs n)) →
+    (InTurn sites (editsOf rs n) e → isTorn (editsOf rs n) e ≡ false) →
     passesAgainst sites counts rs ps e ≡ not (unfit sites e || isAimed e && not (targetHeld counts rs ps e))
 unfolding passesAgainst aheadElsewhere
-next-decides sites few rs n pass ps ix counts counted e x lx grown next = go (decide (unfit sites e))
+turn-decides sites few rs n pass ps ix counts counted e next others whole = go (decide (unfit sites e))
   where
+    early : earlyAgainst counts e ≡ false
+    early =
+        or-off _ _ (le-ltb (getD counts (e .site .0) 0 + 1) (e .seq .0) (omega arith))
+        (some-off mostSites (λ t. not (eqb t (e .site .0)) && ltb (getD counts t 0) (getD (e .vector) t 0)) (λ t l.
+        off-where (not (eqb t (e .site .0))) (ltb (getD counts t 0) (getD (e .vector) t 0)) (λ y.
+        le-ltb (getD counts t 0) (getD (e .vector) t 0)
+        (rw (counted t l) (others t l (eqb-false t (e .site .0) (not-true (eqb t (e .site .0)) y)))))))
+
     go : (unfit sites e ≡ true) ⊎ (unfit sites e ≡ false) →
         not
         (unfit sites e
@@ -145,30 +160,28 @@ next-decides sites few rs n pass ps ix counts counted e x lx grown next = go (de
         ≡ not (unfit sites e || isAimed e && not (targetHeld counts rs ps e))
     go (inl u) = rw u
     go (inr u) =
-        let low : e .site .0 < mostSites = omega (arith, well-formed sites e u .site, few) in
-        let held = counted (e .site .0) low in
-        let others : (t : ℕ) → t < mostSites → (t ≡ e .site .0 → ⊥) → getD (e .vector) t 0 ≤ countFrom t (editsOf rs n)
-        = λ t l d.
-        rw (other (recordAt rs x .vector) (e .vector) (e .site .0) grown t l d)
-        (seen-held sites few rs n pass x t lx l) in
+        let held = counted (e .site .0) (omega (arith, well-formed sites e u .site, few)) in
         let turn : InTurn sites (editsOf rs n) e
         = record { formed = well-formed sites e u; next = rw (← held) next; others = others } in
-        let early : earlyAgainst counts e ≡ false = none-early turn in
         rw (
           u,
           lt-leb (e .seq .0) (getD counts (e .site .0) 0) (omega arith),
           early,
           news-same sites few rs n pass ps ix e turn,
-          next-whole sites few rs n pass e x lx grown ps ix turn,
+          whole turn,
         )
-      where
-        none-early : InTurn sites (editsOf rs n) e → earlyAgainst counts e ≡ false
-        none-early turn =
-            or-off _ _ (le-ltb (getD counts (e .site .0) 0 + 1) (e .seq .0) (omega arith))
-            (some-off mostSites (λ t. not (eqb t (e .site .0)) && ltb (getD counts t 0) (getD (e .vector) t 0)) (λ t l.
-            off-where (not (eqb t (e .site .0))) (ltb (getD counts t 0) (getD (e .vector) t 0)) (λ y.
-            le-ltb (getD counts t 0) (getD (e .vector) t 0)
-            (rw (counted t l) (turn .others t l (eqb-false t (e .site .0) (not-true (eqb t (e .site .0)) y)))))))
+
+pub next-decides :
+    (sites : ℕ) → sites ≤ mostSites → (rs : List ℕ) (n : ℕ) → recordsPass sites rs n ≡ true →
+    (ps : List ℕ) → Indexed rs n ps → (counts : List ℕ) → Counted counts (editsOf rs n) →
+    (e : Edit) (x : ℕ) → x < n → isNext (recordAt rs x .vector) (e .vector) (e .site .0) ≡ true →
+    e .seq .0 ≡ getD counts (e .site .0) 0 + 1 →
+    passesAgainst sites counts rs ps e ≡ not (unfit sites e || isAimed e && not (targetHeld counts rs ps e))
+next-decides sites few rs n pass ps ix counts counted e x lx grown next =
+    turn-decides sites few rs n pass ps ix counts counted e next
+    (λ t l d. rw (other (recordAt rs x .vector) (e .vector) (e .site .0) grown t l d)
+    (seen-held sites few rs n pass x t lx l))
+    (next-whole sites few rs n pass e x lx grown ps ix)
 
 -- what says so of a record with no entry past the sites says it of one that follows
 pub next-tells :

@@ -7,7 +7,7 @@ use mathlib.Core.List.{List}
 use Prim.Native.Nat.{ℕ, suc, _+_, _≤_, _<_}
 use native.Mathlib.Omega.{arith}
 use native.Mathlib.Decide.{ℕ-discrete}
-use lib.ListN.{length, getD, set, replicate, length-set}
+use lib.ListN.{getD, set, replicate, length-set}
 use lib.Seq.{getD-set-same, getD-set-other}
 use Rattle.math_lists.specs.NumbersBelow.{all}
 use Rattle.math_lists.proofs.Booleans.{clash, and-on}
@@ -18,23 +18,22 @@ use Rattle.edit_history.specs.EditsHeld.{recordAt, editsOf}
 use Rattle.edit_history.specs.Answers2to5.{passes, recordsPass}
 use Rattle.edit_history.specs.SurveyForms.{bump, Counted}
 use Rattle.edit_walk.specs.WalkForms.{placesLength, slotOf, placeOf, Indexed, SameStarts, countIn, Spaced}
-use Rattle.edit_walk.specs.WalkForms.{passesAgainst, Roomy}
+use Rattle.edit_walk.specs.WalkForms.{passesAgainst, Roomy, Walking}
 use Rattle.edit_history.proofs.EditsHeld.{edits-length, count-grows}
 use Rattle.edit_history.proofs.ByCounts.{counted-none, counted-few, counted-more}
 use Rattle.edit_history.proofs.RecordsPassed.{formed-at, seq-held, seq-later}
 use Rattle.edit_walk.proofs.NewsDecide.{news-decide}
-use Rattle.edit_walk.proofs.RoomInIndex.{spaced-same, slot-within, starts-stay, put-here, put-elsewhere, counts-few}
-
-pub record Walking (sites : ℕ) (room : ℕ → ℕ) (rs : List ℕ) (n : ℕ) (held ps : List ℕ) : Type 0 where
-  pub pass : recordsPass sites rs n ≡ true
-  pub wide : length held ≡ mostSites
-  pub spaced : Spaced room ps
-  pub fits : Roomy room rs n
-  pub counted : Counted held (editsOf rs n)
-  pub indexed : Indexed rs n ps
+use Rattle.edit_walk.proofs.RoomInIndex.{spaced-same, slot-within, starts-stay, put-here, put-elsewhere}
+use Rattle.edit_walk.proofs.RoomInIndex.{counts-few}
 
 no-edits : (rs : List ℕ) (s : ℕ) → countIn rs 0 s ≤ 0
-no-edits rs s = omega (arith, counts-few (editsOf rs 0) (suc s), sum-past s (suc s) (countIn rs 0) (omega arith), edits-length rs 0)
+no-edits rs s =
+    omega (
+      arith,
+      counts-few (editsOf rs 0) (suc s),
+      sum-past s (suc s) (countIn rs 0) (omega arith),
+      edits-length rs 0,
+    )
 
 pub walking-starts :
     (sites : ℕ) (room : ℕ → ℕ) (rs ps : List ℕ) → Spaced room ps →
@@ -140,7 +139,7 @@ module _
   counted-next = unfold editsOf in counted-more held (editsOf rs n) (w .wide) (w .counted) (recordAt rs n)
 
   module _ (next : passesAgainst sites held rs ps (recordAt rs n) ≡ true) where
-    pass-more : recordsPass sites rs (suc n) ≡ true
+    pub pass-more : recordsPass sites rs (suc n) ≡ true
     unfolding recordsPass all
     pass-more =
         and-on (recordsPass sites rs n) (passes sites (editsOf rs n) (recordAt rs n)) (w .pass) (sym decided ∙ next)

@@ -3,7 +3,7 @@
 use Prim.Native.Nat.{ℕ, _+_, _-_, _≤_, _<_}
 use mathlib.Core.Path.{_≡_}
 use mathlib.Core.List.{List}
-use mathlib.Core.Bool.{Bool, true, false, not, _&&_, _||_, cond}
+use mathlib.Core.Bool.{Bool, true, not, _&&_, _||_, cond}
 use lib.ListN.{getD, set, length, replicate}
 use lib.Dec.{eqb, leb, ltb}
 use Rattle.math_lists.specs.NumbersBelow.{all, some}
@@ -11,7 +11,6 @@ use Rattle.edit_record.specs.declared.Site.{Site}
 use Rattle.edit_record.specs.declared.Edit.{Edit}
 use Rattle.edit_record.specs.Layout.{mostSites}
 use Rattle.edit_record.specs.Answer1.{isCreate, isAimed, entryOf, unfit}
-use Rattle.edit_walk.specs.declared.Walked.{Walked}
 use Rattle.edit_history.specs.EditsHeld.{mostRecords, recordAt, editsOf, countFrom}
 use Rattle.edit_history.specs.Answers2to5.{largerSomewhere, recordsPass}
 use Rattle.edit_history.specs.SurveyForms.{Counted, repeatedAgainst, earlyAgainst}
@@ -106,6 +105,10 @@ sameBut v w s = all mostSites (λ t. eqb t s || eqb (getD v t 0) (getD w t 0))
 unfoldable pub isNext : List ℕ → List ℕ → ℕ → Bool
 isNext v w s = eqb (getD w s 0) (getD v s 0 + 1) && sameBut v w s
 
+-- e is the next edit of its site after those that are counted, and has seen all of them
+unfoldable pub seesAll : List ℕ → Edit → Bool
+seesAll counts e = eqb (e .seq .0) (getD counts (e .site .0) 0 + 1) && sameBut counts (e .vector) (e .site .0)
+
 -- the first n records pass, and the counts and the index are theirs
 pub record Passing (sites : ℕ) (counts rs : List ℕ) (n : ℕ) (ps : List ℕ) : Type 0 where
   pub few : sites ≤ mostSites
@@ -119,11 +122,21 @@ pub record Passing (sites : ℕ) (counts rs : List ℕ) (n : ℕ) (ps : List ℕ
 abbrev pub Roomy : (ℕ → ℕ) → List ℕ → ℕ → Type 0
 Roomy room rs n = (s : ℕ) → s < mostSites → countIn rs n s ≤ room s
 
--- whether they pass and there is room for them, and then the counts and the index that they give
-pub record WalkedOver (sites : ℕ) (room : ℕ → ℕ) (rs : List ℕ) (n : ℕ) (w : Walked) (ps : List ℕ) : Type 0 where
-  pub passed : w .ok ≡ true → recordsPass sites rs n ≡ true
-  pub refused : w .ok ≡ false → recordsPass sites rs n ≡ true → Roomy room rs n → ⊥
-  pub wide : length (w .held) ≡ mostSites
-  pub entries : length ps ≡ placesLength
-  pub counted : w .ok ≡ true → Counted (w .held) (editsOf rs n)
-  pub indexed : w .ok ≡ true → Indexed rs n ps
+-- they pass, the index has room for them, and the counts and the index are theirs
+pub record Walking (sites : ℕ) (room : ℕ → ℕ) (rs : List ℕ) (n : ℕ) (held ps : List ℕ) : Type 0 where
+  pub pass : recordsPass sites rs n ≡ true
+  pub wide : length held ≡ mostSites
+  pub spaced : Spaced room ps
+  pub fits : Roomy room rs n
+  pub counted : Counted held (editsOf rs n)
+  pub indexed : Indexed rs n ps
+
+-- the record after them passes as well, and there is room for its edit
+abbrev pub GoesOn : ℕ → (ℕ → ℕ) → List ℕ → ℕ → List ℕ → List ℕ → Type 0
+GoesOn sites room rs n held ps =
+    (passesAgainst sites held rs ps (recordAt rs n) ≡ true)
+    × (getD held (recordAt rs n .site .0) 0 < room (recordAt rs n .site .0))
+
+-- no walk goes past them
+abbrev pub Stops : ℕ → (ℕ → ℕ) → List ℕ → ℕ → Type 0
+Stops sites room rs n = (m : ℕ) → n < m → recordsPass sites rs m ≡ true → Roomy room rs m → ⊥

@@ -1,6 +1,7 @@
-// One walk that tests the records of a table: whether each passes answers 1 to 5 of document 01 after those before it,
-// with the counts of the edits and the index of their places that it keeps.
+// The walk that tests the records of a table: whether each passes answers 1 to 5 of document 01 after those before it,
+// with the counts of the edits and the index of their places that it keeps. The loop is its caller's.
 pub mod next;
+pub mod whole;
 
 use edit_history::RECORDS;
 use edit_record::AT_KIND;
@@ -14,7 +15,8 @@ use edit_record::SITES;
 use edit_record::Seq;
 use edit_record::Site;
 ghost use mathlib.Core.Path.{_≡_};
-ghost use Prim.Native.Nat.{_+_, _-_, _*_, _≤_, _<_};
+ghost use mathlib.Core.Bool.{true, false};
+ghost use Prim.Native.Nat.{ℕ, _+_, _-_, _*_, _≤_, _<_};
 ghost use lib.ListN.{length, getD};
 ghost use Rattle.math_lists.specs.NumbersBelow.{sum};
 ghost use Rattle.edit_record.specs.Layout.{mostSites, twoBytes, recordLength, placeLength};
@@ -23,17 +25,11 @@ ghost use Rattle.edit_history.specs.EditsHeld.{mostRecords, recordAt, editsOf};
 ghost use Rattle.edit_history.specs.SurveyForms.{Counted};
 ghost use Rattle.edit_walk.specs.WalkForms.{placesLength, slotOf, placeOf, countIn, Spaced};
 ghost use Rattle.edit_walk.specs.WalkForms.{seenBefore, vectorBy, tornBy, tornByNews};
-ghost use Rattle.edit_walk.specs.WalkForms.{targetHeld, inTurnAgainst, passesAgainst, WalkedOver};
+ghost use Rattle.edit_walk.specs.WalkForms.{targetHeld, inTurnAgainst, passesAgainst, Walking, GoesOn, Stops};
 
 // The entries of an index of places: a start for each site, then the places of the edits, site after site. The edit s.q
 // has its place q entries past the start of s.
 pub const PLACES: usize = SITES + RECORDS + 1;
-
-// Whether the records passed, and how many edits of each site they are.
-pub struct Walked {
-    pub ok: bool,
-    pub held: [u16; SITES],
-}
 
 // How many of the first n records name each site.
 fn count_sites(recs: &[u8], n: usize) -> [u16; SITES]
@@ -122,16 +118,13 @@ fn one_less(q: u16) -> u16
     if 0 < q { q - 1 } else { 0 }
 }
 
-// The latest edit of each site that an edit of site s with the vector v has seen, itself left out; 0 is none.
-fn seen_before(v: [u16; SITES], s: Site) -> [u16; SITES]
-    ensures { λ r. ⌜ r ≡ seenBefore v s ⌝ }
+// The latest edit of site t that an edit of site s with the vector v has seen, itself left out; 0 is none. It is found
+// where it is asked for: a vector with one entry written anew is slow to be read whole.
+fn latest_seen(v: [u16; SITES], s: Site, t: Site) -> u16
+    ensures { λ r. ⌜ r ≡ getD (seenBefore v s) (t .0) 0 ⌝ }
 {
-    let mut w = v;
-    let i = s.0 as usize;
-    if i < SITES {
-        w[i] = one_less(w[i]);
-    }
-    w
+    let q = edit_record::entry(v, t);
+    if t.0 == s.0 { one_less(q.0) } else { q.0 }
 }
 
 // The vector of the edit s.q by the index; zeros where q is 0.
@@ -162,13 +155,12 @@ fn is_torn_at(recs: &[u8], places: &[u16], w: [u16; SITES], s: Site, q: Seq) -> 
 pub fn is_torn_by_news(recs: &[u8], places: &[u16], w: [u16; SITES], s: Site) -> bool
     ensures { λ r. ⌜ r ≡ tornByNews (now (recs .entry)) (now (places .entry)) w s ⌝ }
 {
-    let seen = seen_before(w, s);
-    let last = edit_record::entry(seen, s);
-    let was = vector_by(recs, places, s, last);
+    let last = latest_seen(w, s, s);
+    let was = vector_by(recs, places, s, Seq(last));
     let mut found = edit_history::is_larger_somewhere(was, w);
     let mut t: u8 = 0;
     while (t as usize) < SITES {
-        let q = seen[t as usize];
+        let q = latest_seen(w, s, Site(t));
         if q != was[t as usize] {
             found = found | is_torn_at(recs, places, w, Site(t), Seq(q));
         }
@@ -241,32 +233,42 @@ fn is_passing_at(sites: u8, held: &[u16], recs: &[u8], places: &[u16], p: usize)
     is_passing(sites, held, recs, places, &recs[at..])
 }
 
-// The first n records in turn, where the index has room for so many edits of each site: whether each passes 1 to 5 after
-// those before it and has room, and then their counts and index.
-pub fn walk(sites: u8, room: [u16; SITES], recs: &[u8], n: usize, places: &mut [u16]) -> Walked
+// Whether the walk over the first i records goes on: none of 1 to 5 is given to the record in place i, and the index
+// has room for its edit.
+pub fn goes_on(sites: u8, room: &[u16], held: &[u16], recs: &[u8], places: &[u16], i: usize) -> bool
     requires { ⌜ (sites ≤ mostSites)
-        × (sum mostSites (λ s. getD room s 0) ≤ mostRecords)
-        × (n ≤ mostRecords)
-        × (n * placeLength ≤ length (now recs))
-        × (length (now places) ≡ placesLength) ⌝ }
-    ensures { λ r. ⌜ WalkedOver sites (λ s. getD room s 0) (now (recs .entry)) n r (now (places .exit)) ⌝ }
+        × (length (now room) ≡ mostSites)
+        × (i < mostRecords)
+        × (i * placeLength + placeLength ≤ length (now recs))
+        × Walking sites (λ s. getD (now room) s 0) (now recs) i (now held) (now places) ⌝ }
+    ensures { λ r. ⌜ (r ≡ true →
+        GoesOn sites (λ s. getD (now (room .entry)) s 0) (now (recs .entry)) i (now (held .entry))
+        (now (places .entry)))
+        × (r ≡ false → Stops sites (λ s. getD (now (room .entry)) s 0) (now (recs .entry)) i) ⌝ }
 {
-    space_places(room, places);
-    let mut held = [0u16; SITES];
-    let mut i: usize = 0;
-    while i < n {
-        if !next::is_passing_next(sites, &held, recs, places, i) {
-            return Walked { ok: false, held };
-        }
-        let own = edit_record::byte_at(recs, i * PLACE + AT_SITE) as usize;
-        let have = held[own];
-        if room[own] <= have {
-            return Walked { ok: false, held };
-        }
-        let at = spot(recs, places, i);
-        places[at] = i as u16;
-        held[own] = have + 1;
-        i += 1;
+    if !next::is_passing_next(sites, held, recs, places, i) {
+        return false;
     }
-    Walked { ok: true, held }
+    let own = recs[i * PLACE + AT_SITE] as usize;
+    held[own] < room[own]
+}
+
+// Takes the record in place i, with which the walk goes on, into the counts and the index.
+pub fn put_next(recs: &[u8], i: usize, held: &mut [u16], places: &mut [u16])
+    requires { ⌜ (i < mostRecords)
+        × (i * placeLength + placeLength ≤ length (now recs))
+        × ((sites : ℕ) × (room : ℕ → ℕ) × (sites ≤ mostSites)
+        × Walking sites room (now recs) i (now held) (now places)
+        × GoesOn sites room (now recs) i (now held) (now places)) ⌝ }
+    ensures { λ r. ⌜ ((sites : ℕ) (room : ℕ → ℕ) → sites ≤ mostSites →
+        Walking sites room (now (recs .entry)) i (now (held .entry)) (now (places .entry)) →
+        GoesOn sites room (now (recs .entry)) i (now (held .entry)) (now (places .entry)) →
+        Walking sites room (now (recs .entry)) (i + 1) (now (held .exit)) (now (places .exit))) ⌝ }
+{
+    let at = i * PLACE;
+    let own = recs[at + AT_SITE] as usize;
+    let start = places[own];
+    let seq = edit_record::pair_at(recs, at + AT_SEQ);
+    places[start as usize + seq as usize] = i as u16;
+    held[own] = held[own] + 1;
 }

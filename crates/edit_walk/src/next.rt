@@ -111,6 +111,48 @@ fn is_next_at(recs: &[u8], p: usize, r: usize, rec: &[u8]) -> bool
     is_next_to(&recs[from..], rec, rec[AT_SITE])
 }
 
+// Whether the record in place p has in every entry but that of the site s what the record in place r has.
+fn is_same_in(recs: &[u8], r: usize, p: usize, s: u8) -> bool
+    requires { ⌜ (r < p) × (p < mostRecords) × (p * placeLength + placeLength ≤ length (now recs)) ⌝ }
+    ensures { λ b. ⌜ b ≡ sameBut (recordAt (now (recs .entry)) r .vector) (recordAt (now (recs .entry)) p .vector) s ⌝ }
+{
+    let own = s as usize;
+    let from = r * PLACE;
+    let to = p * PLACE;
+    let mut same = true;
+    let mut t: usize = 0;
+    while t < SITES {
+        let was = edit_record::pair_at(recs, from + AT_VECTOR + 2 * t);
+        let is = edit_record::pair_at(recs, to + AT_VECTOR + 2 * t);
+        same = same & ((t == own) | (was == is));
+        t += 1;
+    }
+    same
+}
+
+// What `is_next_at` asks, of the record in place p. The walk asks it of each record, and has it to itself: so it is
+// taken in, and what was read of a record need not be read again.
+fn is_next_in(recs: &[u8], r: usize, p: usize) -> bool
+    requires { ⌜ (p < mostRecords) × (p * placeLength + placeLength ≤ length (now recs)) ⌝ }
+    ensures { λ b. ⌜ (b ≡ true → (r < p)
+        × (isNext (recordAt (now (recs .entry)) r .vector) (recordAt (now (recs .entry)) p .vector)
+        (recordAt (now (recs .entry)) p .site .0) ≡ true)) ⌝ }
+{
+    if p <= r {
+        return false;
+    }
+    let own = recs[p * PLACE + AT_SITE];
+    if SITES <= own as usize {
+        return false;
+    }
+    let had = edit_record::pair_at(recs, r * PLACE + AT_VECTOR + 2 * own as usize);
+    let has = edit_record::pair_at(recs, p * PLACE + AT_VECTOR + 2 * own as usize);
+    if has as u32 != had as u32 + 1 {
+        return false;
+    }
+    is_same_in(recs, r, p, own)
+}
+
 // Whether answer 4 is given to rec, to which none of 1 to 3 is given and which is there whole, where the first p
 // records pass and the counts and the index are theirs.
 pub fn is_torn_next(held: &[u16], recs: &[u8], places: &[u16], p: usize, rec: &[u8]) -> bool
@@ -120,10 +162,6 @@ pub fn is_torn_next(held: &[u16], recs: &[u8], places: &[u16], p: usize, rec: &[
         × (inTurnAgainst sites (now held) (decodeOf (now rec)) ≡ true)) ⌝ }
     ensures { λ r. ⌜ r ≡ isTorn (editsOf (now (recs .entry)) p) (decodeOf (now (rec .entry))) ⌝ }
 {
-    let r = likely_before(held, recs, places, p, rec);
-    if is_next_at(recs, p, r, rec) {
-        return false;
-    }
     let v = edit_record::vector_of(rec);
     is_torn_by_news(recs, places, v, Site(rec[AT_SITE]))
 }
@@ -149,7 +187,7 @@ fn is_set_unfit(n: u8, rec: &[u8]) -> bool
 
 // Whether none of 1 to 5 is given to a record that is there whole and follows one of those before it, by the counts
 // and the index of these.
-fn is_fit_and_aimed(sites: u8, held: &[u16], recs: &[u8], places: &[u16], rec: &[u8]) -> bool
+pub fn is_fit_and_aimed(sites: u8, held: &[u16], recs: &[u8], places: &[u16], rec: &[u8]) -> bool
     requires { ⌜ recordLength ≤ length (now rec) ⌝ }
     ensures { λ r.
         ⌜ ((leb sites (decodeOf (now (rec .entry)) .site .0) ≡ false →
@@ -200,7 +238,7 @@ pub fn is_passing_next(sites: u8, held: &[u16], recs: &[u8], places: &[u16], p: 
     let at = p * PLACE;
     let rec = &recs[at..];
     let r = likely_before(held, recs, places, p, rec);
-    if is_next_at(recs, p, r, rec) {
+    if is_next_in(recs, r, p) {
         if rec[AT_KIND] == SET {
             return is_set_fit_and_aimed(sites, held, recs, places, rec);
         }

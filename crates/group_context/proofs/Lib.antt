@@ -6,4 +6,6 @@ pub mod NextByRows
 pub mod ConflictRows
 pub mod RowsOfArrival
 pub mod NamedByRows
-pub mod FoesOfMembers
+pub mod MembersGone
+pub mod ContextByListed
+pub mod ListedByRows

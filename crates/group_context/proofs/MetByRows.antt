@@ -1,24 +1,21 @@
 -- Where the numbers tell the conflicts of the first n Sets of a box, those whose number has a member of a set are the
--- foes of that set, and its members among them are the disputed ones. Assumes nothing.
+-- foes of that set. Assumes nothing.
 use mathlib.Core.Path.{_≡_, sym, _∙_, ap}
 use mathlib.Core.Bool.{Bool, not, _&&_}
 use mathlib.Core.List.{List}
 use Prim.Native.Nat.{ℕ, _^_, _<_}
-use native.Mathlib.Omega.{arith}
-use lib.Bits.{bitAnd, and-le-l}
 use lib.ListN.{getD}
-use borrow.Author.Tests.{lt-ltb}
 use Rattle.math_lists.specs.NumbersBelow.{some, mask}
 use Rattle.math_lists.proofs.NumbersBelow.{some-same, mask-below, mask-same}
-use Rattle.math_maximal.specs.Groups.{bit, below}
+use Rattle.math_maximal.specs.Groups.{bit}
 use Rattle.math_maximal.specs.Step.{compatible}
-use Rattle.math_maximal.proofs.Bits.{bit-and, some-common}
+use Rattle.math_maximal.proofs.Bits.{some-common}
 use Rattle.math_maximal.proofs.Masks.{mask-bit}
-use Rattle.math_contexts.specs.Box.{Box, disputed}
+use Rattle.math_contexts.specs.Box.{Box}
 use Rattle.math_contexts.specs.MaskForms.{foes}
-use Rattle.group_context.specs.RowForms.{meeting, disputedIn}
+use Rattle.group_context.specs.RowForms.{meeting}
 use Rattle.group_context.specs.RowsOfBox.{PlainRows}
-use Rattle.group_context.proofs.MaskFromBits.{is-mask, own-mask}
+use Rattle.group_context.proofs.MaskFromBits.{own-mask}
 
 pub bit-meeting :
     (rows : List ℕ) (n m j : ℕ) → j < n → bit (meeting rows n m) j ≡ not (compatible m (getD rows j 0))
@@ -31,7 +28,7 @@ meeting-below rows n m = mask-below n (λ j. not (compatible m (getD rows j 0)))
 
 module _ (b : Box) (n : ℕ) (plains : List ℕ) (rows : PlainRows b n plains) (P : ℕ → Bool) where
   -- j conflicts with a member of P
-  meets : (j : ℕ) → j < n → not (compatible (mask n P) (getD plains j 0)) ≡ some n (λ k. P k && b .plain j k)
+  pub meets : (j : ℕ) → j < n → not (compatible (mask n P) (getD plains j 0)) ≡ some n (λ k. P k && b .plain j k)
   meets j l =
       sym (some-common n (mask n P) (getD plains j 0) (mask-below n P))
       ∙ some-same n (λ k. bit (mask n P) k && bit (getD plains j 0) k) (λ k. P k && b .plain j k)
@@ -44,15 +41,6 @@ module _ (b : Box) (n : ℕ) (plains : List ℕ) (rows : PlainRows b n plains) (
       (λ j l. meets j l
       ∙ some-same n (λ k. P k && b .plain j k) (λ k. P k && b .plain k j)
       (λ k m. ap (λ (t : Bool). P k && t) (rows .symmetric j k l m)))
-
-  pub disputed-met : disputedIn plains n (mask n P) ≡ mask n (disputed b n P)
-  unfolding disputed below
-  disputed-met =
-      let v = mask n P in
-      is-mask n (bitAnd v (meeting plains n v)) (disputed b n P)
-      (omega (arith, and-le-l v (meeting plains n v), mask-below n P))
-      (λ j l. bit-and v (meeting plains n v) j
-      ∙ rw (mask-bit n P j l, bit-meeting plains n v j l, meets j l, lt-ltb j n l))
 
 -- the set given by its number
 pub foes-of :

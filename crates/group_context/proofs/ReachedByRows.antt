@@ -1,24 +1,21 @@
 -- Where cs has the contexts of the first n Sets of a box, the members of a set and those that have one in their
 -- context are those whose reach has one. Assumes nothing.
 use mathlib.Core.Path.{_≡_, sym, _∙_, ap}
-use mathlib.Core.Bool.{Bool, not, _&&_, Bool·not-not}
+use mathlib.Core.Bool.{Bool, not}
 use mathlib.Core.List.{List}
-use Prim.Native.Nat.{ℕ, _-_, _^_, _<_}
-use native.Mathlib.Omega.{arith}
-use lib.Bits.{bitAnd, or-lt}
+use Prim.Native.Nat.{ℕ, _^_, _<_}
+use lib.Bits.{or-lt}
 use lib.ListN.{getD, take}
 use lib.Seq.{getD-take}
 use Rattle.math_lists.specs.NumbersBelow.{mask}
 use Rattle.math_maximal.specs.Groups.{bit}
 use Rattle.math_maximal.specs.Step.{compatible}
-use Rattle.math_maximal.proofs.Bits.{bit-or, bit-minus}
-use Rattle.math_lists.proofs.NumbersBelow.{mask-below}
-use Rattle.math_maximal.proofs.Masks.{mask-bit}
+use Rattle.math_maximal.proofs.Bits.{bit-or}
 use Rattle.math_contexts.specs.Box.{Box}
 use Rattle.math_contexts.specs.Contexts.{contexts}
 use Rattle.math_contexts.specs.MaskForms.{reachMask}
 use Rattle.math_contexts.proofs.ContextMembers.{contexts-hold, context-below}
-use Rattle.group_context.specs.RowForms.{meeting, reaching, apart}
+use Rattle.group_context.specs.RowForms.{meeting, reaching}
 use Rattle.group_context.proofs.MaskFromBits.{is-mask, compatible-with}
 use Rattle.group_context.proofs.MetByRows.{bit-meeting, meeting-below}
 
@@ -43,10 +40,3 @@ module _ (b : Box) (n : ℕ) (cs : List ℕ) (before : take n cs ≡ contexts b 
   reaching-is =
       is-mask n (reaching cs n u) (λ j. not (clear j))
       (or-lt n u (meeting cs n u) small (meeting-below cs n u)) reaches
-
-  pub apart-is : (S : ℕ → Bool) → apart cs n (mask n S) u ≡ mask n (λ j. S j && clear j)
-  apart-is S =
-      let v = mask n S in
-      is-mask n (v - bitAnd v (reaching cs n u)) (λ j. S j && clear j) (omega (arith, mask-below n S))
-      (λ j l. bit-minus v (reaching cs n u) j
-      ∙ rw (mask-bit n S j l, reaches j l) (ap (λ (t : Bool). S j && t) (Bool·not-not (clear j))))

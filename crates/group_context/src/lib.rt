@@ -4,25 +4,19 @@
 // its own numbers: bit j of `seen` says that its author had seen j, bit j of `named` that it lists j, and `limited`
 // that it is of kind 3. It may come after as many Sets as an object has at most.
 ghost use mathlib.Core.Path.{_≡_};
-ghost use mathlib.Core.Bool.{Bool, true, _&&_};
-ghost use Prim.Native.Nat.{ℕ, _≤_, _<_};
+ghost use mathlib.Core.Bool.{Bool, _&&_};
+ghost use mathlib.Core.List.{List};
+ghost use Prim.Native.Nat.{ℕ, suc, _≤_, _<_};
 ghost use lib.ListN.{length, take, getD};
 ghost use Rattle.math_lists.specs.NumbersBelow.{some, mask};
 ghost use Rattle.math_maximal.specs.Groups.{bit};
 ghost use Rattle.math_maximal.specs.Step.{compatible};
-ghost use Rattle.math_contexts.specs.Box.{Box};
+ghost use Rattle.math_contexts.specs.Box.{Box, Lawful};
 ghost use Rattle.math_contexts.specs.Contexts.{contexts, context, conflicts};
 ghost use Rattle.math_contexts.specs.MaskForms.{maskConflicts, maskNames};
 ghost use Rattle.group_step.specs.GroupRows.{mostSets};
-ghost use Rattle.group_context.specs.RowForms.{
-  meeting,
-  disputedIn,
-  reaching,
-  apart,
-  conflictsOf,
-  namesOf,
-};
-ghost use Rattle.group_context.specs.RowsOfBox.{PlainRows, NextOf};
+ghost use Rattle.group_context.specs.RowForms.{meeting, reaching, conflictsOf};
+ghost use Rattle.group_context.specs.RowsOfBox.{PlainRows, NextOf, whatIsLeft};
 
 // Those of the first n Sets whose number has a member of m.
 fn meeting_rows(rows: &[u64], n: usize, m: u64) -> u64
@@ -40,41 +34,12 @@ fn meeting_rows(rows: &[u64], n: usize, m: u64) -> u64
     found
 }
 
-// The members of v, all of the first n Sets, that conflict with a member of v.
-fn disputed_in(plain: &[u64], n: usize, v: u64) -> u64
-    requires { ⌜ (n ≤ mostSets) × (n ≤ length (now plain)) ⌝ }
-    ensures { λ r. ⌜ r ≡ disputedIn (now (plain .entry)) n v ⌝ }
-{
-    v & meeting_rows(plain, n, v)
-}
-
 // The members of m, and those of the first n Sets that have one in their context.
 fn reaching_any(ctx: &[u64], n: usize, m: u64) -> u64
     requires { ⌜ (n ≤ mostSets) × (n ≤ length (now ctx)) ⌝ }
     ensures { λ r. ⌜ r ≡ reaching (now (ctx .entry)) n m ⌝ }
 {
     m | meeting_rows(ctx, n, m)
-}
-
-// The members of v from which no member of m is reached.
-fn apart_from(ctx: &[u64], n: usize, v: u64, m: u64) -> u64
-    requires { ⌜ (n ≤ mostSets) × (n ≤ length (now ctx)) ⌝ }
-    ensures { λ r. ⌜ r ≡ apart (now (ctx .entry)) n v m ⌝ }
-{
-    group_step::without(v, reaching_any(ctx, n, m))
-}
-
-// The context of Set n, from the contexts of those before it.
-pub fn context_of(plain: &[u64], ctx: &[u64], n: usize, seen: u64, named: u64, limited: bool) -> u64
-    requires { ⌜ (n ≤ mostSets) × (n ≤ length (now plain)) × (n ≤ length (now ctx)) ⌝ }
-    ensures { λ r.
-        ⌜ ((b : Box) → NextOf b n (now (plain .entry)) (now (ctx .entry)) seen named limited → r ≡ context b n) ⌝ }
-{
-    if !limited {
-        return 0;
-    }
-    let d = disputed_in(plain, n, seen);
-    apart_from(ctx, n, seen, group_step::without(d, named))
 }
 
 // Those of the first n Sets that reach one of `row`, or one that a member of c conflicts with.
@@ -121,65 +86,67 @@ fn row_at(rows: &[u64], j: usize) -> u64
     if j < rows.len() { rows[j] } else { 0 }
 }
 
-// The Sets that conflict with some of others by document 01's rule, and whether one of the others conflicts with none of
-// those that were seen.
-struct Met {
-    foes: u64,
-    unmet: bool,
+// The members of v whose number has no member of m: only the numbers of these are read.
+fn clear_of(rows: &[u64], v: u64, m: u64) -> u64
+    ensures { λ r. ⌜ (r ≤ v)
+        × ((j : ℕ) → bit r j ≡ (bit v j && compatible m (getD (now (rows .entry)) j 0))) ⌝ }
+{
+    let mut kept = v;
+    let mut left = v;
+    while left != 0 {
+        let j = u64::trailing_zeros(left) as usize;
+        let row = row_at(rows, j);
+        let own = group_step::only(j);
+        if row & m != 0 {
+            kept = group_step::without(kept, own);
+        }
+        left = group_step::without(left, own);
+    }
+    kept
 }
 
-// What the rows of the members of m tell, where those of v were seen: only these rows are read.
-fn foes_of(plain: &[u64], m: u64, v: u64) -> Met
+// The Sets that conflict with a member of m by document 01's rule: only the rows of these are read.
+fn foes_of(plain: &[u64], m: u64) -> u64
     ensures { λ r.
-        ⌜ ((y : ℕ) → bit (r .foes) y ≡ some mostSets (λ j. bit m j && bit (getD (now (plain .entry)) j 0) y))
-        × (r .unmet ≡ some mostSets (λ j. bit m j && compatible v (getD (now (plain .entry)) j 0))) ⌝ }
+        ⌜ ((y : ℕ) → bit r y ≡ some mostSets (λ j. bit m j && bit (getD (now (plain .entry)) j 0) y)) ⌝ }
 {
     let mut foes: u64 = 0;
-    let mut unmet = false;
     let mut left = m;
     while left != 0 {
         let j = u64::trailing_zeros(left) as usize;
         let row = row_at(plain, j);
         foes = foes | row;
-        unmet = unmet | (row & v == 0);
         let own = group_step::only(j);
         left = group_step::without(left, own);
     }
-    Met { foes, unmet }
+    foes
 }
 
-// Whether Set n, whose context is c, lists the disputed members of c, and c is all that it has seen from which nothing
-// is reached that conflicts with what it lists. No member of c is disputed but those that it lists, so that it is asked
-// whether these are in c and disputed.
-fn names_by(plain: &[u64], ctx: &[u64], n: usize, seen: u64, named: u64, c: u64) -> bool
-    requires { ⌜ (n ≤ mostSets) × (n ≤ length (now plain)) × (n ≤ length (now ctx)) ⌝ }
+// What a limited Set has seen that reaches no foe of what it lists: its context, if what it lists is a version of what
+// it has seen. A plain Set has none.
+pub fn left_of(plain: &[u64], ctx: &[u64], seen: u64, named: u64, limited: bool) -> u64
     ensures { λ r.
-        ⌜ ((b : Box) → NextOf b n (now (plain .entry)) (now (ctx .entry)) seen named true → c ≡ context b n →
-        r ≡ namesOf (now (plain .entry)) (now (ctx .entry)) n seen named c) ⌝ }
+        ⌜ ((b : Box) (n : ℕ) → n ≤ mostSets →
+        NextOf b n (now (plain .entry)) (now (ctx .entry)) seen named limited → r ≡ whatIsLeft b n) ⌝ }
 {
-    let f = foes_of(plain, named, seen);
-    let left = apart_from(ctx, n, seen, f.foes);
-    ((named & c == named) & !f.unmet) & (c == left)
+    if !limited {
+        return 0;
+    }
+    let foes = foes_of(plain, named);
+    let apart = group_step::without(seen, foes);
+    clear_of(ctx, apart, foes)
 }
 
-// Whether answer 16 does not apply to Set n, whose context is c: it is a plain Set, or what it lists is a version of
-// what it has seen.
-pub fn names_version(
-    plain: &[u64],
-    ctx: &[u64],
-    n: usize,
-    seen: u64,
-    named: u64,
-    limited: bool,
-    c: u64,
-) -> bool
-    requires { ⌜ (n ≤ mostSets) × (n ≤ length (now plain)) × (n ≤ length (now ctx)) ⌝ }
+// Whether answer 16 does not apply to Set n, of which c is left: it is a plain Set, or what it lists is what is
+// disputed of c. Then c is its context.
+pub fn names_version(plain: &[u64], seen: u64, named: u64, limited: bool, c: u64) -> bool
     ensures { λ r.
-        ⌜ ((b : Box) → NextOf b n (now (plain .entry)) (now (ctx .entry)) seen named limited → c ≡ context b n →
-        r ≡ maskNames b n) ⌝ }
+        ⌜ ((b : Box) (n : ℕ) (cs : List ℕ) → NextOf b n (now (plain .entry)) cs seen named limited →
+        c ≡ whatIsLeft b n → Lawful b (suc n) → r ≡ maskNames b n) ⌝ }
 {
     if !limited {
         return true;
     }
-    names_by(plain, ctx, n, seen, named, c)
+    let calm = clear_of(plain, c, seen);
+    named == group_step::without(c, calm)
 }

@@ -1,9 +1,9 @@
-pub mod NoneLost
 pub mod BitsFrom
 pub mod FirstAndLast
 pub mod MemberByMask
 pub mod GroupsFound
 pub mod PartlyDecided
 pub mod NextDecided
+pub mod Searching
 pub mod WholeSearch
 pub mod MasksOfElements

@@ -5,41 +5,44 @@ use mathlib.Core.Logic.{_⊎_, inl, inr}
 use mathlib.Core.Bool.{true, false, not}
 use mathlib.Core.List.{List}
 use Prim.Native.Nat.{ℕ, suc, _+_, _-_, _^_, _≤_, _<_}
-use native.Mathlib.Decide.{le-ind}
+use native.Mathlib.Decide.{decLt, le-ind}
 use native.Mathlib.Numerals.{add-one}
 use native.Mathlib.Omega.{arith}
-use lib.Dec.{ltb}
+use lib.Dec.{eqb, ltb}
 use lib.Pow.{pow-lt, pow-pos, pow-mono}
 use lib.Bits.{bitAnd, bitOr}
+use lib.Count.{trailingZeros}
 use lib.ListN.{length, getD, set}
-use borrow.Author.Tests.{eqb-true, ltb-true, not-true}
-use Rattle.math_lists.proofs.Booleans.{clash, both, either, or-left, or-right}
-use Rattle.math_lists.proofs.NumbersBelow.{some-at}
+use borrow.Author.Tests.{eqb-true, eqb-false, ltb-true, lt-ltb, not-true}
+use Rattle.math_lists.proofs.Booleans.{clash, decide, both, and-on, either, or-left, or-right}
 use Rattle.math_maximal.specs.Groups.{bit}
 use Rattle.math_maximal.specs.Step.{compatible}
-use Rattle.math_maximal.proofs.Bits.{bit-none, bit-high, bit-below, bit-or, bit-minus, bit-power, compatible-on}
+use Rattle.math_maximal.proofs.Bits.{bit-none, bit-high, bit-below, bit-or, bit-minus, bit-power}
+use Rattle.math_maximal.proofs.Bits.{compatible-on, compatible-at}
+use Rattle.math_maximal.proofs.FirstMember.{first-member}
 use Rattle.group_step.specs.GroupRows.{mostGroups, mostSets}
-use Rattle.group_engine.specs.SearchForms.{Conflicts, conflict, isGroup, lost, Partial, Waiting, Stuck, FoundSoFar}
+use Rattle.group_engine.specs.SearchForms.{Conflicts, conflict, isGroup, Partial, Waiting, Stuck, FoundSoFar}
 use Rattle.group_engine.proofs.FirstAndLast.{still-member}
 use Rattle.group_engine.proofs.PartlyDecided.{is-group, stuck-none, passed-over, left-out, no-room, taken-in}
-use Rattle.group_engine.proofs.PartlyDecided.{still-out, all-fit}
+use Rattle.group_engine.proofs.PartlyDecided.{still-out, all-fit, in-has, neither-in, fits-less}
 use Rattle.group_engine.proofs.GroupsFound.{found-none, found-one, found-last}
 
 -- ---- none is undecided
 
-module _ {ms : List ℕ} {n t r : ℕ} {out : List ℕ} (p : Partial ms n 0 t 0) (f : FoundSoFar ms n t r out) where
-  pub none-here : lost ms n t ≡ true → FoundSoFar ms n (t + 1) r out
-  unfolding lost
-  none-here h =
-      let (i, l, e) = some-at n _ h in
-      let (x, y) = both (not (bit t i)) (compatible (getD ms i 0) t) e in
+module _ {ms : List ℕ} {n t lone r : ℕ} {out : List ℕ} (p : Partial ms n 0 t 0) (w : Waiting ms n 0 t lone)
+    (f : FoundSoFar ms n t r out) where
+  pub none-here : lone < 2 ^ 64 → 0 < lone → FoundSoFar ms n (t + 1) r out
+  none-here h l =
+      let i = trailingZeros 64 lone in
+      let b = first-member 64 lone l h in
       found-none ms n t r out f 1
-      (λ g a b. stuck-none ms n 0 t 0 p i l (omega arith) (not-true (bit t i) x) y
-      (compatible-on (getD ms i 0) 0 0 (omega arith) (λ j c. clash c (bit-none j))) g a (omega arith))
+      (λ x a c. stuck-none ms n 0 t 0 p i (w .within i b) (omega arith) (w .leftOut i b) (w .fits i b)
+      (compatible-on (getD ms i 0) 0 0 (omega arith) (λ j d. clash d (bit-none j))) x a (omega arith))
 
-  module _ (h : lost ms n t ≡ false) where
+  module _ (h : lone ≡ 0) where
     group-here : isGroup ms n t ≡ true
-    group-here = is-group ms n t p h
+    group-here = is-group ms n t p (λ i l x y.
+        clash (w .noneMissed i l (omega arith) x y) (ap (λ (z : ℕ). bit z i) h ∙ bit-none i))
 
     pub put-last :
         {after : List ℕ} → after ≡ set out r t → length out ≡ mostGroups → r < mostGroups →
@@ -69,6 +72,20 @@ module _ {ms : List ℕ} {n t may r w : ℕ} {out : List ℕ} (h : may < 2 ^ w) 
 pub all-decided : {ms : List ℕ} {n u t may : ℕ} → may ≡ 0 → Partial ms n u t may → Partial ms n 0 t 0
 all-decided {ms} {n} {u} {t} {may} e p =
     passed-over ms n u t 0 (subst (Partial ms n u t) e p) 0 (omega arith) (omega arith)
+
+pub all-waiting :
+    {ms : List ℕ} {n u t may lone : ℕ} → may ≡ 0 → Partial ms n u t may → Waiting ms n u t lone →
+    Waiting ms n 0 t lone
+all-waiting {ms} {n} {u} {t} {may} {lone} e p w = record {
+  within = w .within;
+  decided = λ i h. omega arith;
+  leftOut = w .leftOut;
+  fits = w .fits;
+  noneMissed = λ i l o x y. elim (decLt i u) [
+    | yes k ↦ clash (p .mayCome i ∙ and-on (ltb i u) _ (lt-ltb i u k) y) (ap (λ (z : ℕ). bit z i) e ∙ bit-none i)
+    | no k ↦ w .noneMissed i l (omega arith) x y
+  ];
+}
 
 pub none-may-come :
     {ms : List ℕ} {n u t may r : ℕ} {out : List ℕ} → may ≡ 0 → Partial ms n u t may → FoundSoFar ms n (t + 1) r out →
@@ -124,6 +141,19 @@ module _ {ms : List ℕ} {n u t may lone k b rest : ℕ} (d : Deciding ms n u t 
         | inr y ↦ inr (eqb-true i k (sym (ap (λ (z : ℕ). bit z i) (d .its-number) ∙ bit-power k i) ∙ y))
       ]
 
+  -- none between k and the decided ones fits those that are in: it could come in
+  still-waits :
+      (i : ℕ) → i < n → k ≤ i → eqb i k ≡ false → bit t i ≡ false → compatible (getD ms i 0) t ≡ true →
+      bit lone i ≡ true
+  still-waits i a o e x y = elim (decLt i u) [
+    | yes l ↦ clash (d .partly .mayCome i ∙ and-on (ltb i u) _ (lt-ltb i u l) y)
+        (bit-high (k + 1) may (d .last-one) i above)
+    | no f ↦ d .waits .noneMissed i a (omega arith) x y
+  ]
+    where
+      above : k + 1 ≤ i
+      above = elim (decLt k i) [ yes l ↦ omega arith | no f ↦ absurd (eqb-false i k e (omega arith)) ]
+
   pub waits-out : Waiting ms n k t (bitOr lone b)
   waits-out =
       let l = under in
@@ -138,6 +168,10 @@ module _ {ms : List ℕ} {n u t may lone k b rest : ℕ} (d : Deciding ms n u t 
           | inr e ↦ rw e (d .partly .undecided k l)
         ];
         fits = λ i h. elim (out-member lone i h) [ inl y ↦ d .waits .fits i y | inr e ↦ rw e fits-in ];
+        noneMissed = λ i a o x y. bit-or lone b i ∙ elim (decide (eqb i k)) [
+          | inl e ↦ or-right (bit lone i) (bit b i) (ap (λ (z : ℕ). bit z i) (d .its-number) ∙ bit-power k i ∙ e)
+          | inr e ↦ or-left (bit lone i) (bit b i) (still-waits i a o e x y)
+        ];
       }
 
   -- of those asked about, each is one of these
@@ -184,6 +218,16 @@ module _ {ms : List ℕ} {n u t may lone k b rest : ℕ} (d : Deciding ms n u t 
         (sym (ap (λ (z : ℕ). bit z i) e ∙ bit-minus lone (getD ms k 0) i) ∙ h) in
         (x, not-true (bit (getD ms k 0) i) y)
 
+    none-missed-in :
+        (i : ℕ) → i < n → k ≤ i → bit (t + 2 ^ k) i ≡ false → compatible (getD ms i 0) (t + 2 ^ k) ≡ true →
+        bit left i ≡ true
+    none-missed-in i a o x y =
+        let (out, other) = neither-in ms n k t may before i x in
+        let c : conflict ms k i ≡ false = s .turned k i inside a ∙ compatible-at (getD ms i 0) (t + 2 ^ k) y k
+        (in-has ms n k t may before) in
+        ap (λ (z : ℕ). bit z i) e ∙ bit-minus lone (getD ms k 0) i
+        ∙ and-on (bit lone i) _ (still-waits i a o other out (fits-less ms n k t may before i y)) (rw c)
+
     pub waits-in : Waiting ms n k (t + b) left
     waits-in =
         let l = under in
@@ -198,6 +242,7 @@ module _ {ms : List ℕ} {n u t may lone k b rest : ℕ} (d : Deciding ms n u t 
               (let (x, y) = in-member i h in
               all-fit ms n k t may before s (d .comes) i (d .waits .fits i x)
               (s .turned i k (d .waits .within i x) inside ∙ y));
+          noneMissed = none-missed-in;
         })
 
     -- one of them is stuck: nothing more is found

@@ -13,13 +13,12 @@ use lib.Bits.{bitAnd}
 use lib.ListN.{getD}
 use borrow.Author.Tests.{eqb-true, ne-eqb, ltb-true, lt-ltb, le-ltb, not-true}
 use Rattle.math_lists.proofs.LastBelow.{last}
-use Rattle.math_lists.proofs.Booleans.{clash, decide, off, same-test, both, and-on, either, or-left, or-right, eqb-self}
-use Rattle.math_lists.proofs.Booleans.{then-off}
-use Rattle.math_lists.proofs.NumbersBelow.{none-at}
+use Rattle.math_lists.proofs.Booleans.{clash, decide, off, same-test, both, and-on, either, neither}
+use Rattle.math_lists.proofs.Booleans.{or-left, or-right, eqb-self, then-off}
 use Rattle.math_maximal.specs.Groups.{bit}
 use Rattle.math_maximal.specs.Step.{compatible}
 use Rattle.math_maximal.proofs.Bits.{bit-minus, bit-power, bit-high, bit-below, compatible-on, compatible-at}
-use Rattle.group_engine.specs.SearchForms.{Conflicts, conflict, isGroup, lost, Partial}
+use Rattle.group_engine.specs.SearchForms.{Conflicts, conflict, isGroup, Partial}
 use Rattle.group_engine.proofs.BitsFrom.{bit-add, bit-ones, same-above}
 use Rattle.group_engine.proofs.MemberByMask.{compatible-part, group-at, group-on}
 
@@ -91,18 +90,15 @@ module _ (ms : List ℕ) (n : ℕ) where
       ];
     }
 
-  -- ---- all decided, and none left out for good: a group
+  -- ---- all decided, and each that is left out conflicts with one that is in: a group
 
-  pub is-group : (t : ℕ) → Partial ms n 0 t 0 → lost ms n t ≡ false → isGroup ms n t ≡ true
-  unfolding lost
-  is-group t p h = group-on ms n t below (λ i l. elim (decide (bit t i)) [
+  pub is-group :
+      (t : ℕ) → Partial ms n 0 t 0 →
+      ((i : ℕ) → i < n → bit t i ≡ false → compatible (getD ms i 0) t ≡ true → ⊥) → isGroup ms n t ≡ true
+  is-group t p none = group-on ms n t (omega (arith, p .within)) (λ i l. elim (decide (bit t i)) [
     | inl b ↦ b ∙ sym (p .free i b)
-    | inr b ↦ b ∙ sym (off (compatible (getD ms i 0) t) (λ e.
-        clash (and-on (not (bit t i)) (compatible (getD ms i 0) t) (rw b) e) (none-at n _ h i l)))
+    | inr b ↦ b ∙ sym (off (compatible (getD ms i 0) t) (λ e. absurd (none i l b e)))
   ])
-    where
-      below : t < 2 ^ n
-      below = omega (arith, p .within)
 
   -- ---- the Set k is decided
 
@@ -145,12 +141,21 @@ module _ (ms : List ℕ) (n : ℕ) where
     in-undecided : (i : ℕ) → i < k → bit (t + 2 ^ k) i ≡ false
     in-undecided i l = bit-in i ∙ rw (p .undecided i (omega arith), ne-eqb i k (λ e. omega arith))
 
-    in-has : bit (t + 2 ^ k) k ≡ true
+    pub in-has : bit (t + 2 ^ k) k ≡ true
     in-has = bit-in k ∙ or-right (bit t k) (eqb k k) (eqb-self k)
 
     -- what is left out stays so
     pub still-out : (i : ℕ) → (i ≡ k → ⊥) → bit t i ≡ false → bit (t + 2 ^ k) i ≡ false
     still-out i d h = bit-in i ∙ rw (h, ne-eqb i k d)
+
+    -- what is not in with k was not in, and is not k; what fits with k fitted
+    pub neither-in : (i : ℕ) → bit (t + 2 ^ k) i ≡ false → (bit t i ≡ false) × (eqb i k ≡ false)
+    neither-in i h = neither (bit t i) (eqb i k) (sym (bit-in i) ∙ h)
+
+    pub fits-less :
+        (i : ℕ) → compatible (getD ms i 0) (t + 2 ^ k) ≡ true → compatible (getD ms i 0) t ≡ true
+    fits-less i = compatible-part n (getD ms i 0) t (t + 2 ^ k) below
+        (λ j x. bit-in j ∙ or-left (bit t j) (eqb j k) x)
 
     -- k conflicts with one that is in: no group has it with those
     pub no-room :
@@ -219,10 +224,5 @@ module _ (ms : List ℕ) (n : ℕ) where
             let l = ltb-true i k a in
             let c : conflict ms k i ≡ false = s .turned k i k-below (omega (arith, k-below))
             ∙ compatible-at (getD ms i 0) (t + 2 ^ k) b k in-has in
-            rw (
-              a,
-              c,
-              compatible-part n (getD ms i 0) t (t + 2 ^ k) below
-                  (λ j x. bit-in j ∙ or-left (bit t j) (eqb j k) x) b,
-            )));
+            rw (a, c, fits-less i b)));
       }

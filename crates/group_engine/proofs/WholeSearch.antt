@@ -24,6 +24,7 @@ module _ (ms : List ℕ) (n : ℕ) where
     decided = λ i h. clash h (bit-none i);
     leftOut = λ i h. bit-none i;
     fits = λ i h. clash h (bit-none i);
+    noneMissed = λ i l o x y. absurd (omega arith);
   }
 
   pub none-found : (out : List ℕ) → FoundSoFar ms n 0 0 out

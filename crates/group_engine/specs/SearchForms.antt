@@ -3,12 +3,12 @@
 -- the groups of an object. Then what the search knows on its way, with the u first Sets undecided. No one need believe
 -- it. Assumes nothing.
 use mathlib.Core.Path.{_≡_}
-use mathlib.Core.Bool.{Bool, true, false, not, _&&_}
+use mathlib.Core.Bool.{Bool, true, false, _&&_}
 use mathlib.Core.List.{List}
 use Prim.Native.Nat.{ℕ, suc, _+_, _^_, _≤_, _<_, min}
 use lib.Dec.{ltb}
 use lib.ListN.{length, take, getD}
-use Rattle.math_lists.specs.NumbersBelow.{some, keep}
+use Rattle.math_lists.specs.NumbersBelow.{keep}
 use Rattle.math_maximal.specs.Groups.{bit, every, isMaximal, groups}
 use Rattle.math_maximal.specs.Step.{compatible}
 use Rattle.group_step.specs.GroupRows.{mostGroups}
@@ -37,10 +37,6 @@ isGroup ms n g = isMaximal (conflict ms) n every (bit g)
 abbrev pub groupsBelow : List ℕ → ℕ → ℕ → List ℕ
 groupsBelow ms n x = keep x (isGroup ms n)
 
--- some Set is not taken, and conflicts with none that is
-unfoldable pub lost : List ℕ → ℕ → ℕ → Bool
-lost ms n taken = some n (λ i. not (bit taken i) && compatible (getD ms i 0) taken)
-
 -- the Sets from u on are decided, of the n first: those taken have no conflict among them, and an undecided one may
 -- come in exactly if it conflicts with none of them
 pub record Partial (ms : List ℕ) (n u taken may : ℕ) : Type 0 where
@@ -50,12 +46,14 @@ pub record Partial (ms : List ℕ) (n u taken may : ℕ) : Type 0 where
   pub free : (i : ℕ) → bit taken i ≡ true → compatible (getD ms i 0) taken ≡ true
   pub mayCome : (i : ℕ) → bit may i ≡ (ltb i u && compatible (getD ms i 0) taken)
 
--- each member of `lone` is decided, is left out, and conflicts with none that is taken
+-- the members of `lone` are the Sets that are decided, left out, and conflict with none that is taken
 pub record Waiting (ms : List ℕ) (n u taken lone : ℕ) : Type 0 where
   pub within : (i : ℕ) → bit lone i ≡ true → i < n
   pub decided : (i : ℕ) → bit lone i ≡ true → u ≤ i
   pub leftOut : (i : ℕ) → bit lone i ≡ true → bit taken i ≡ false
   pub fits : (i : ℕ) → bit lone i ≡ true → compatible (getD ms i 0) taken ≡ true
+  pub noneMissed :
+      (i : ℕ) → i < n → u ≤ i → bit taken i ≡ false → compatible (getD ms i 0) taken ≡ true → bit lone i ≡ true
 
 -- a member of `lone` conflicts with none of `may`
 abbrev pub Stuck : List ℕ → ℕ → ℕ → Type 0

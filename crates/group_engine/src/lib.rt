@@ -11,28 +11,12 @@ ghost use Rattle.group_step.specs.GroupRows.{mostGroups, mostSets, settled};
 ghost use Rattle.group_engine.specs.SearchForms.{
   Conflicts,
   byMasks,
-  lost,
   Partial,
   Waiting,
   Stuck,
   FoundSoFar,
   countTold,
 };
-
-// Whether some Set of n is not in `taken` and conflicts with no member of it.
-fn is_lost(conflicts: &[u64], n: usize, taken: u64) -> bool
-    requires { ⌜ (n < mostSets) × (n ≤ length (now conflicts)) ⌝ }
-    ensures { λ r. ⌜ r ≡ lost (now (conflicts .entry)) n taken ⌝ }
-{
-    let mut i: usize = 0;
-    while i < n {
-        if !group_step::has(taken, i) & (taken & conflicts[i] == 0) {
-            return true;
-        }
-        i += 1;
-    }
-    false
-}
 
 // The last member of m.
 fn highest(m: u64) -> usize
@@ -59,18 +43,24 @@ fn is_stuck(conflicts: &[u64], lone: u64, may: u64) -> bool
     false
 }
 
-// Puts the group `taken` behind the `found` first numbers of out, if it is one, and says how many they are then. Where
-// out is full, it is only counted.
-fn put_group(conflicts: &[u64], n: usize, taken: u64, found: usize, out: &mut [u64]) -> usize
-    requires { ⌜ (n < mostSets)
-        × (n ≤ length (now conflicts))
-        × (length (now out) ≡ mostGroups)
+// Puts the group `taken` behind the `found` first numbers of out, if it is one, and says how many they are then: it is
+// one if no Set is left out without a conflict with it. Where out is full, it is only counted.
+fn put_group(
+    conflicts: &[u64],
+    n: usize,
+    taken: u64,
+    lone: u64,
+    found: usize,
+    out: &mut [u64],
+) -> usize
+    requires { ⌜ (length (now out) ≡ mostGroups)
         × (found ≤ mostGroups)
         × Partial (now conflicts) n 0 taken 0
+        × Waiting (now conflicts) n 0 taken lone
         × FoundSoFar (now conflicts) n taken found (now out) ⌝ }
     ensures { λ r. ⌜ FoundSoFar (now (conflicts .entry)) n (taken + 1) r (now (out .exit)) ⌝ }
 {
-    if is_lost(conflicts, n, taken) {
+    if lone != 0 {
         return found;
     }
     if found < GROUPS {
@@ -79,18 +69,19 @@ fn put_group(conflicts: &[u64], n: usize, taken: u64, found: usize, out: &mut [u
     found + 1
 }
 
-// Decides the Sets that are left, the first ones, `undecided` of them, where the members of `taken` are in and of the
-// undecided those in `may` can still come in. Puts the groups that come of it behind the `found` first numbers of out,
-// and says how many they are then. The members of `lone` are left out and conflict with none that is in: each needs one
-// of `may` that it conflicts with, and what can end in no group is cut off. Where out is full, the first that finds no
-// place is counted, and nothing more is sought.
+// Decides the Sets that are left, the first ones, `undecided` of them, where the members of `first` are in and of the
+// undecided those in `those` can still come in. Puts the groups that come of it behind the `found` first numbers of
+// out, and says how many they are then. The last that can come in is left out, by a call, and then taken in, by going
+// on. The members of `unmet` are those left out that conflict with none that is in: each needs one that can come in and
+// that it conflicts with, and what can end in no group is cut off. Where out is full, the first that finds no place is
+// counted, and nothing more is sought.
 fn decide_rest(
     conflicts: &[u64],
     n: usize,
     undecided: usize,
-    taken: u64,
-    may: u64,
-    lone: u64,
+    first: u64,
+    those: u64,
+    unmet: u64,
     found: usize,
     out: &mut [u64],
 ) -> usize
@@ -99,32 +90,35 @@ fn decide_rest(
         × (length (now out) ≡ mostGroups)
         × (undecided ≤ n)
         × Conflicts (now conflicts) n
-        × Partial (now conflicts) n undecided taken may
-        × Waiting (now conflicts) n undecided taken lone
-        × FoundSoFar (now conflicts) n taken found (now out) ⌝ }
-    ensures { λ r. ⌜ FoundSoFar (now (conflicts .entry)) n (taken + 2 ^ undecided) r (now (out .exit)) ⌝ }
+        × Partial (now conflicts) n undecided first those
+        × Waiting (now conflicts) n undecided first unmet
+        × (found ≤ mostGroups)
+        × FoundSoFar (now conflicts) n first found (now out) ⌝ }
+    ensures { λ r. ⌜ FoundSoFar (now (conflicts .entry)) n (first + 2 ^ undecided) r (now (out .exit)) ⌝ }
 {
-    if GROUPS < found {
-        return found;
-    }
-    if may == 0 {
-        return put_group(conflicts, n, taken, found, out);
-    }
-    let k = highest(may);
-    let bit = group_step::only(k);
-    let foes = conflicts[k];
-    let rest = group_step::without(may, bit);
-    let fit = group_step::without(rest, foes);
-    let left = group_step::without(lone, foes);
-    let with = taken + bit;
+    let mut taken = first;
+    let mut may = those;
+    let mut lone = unmet;
     let mut next = found;
-    if !is_stuck(conflicts, lone & foes | bit, rest) {
-        next = decide_rest(conflicts, n, k, taken, rest, lone | bit, found, out);
+    while may != 0 {
+        let k = highest(may);
+        let bit = group_step::only(k);
+        let foes = conflicts[k];
+        let rest = group_step::without(may, bit);
+        if !is_stuck(conflicts, lone & foes | bit, rest) {
+            next = decide_rest(conflicts, n, k, taken, rest, lone | bit, next, out);
+        }
+        if GROUPS < next {
+            return next;
+        }
+        taken = taken + bit;
+        may = group_step::without(rest, foes);
+        lone = group_step::without(lone, foes);
+        if is_stuck(conflicts, lone, may) {
+            return next;
+        }
     }
-    if is_stuck(conflicts, left, fit) {
-        return next;
-    }
-    decide_rest(conflicts, n, k, with, fit, left, next, out)
+    put_group(conflicts, n, taken, lone, next, out)
 }
 
 // Puts the groups of the n Sets ascending at the front of out, and 0 behind them; says how many they are. Where they

@@ -1,20 +1,19 @@
 -- The marks of the Sets before e, by one Set more, and those of the names that e lists. Assumes nothing.
-use mathlib.Core.Path.{_≡_, refl, sym, ap, subst, _∙_, fun-ext}
-use mathlib.Core.Bool.{Bool, true, false, not, _&&_, cond, Bool·not-not}
-use mathlib.Core.List.{List, [], _∷_, _++_, map}
-use Prim.Native.Nat.{ℕ, suc, _+_, _^_, _≤_, _<_}
+use mathlib.Core.Path.{_≡_, sym, ap, subst, _∙_, fun-ext}
+use mathlib.Core.Bool.{Bool, true, false, not, _&&_, Bool·not-not}
+use mathlib.Core.List.{List, [], map}
+use Prim.Native.Nat.{ℕ, _+_, _^_, _≤_, _<_}
 use native.Mathlib.Numerals.{add-one}
 use native.Mathlib.Omega.{arith}
 use lib.Bits.{bitOr, or-lt}
 use lib.Dec.{eqb}
-use lib.ListN.{length, getD, take, length-append, List·getD-append}
+use lib.ListN.{length, getD, take}
 use lib.Pow.{pow-pos}
-use lib.Seq.{getD-append-seam}
-use Rattle.math_lists.specs.NumbersBelow.{sum, mask, some}
+use Rattle.math_lists.specs.NumbersBelow.{mask, some}
 use Rattle.math_lists.specs.SortedLists.{any, elem}
 use Rattle.math_lists.proofs.Booleans.{same-test}
 use Rattle.math_lists.proofs.ByPlaces.{any-place-on, any-place-at}
-use Rattle.math_lists.proofs.NumbersBelow.{mask-same, mask-more, mask-below, some-on, some-at, some-same}
+use Rattle.math_lists.proofs.NumbersBelow.{mask-same, mask-below, some-on, some-at, some-same}
 use Rattle.math_maximal.specs.Groups.{bit}
 use Rattle.math_maximal.specs.Step.{compatible}
 use Rattle.math_maximal.proofs.Bits.{bit-none, bit-or, some-common}
@@ -22,76 +21,14 @@ use Rattle.math_maximal.proofs.Masks.{mask-bit}
 use Rattle.edit_record.specs.declared.Edit.{Edit}
 use Rattle.edit_record.specs.RecordBytes.{noEdit}
 use Rattle.edit_record.specs.Answer1.{isLimited, nameOf, nameIn}
-use Rattle.edit_causal.specs.Conflict.{doConflict, lists, listedBy}
-use Rattle.edit_causal.specs.ConflictForms.{plainMarks, saw}
+use Rattle.edit_causal.specs.Conflict.{lists, listedBy}
+use Rattle.edit_causal.specs.ConflictForms.{saw}
 use Rattle.edit_history.specs.EditsHeld.{recordAt}
 use Rattle.edit_history.specs.Answer16.{isStrange}
 use Rattle.edit_history.proofs.EditsInPlaces.{sets-length, set-place}
 use Rattle.group_context.proofs.MaskFromBits.{is-mask}
 use Rattle.group_limited.specs.LimitedForms.{setsIn, seenMarks, namedMarks, marksOfName, isUnseen}
-use Rattle.group_limited.proofs.OneMoreTaken.{sets-more, any-more}
-
--- ---- what passes a test
-
-module _ (f : Edit → Bool) where
-  abbrev passed : List Edit → ℕ
-  passed ms = mask (length ms) (λ i. f (getD ms i noEdit))
-
-  -- one Set more marks the next bit, if it passes
-  passed-more : (ms : List Edit) (m : Edit) → passed (ms ++ (m ∷ [])) ≡ passed ms + cond (f m) (2 ^ length ms) 0
-  passed-more ms m =
-      let ns = ms ++ (m ∷ []) in
-      let k = length ms in
-      let g : ℕ → Bool = λ i. f (getD ns i noEdit) in
-      let long : length ns ≡ suc k = omega (arith, length-append ms (m ∷ [])) in
-      ap (λ (n : ℕ). mask n g) long
-      ∙ mask-more k g
-      ∙ rw (getD-append-seam ms m [] noEdit)
-      (ap (λ (x : ℕ). x + cond (f m) (2 ^ k) 0)
-      (mask-same k g (λ i. f (getD ms i noEdit)) (λ i l. rw (List·getD-append ms (m ∷ []) noEdit i l))))
-
-  -- of the Sets in the first places
-  module _ (rs ps : List ℕ) (i : ℕ) (l : i < length ps) where
-    passed-below : passed (setsIn rs ps i) < 2 ^ i
-    passed-below =
-        subst (λ (n : ℕ). passed (setsIn rs ps i) < 2 ^ n) (sets-length rs ps i (omega arith))
-        (mask-below (length (setsIn rs ps i)) (λ j. f (getD (setsIn rs ps i) j noEdit)))
-
-    passed-in-more :
-        passed (setsIn rs ps (i + 1)) ≡ passed (setsIn rs ps i) + cond (f (recordAt rs (getD ps i 0))) (2 ^ i) 0
-    passed-in-more =
-        let x = recordAt rs (getD ps i 0) in
-        let grown : setsIn rs ps (i + 1) ≡ setsIn rs ps i ++ (x ∷ []) = rw (add-one i) (sets-more rs ps i l) in
-        ap passed grown
-        ∙ passed-more (setsIn rs ps i) x
-        ∙ ap (λ (n : ℕ). passed (setsIn rs ps i) + cond (f x) (2 ^ n) 0) (sets-length rs ps i (omega arith))
-
--- ---- the marks
-
-pub none-seen : (e : Edit) → 0 ≡ seenMarks e []
-unfolding seenMarks mask sum
-none-seen e = refl
-
-module _ (e : Edit) (rs ps : List ℕ) (i : ℕ) (l : i < length ps) where
-  pub plain-below : plainMarks e (setsIn rs ps i) < 2 ^ i
-  unfolding plainMarks
-  plain-below = passed-below (λ m. doConflict m e) rs ps i l
-
-  pub seen-below : seenMarks e (setsIn rs ps i) < 2 ^ i
-  unfolding seenMarks
-  seen-below = passed-below (saw e) rs ps i l
-
-  pub plain-more :
-      plainMarks e (setsIn rs ps (i + 1))
-      ≡ plainMarks e (setsIn rs ps i) + cond (doConflict (recordAt rs (getD ps i 0)) e) (2 ^ i) 0
-  unfolding plainMarks
-  plain-more = passed-in-more (λ m. doConflict m e) rs ps i l
-
-  pub seen-more :
-      seenMarks e (setsIn rs ps (i + 1))
-      ≡ seenMarks e (setsIn rs ps i) + cond (saw e (recordAt rs (getD ps i 0))) (2 ^ i) 0
-  unfolding seenMarks
-  seen-more = passed-in-more (saw e) rs ps i l
+use Rattle.group_limited.proofs.OneMoreTaken.{any-more}
 
 -- ---- the names that are listed
 

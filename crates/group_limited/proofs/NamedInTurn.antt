@@ -15,17 +15,22 @@ use Rattle.math_lists.proofs.NumbersBelow.{all-on, all-at}
 use Rattle.math_contexts.specs.Box.{Lawful}
 use Rattle.math_contexts.specs.BoxByArrival.{rel}
 use Rattle.math_contexts.specs.SameSets.{SameBelow}
+use Rattle.math_contexts.specs.Contexts.{context}
 use Rattle.math_contexts.specs.Versions.{AllNamed}
+use Rattle.math_contexts.proofs.ConflictsNamed.{names-none-later}
 use Rattle.edit_record.specs.declared.Edit.{Edit}
 use Rattle.edit_record.specs.RecordBytes.{noEdit}
 use Rattle.edit_causal.specs.Conflict.{boxOn}
+use Rattle.edit_causal.specs.ConflictForms.{Proper}
 use Rattle.edit_causal.proofs.CausalLaws.{conflict-symmetric, conflict-irreflexive}
 use Rattle.edit_causal.proofs.ConflictsAmongSets.{first-sets}
 use Rattle.edit_history.specs.EditsHeld.{recordAt}
 use Rattle.edit_history.specs.Answer16.{namelessAmong}
 use Rattle.edit_history.proofs.EditsInPlaces.{sets-length, set-place}
 use Rattle.group_true.proofs.ProperSets.{named-version, named-snoc}
+use Rattle.group_context.specs.RowsOfBox.{whatIsLeft}
 use Rattle.group_limited.specs.LimitedForms.{setsIn, namedInTurn}
+use Rattle.group_limited.proofs.ToldByRows.{left-told}
 use Rattle.group_limited.proofs.OneMoreTaken.{sets-more}
 
 -- the first of some Sets that are lawful are lawful
@@ -45,6 +50,11 @@ first-lawful ms more n few law = record {
   where
     same : SameBelow (boxOn ms) (boxOn (ms ++ more)) (length ms)
     same = first-sets ms more
+
+-- and where they name their versions, so do the first
+first-named :
+    (ms more : List Edit) (n : ℕ) → length ms ≤ n → AllNamed (boxOn (ms ++ more)) n → AllNamed (boxOn ms) (length ms)
+first-named ms more n few all i l = sym (names-none-later (first-sets ms more) i l) ∙ all i (omega arith)
 
 module _ (rs ps : List ℕ) where
   -- the Set in the j-th of the places is nameless after those before it
@@ -87,7 +97,7 @@ module _ (rs ps : List ℕ) where
         ∙ take-all j (setsIn rs ps j) (omega arith)
 
     -- with the next one
-    lawful-to :
+    pub lawful-to :
         (i : ℕ) → i < k → (e : Edit) → e ≡ recordAt rs (getD ps i 0) → Lawful (boxOn ms) k →
         Lawful (boxOn (setsIn rs ps i ++ (e ∷ []))) (suc (length (setsIn rs ps i)))
     lawful-to i l e own law =
@@ -99,6 +109,38 @@ module _ (rs ps : List ℕ) where
         = subst (Lawful (boxOn (setsIn rs ps (suc i)))) size
         (first-lawful (setsIn rs ps (suc i)) more k (omega arith) law′) in
         rw (own, sets-length rs ps i (omega arith), ← sets-more rs ps i (omega arith)) first
+
+    -- where all are proper, what is left of what the next one has seen is its context
+    pub left-where-proper :
+        (i : ℕ) → i < k →
+        let ms′ = setsIn rs ps i in
+        let e = recordAt rs (getD ps i 0) in
+        Proper ms → whatIsLeft (boxOn (ms′ ++ (e ∷ []))) (length ms′) ≡ context (boxOn (ms′ ++ (e ∷ []))) (length ms′)
+    left-where-proper i l p =
+        let e = recordAt rs (getD ps i 0) in
+        let size = sets-length rs ps i (omega arith) in
+        let next = sets-length rs ps (suc i) (omega arith) in
+        let law = lawful-to i l e refl (subst (Lawful (boxOn ms)) (sets-length rs ps k fits) (p .lawful)) in
+        let named : (j : ℕ) → j ≤ k → AllNamed (boxOn (setsIn rs ps j)) (length (setsIn rs ps j))
+        = λ j m. first-named (setsIn rs ps j) (map (recordAt rs) (drop j (take k ps))) (length ms)
+        (omega (arith, sets-length rs ps j (omega arith), sets-length rs ps k fits))
+        (subst (λ (xs : List Edit). AllNamed (boxOn xs) (length ms)) (split j m) (p .named)) in
+        left-told (setsIn rs ps i) e law (named i (omega arith))
+        (rw (← sets-more rs ps i (omega arith))
+        (named (suc i) (omega arith) (length (setsIn rs ps i)) (omega (arith, size, next))))
+
+    -- the same where 16 is given to none up to the next one
+    pub left-where-named :
+        (i : ℕ) → i < k →
+        let ms′ = setsIn rs ps i in
+        let e = recordAt rs (getD ps i 0) in
+        Lawful (boxOn ms) k → ((j : ℕ) → j < i → nameless j ≡ false) → nameless i ≡ false →
+        whatIsLeft (boxOn (ms′ ++ (e ∷ []))) (length ms′) ≡ context (boxOn (ms′ ++ (e ∷ []))) (length ms′)
+    left-where-named i l law before own =
+        let ms′ = setsIn rs ps i in
+        let e = recordAt rs (getD ps i 0) in
+        left-told ms′ e (lawful-to i l e refl law)
+        (rw (sets-length rs ps i (omega arith)) (all-named i (omega arith) before)) (named-version ms′ e own)
 
     -- ---- the test
 

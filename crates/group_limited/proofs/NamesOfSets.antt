@@ -9,9 +9,13 @@ use native.Mathlib.Omega.{arith}
 use native.Mathlib.Numerals.{add-one}
 use lib.Dec.{eqb}
 use lib.ListN.{length, getD, drop}
+use lib.Pow.{pow-pos, pow-lt}
 use borrow.Author.Tests.{eq-eqb, ne-eqb, eqb-true}
 use Rattle.math_lists.specs.NumbersBelow.{sum, mask}
 use Rattle.math_lists.proofs.Booleans.{same-test, both, and-on}
+use Rattle.math_maximal.specs.Groups.{bit}
+use Rattle.math_maximal.proofs.Bits.{bit-none, bit-power}
+use Rattle.math_maximal.proofs.Masks.{mask-bit}
 use Rattle.edit_record.specs.declared.Edit.{Edit}
 use Rattle.edit_record.specs.Layout.{twoBytes, mostMembers, countAt, membersAt}
 use Rattle.edit_record.specs.RecordBytes.{two, four, limits, decodeOf}
@@ -20,6 +24,7 @@ use Rattle.edit_causal.specs.Causal.{sameEdit, comesBefore}
 use Rattle.edit_causal.specs.Conflict.{doConflict}
 use Rattle.edit_causal.proofs.CausalLaws.{conflict-symmetric}
 use Rattle.group_true.proofs.ProperSets.{seen-agrees}
+use Rattle.group_context.proofs.MaskFromBits.{is-mask}
 use Rattle.group_limited.specs.LimitedForms.{NameOf, found, sumOfName, marksOfName}
 
 pub name-is :
@@ -111,18 +116,34 @@ module _ (ns : List ℕ) (x i : ℕ) where
   unfolding sumOfName sum
   sum-skipped h = rw (add-one i, ne-eqb (getD ns i 0) x h) (omega arith)
 
-module _ (ns : List ℕ) (k x : ℕ) where
-  pub none-marked-by-sum : sumOfName ns k x ≡ 0 → 0 ≡ marksOfName ns k x
+-- the first k of m names, by the sum over all of them
+module _ (ns : List ℕ) (k m x : ℕ) (few : k ≤ m) where
+  abbrev hit : ℕ → Bool
+  hit i = eqb (getD ns i 0) x
+
+  those : (g : ℕ) → mask m hit ≡ g → (j : ℕ) → j < k → bit g j ≡ hit j
+  those g e j l = ap (λ (y : ℕ). bit y j) (sym e) ∙ mask-bit m hit j (omega arith)
+
+  pub none-marked-by-sum : sumOfName ns m x ≡ 0 → 0 ≡ marksOfName ns k x
   unfolding sumOfName
-  none-marked-by-sum h = sym (none-found (λ i. eqb (getD ns i 0) x) k h)
+  none-marked-by-sum h = is-mask k 0 hit (pow-pos k) (those 0 (none-found hit m h))
 
   pub one-marked-by-sum :
-      (sumOfName ns k x ≡ 0 → ⊥) → sumOfName ns k x < 2 * found →
-      (marksOfName ns k x ≡ 2 ^ (sumOfName ns k x - found))
-      × (found ≤ sumOfName ns k x)
-      × (sumOfName ns k x - found < k)
+      (sumOfName ns m x ≡ 0 → ⊥) → sumOfName ns m x < 2 * found →
+      (found ≤ sumOfName ns m x)
+      × (sumOfName ns m x - found < m)
+      × (sumOfName ns m x - found < k → 2 ^ (sumOfName ns m x - found) ≡ marksOfName ns k x)
+      × (k ≤ sumOfName ns m x - found → 0 ≡ marksOfName ns k x)
   unfolding sumOfName
-  one-marked-by-sum = one-found (λ i. eqb (getD ns i 0) x) k
+  one-marked-by-sum some one =
+      let (own, up, low) = one-found hit m some one in
+      let p = sumOfName ns m x - found in (
+        up,
+        low,
+        λ l. is-mask k (2 ^ p) hit (pow-lt l) (those (2 ^ p) own),
+        λ l. is-mask k 0 hit (pow-pos k) (λ j q. bit-none j
+            ∙ sym (sym (those (2 ^ p) own j q) ∙ bit-power p j ∙ ne-eqb j p (λ z. omega arith))),
+      )
 
 -- ---- the members of a limited Set, where they stand
 

@@ -24,7 +24,8 @@ use Rattle.edit_causal.proofs.CausalLaws.{conflict-symmetric}
 use Rattle.edit_causal.proofs.ConflictsAmongSets.{first-sets}
 use Rattle.edit_history.specs.Answer16.{isStrange, namelessAmong}
 use Rattle.group_true.proofs.ProperSets.{named-version, named-snoc}
-use Rattle.group_context.specs.RowsOfBox.{NextOf}
+use Rattle.group_context.specs.RowsOfBox.{NextOf, whatIsLeft}
+use Rattle.group_context.proofs.ContextByListed.{left-is-context}
 use Rattle.group_context.proofs.RowsOfArrival.{next-arrives, row-arrives}
 use Rattle.group_context.proofs.NamedByRows.{names-unless-none, conflicts-named}
 use Rattle.group_limited.specs.declared.Sight.{Sight}
@@ -60,6 +61,9 @@ module _ (ms : List Edit) (e : Edit) where
     nameless-told strange names s h =
         rw (s, h, names-unless-none b k law all-before, Bool·not-not (namesNone b k))
 
+    pub left-told : namesNone b k ≡ false → whatIsLeft b k ≡ context b k
+    left-told h = left-is-context b k law (names-unless-none b k law all-before ∙ ap not h)
+
     conflicts-told : namelessAmong ms e ≡ false → maskConflicts b k ≡ conflictsWith e ms
     unfolding conflictsWith conflictsIn
     conflicts-told h =
@@ -84,36 +88,37 @@ module _ (ms : List Edit) (e : Edit) where
         (λ i l. conflict-symmetric (getD ms i noEdit) e))
 
     -- by its sight of them, and what the calls return
-    module _ (n : ℕ) (size : k ≡ n) (s : Sight) (sight : SightOf ms e s) where
-      pub next-by-sight : NextOf b n plains cs (s .seen) (s .named) (s .limited)
-      next-by-sight = rw (sight .seen, sight .named, sight .limited, ← size) next
+    module _ (s : Sight) (sight : SightOf ms e s) where
+      pub next-by-sight : NextOf b k plains cs (s .seen) (s .named) (s .limited)
+      next-by-sight = rw (sight .seen, sight .named, sight .limited) next
 
-      module _ (c : ℕ) (own : c ≡ context b n) where
+      module _ (law : Lawful b (suc k)) where
         pub nameless-by-sight :
-            (names : Bool) →
-            ((b : Box) → NextOf b n plains cs (s .seen) (s .named) (s .limited) → c ≡ context b n →
-            names ≡ maskNames b n) →
-            Lawful b (suc k) → AllNamed (boxOn ms) k → (s .limited && (s .strange || not names)) ≡ namelessAmong ms e
-        nameless-by-sight names h law all = go (isLimited e) refl
+            (names : Bool) → names ≡ maskNames b k → AllNamed (boxOn ms) k →
+            (s .limited && (s .strange || not names)) ≡ namelessAmong ms e
+        nameless-by-sight names its all = go (isLimited e) refl
           where
-            hn : names ≡ maskNames b k
-            hn = rw size (h b next-by-sight own)
-
             go : (t : Bool) → isLimited e ≡ t → (s .limited && (s .strange || not names)) ≡ namelessAmong ms e
-            go true y = rw (sight .limited) (nameless-told law all (s .strange) names (sight .strange y) hn)
+            go true y = rw (sight .limited) (nameless-told law all (s .strange) names (sight .strange y) its)
             go false y = rw (sight .limited, y) (plain-never-nameless y)
 
         pub told-by-sight :
-            (nameless : Bool) → (Lawful b (suc k) → AllNamed (boxOn ms) k → nameless ≡ namelessAmong ms e) → (g : ℕ) →
+            (n : ℕ) → k ≡ n → (own : ℕ) → own ≡ whatIsLeft b k → (nameless : Bool) →
+            (AllNamed (boxOn ms) k → nameless ≡ namelessAmong ms e) → (g : ℕ) →
             ((b : Box) (v w : ℕ) (limited : Bool) → NextOf b n plains cs v w limited → s .plain ≡ mask n (b .plain n) →
-            c ≡ context b n → g ≡ maskConflicts b n) →
-            ToldOf ms e (record { row = s .plain; context = c; nameless = nameless; conflicts = g })
-        told-by-sight nameless its-answer g h = record {
+            own ≡ context b n → g ≡ maskConflicts b n) →
+            ToldOf ms e
+            (record { row = s .plain; seen = s .seen; context = own; nameless = nameless; conflicts = g })
+        told-by-sight n size own its nameless its-answer g h = record {
           row = sight .plain;
-          context = rw size own;
+          seen = sight .seen;
           nameless = its-answer;
-          conflicts = λ law all free.
+          context = λ all some. its ∙ left-told law all some;
+          conflicts = λ all free.
+              let answer = sym (its-answer all) ∙ free in
               rw (← size) at
-              (h b (s .seen) (s .named) (s .limited) next-by-sight (rw (sight .plain, ← size) its-row) own)
-              ∙ conflicts-told law all (sym (its-answer law all) ∙ free);
+              (h b (s .seen) (s .named) (s .limited) (rw (← size) next-by-sight)
+              (rw (← size) (rw (sight .plain) its-row))
+              (rw (← size) (its ∙ left-told law all (named-version ms e answer))))
+              ∙ conflicts-told law all answer;
         }

@@ -4,7 +4,7 @@
 use mathlib.Core.Path.{_≡_}
 use mathlib.Core.Bool.{Bool, true, false, not, cond}
 use mathlib.Core.List.{List, [], _∷_, _++_, map}
-use Prim.Native.Nat.{ℕ, suc, _+_, _/_, _%_, _^_, _<_}
+use Prim.Native.Nat.{ℕ, suc, _+_, _/_, _%_, _^_, _≤_, _<_}
 use lib.Bits.{bitOr}
 use lib.Dec.{eqb}
 use lib.ListN.{length, getD, take}
@@ -15,6 +15,7 @@ use Rattle.math_maximal.specs.Step.{compatible}
 use Rattle.math_contexts.specs.Box.{Lawful}
 use Rattle.math_contexts.specs.Contexts.{contexts, context}
 use Rattle.math_contexts.specs.Versions.{AllNamed}
+use Rattle.math_contexts.specs.NamedVersions.{namesNone}
 use Rattle.edit_record.specs.declared.Edit.{Edit}
 use Rattle.edit_record.specs.Layout.{twoBytes}
 use Rattle.edit_record.specs.RecordBytes.{noEdit}
@@ -59,7 +60,11 @@ pub record NameOf (x : ℕ) (e : Edit) : Type 0 where
   pub site : x / twoBytes % 256 ≡ e .site .0
   pub seq : x % twoBytes ≡ e .seq .0
 
--- ns has the names of the Sets in the first k of the places ps
+-- ns has the names of the Sets ms
+abbrev pub NamesOf : List ℕ → List Edit → Type 0
+NamesOf ns ms = (i : ℕ) → i < length ms → NameOf (getD ns i 0) (getD ms i noEdit)
+
+-- of those in the first k of the places ps
 abbrev pub NamesIn : List ℕ → List ℕ → ℕ → List ℕ → Type 0
 NamesIn rs ps k ns = (i : ℕ) → i < k → NameOf (getD ns i 0) (recordAt rs (getD ps i 0))
 
@@ -79,6 +84,25 @@ isUnseen ns k seen x = compatible seen (marksOfName ns k x)
 
 -- ---- the rows
 
+-- of so many Sets, the last ones, it is kept what their authors had seen
+abbrev pub mostRecent : ℕ
+mostRecent = 16
+
+-- for each of the last of the Sets ms, `sees` has those before it that its author had seen
+abbrev pub SeesTell : List Edit → List ℕ → Type 0
+SeesTell ms sees =
+    (i : ℕ) → i < length ms → length ms ≤ i + mostRecent →
+    getD sees (i % mostRecent) 0 ≡ mask i (λ j. saw (getD ms i noEdit) (getD ms j noEdit))
+
+-- the members of r are Sets before the i-th of ms that its author had seen
+pub record SeenBefore (ms : List Edit) (i r : ℕ) : Type 0 where
+  pub small : r < 2 ^ i
+  pub each : (j : ℕ) → bit r j ≡ true → (j < i) × (saw (getD ms i noEdit) (getD ms j noEdit) ≡ true)
+
+-- P, where `sees` tells this and having seen goes through to e, which comes after the Sets ms
+abbrev pub SightedTo : List Edit → Edit → List ℕ → Type 0 → Type 0
+SightedTo ms e sees P = SeesTell ms sees → Lawful (boxOn (ms ++ (e ∷ []))) (suc (length ms)) → P
+
 -- the number g of Set i, with Set n marked in it if i is a member of `row`
 abbrev pub withMark : ℕ → ℕ → ℕ → ℕ → ℕ
 withMark n row i g =
@@ -90,17 +114,16 @@ pub record RowsTell (ms : List Edit) (plains cs : List ℕ) : Type 0 where
   pub narrow : (i : ℕ) → i < length ms → getD plains i 0 < 2 ^ length ms
   pub held : take (length ms) cs ≡ contexts (boxOn ms) (length ms)
 
--- what is told of a Set e that comes after the Sets ms, by rows that tell of these; whether it names a version, and
--- its conflicts, where having seen goes through and those before it name theirs
+-- what is told of a Set e that comes after the Sets ms, by rows that tell of these; whether it names a version, its
+-- context if it does, and its conflicts, where those before it name theirs
 pub record ToldOf (ms : List Edit) (e : Edit) (t : Told) : Type 0 where
   pub row : t .row ≡ plainMarks e ms
-  pub context : t .context ≡ context (boxOn (ms ++ (e ∷ []))) (length ms)
-  pub nameless :
-      Lawful (boxOn (ms ++ (e ∷ []))) (suc (length ms)) → AllNamed (boxOn ms) (length ms) →
-      t .nameless ≡ namelessAmong ms e
-  pub conflicts :
-      Lawful (boxOn (ms ++ (e ∷ []))) (suc (length ms)) → AllNamed (boxOn ms) (length ms) →
-      t .nameless ≡ false → t .conflicts ≡ conflictsWith e ms
+  pub seen : t .seen ≡ seenMarks e ms
+  pub nameless : AllNamed (boxOn ms) (length ms) → t .nameless ≡ namelessAmong ms e
+  pub context :
+      AllNamed (boxOn ms) (length ms) → namesNone (boxOn (ms ++ (e ∷ []))) (length ms) ≡ false →
+      t .context ≡ context (boxOn (ms ++ (e ∷ []))) (length ms)
+  pub conflicts : AllNamed (boxOn ms) (length ms) → t .nameless ≡ false → t .conflicts ≡ conflictsWith e ms
 
 -- what is judged of a Set e that comes after the Sets ms, where these are proper and having seen goes through to it
 pub record JudgedOf (ms : List Edit) (e : Edit) (j : Judged) : Type 0 where

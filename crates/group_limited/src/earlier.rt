@@ -1,12 +1,9 @@
 // One Set against those before it, by the places of their records: which of them conflict with it by document 01's
 // rule, which its author had seen and which it lists, and whether it lists a name that is that of none which he had
-// seen. The names of those before it are put down once for all of them, and tell which were seen; only a Set that was
-// not seen is held against it. The records are read where they stand; an edit is decoded only where a record is not
-// there whole.
+// seen. The names of those before it are put down once for all of them.
 use super::Listed;
 use super::Marks;
-use edit_causal::is_conflict;
-use edit_causal::is_conflict_in;
+use super::seen;
 use edit_history::marked_if;
 use edit_record::AT_COUNT;
 use edit_record::AT_KIND;
@@ -19,31 +16,30 @@ use edit_record::MEMBERS;
 use edit_record::PLACE;
 use edit_record::RECORD;
 use edit_record::SEQ_NUMBERS;
-use edit_record::SITE_NUMBERS;
 use edit_record::SITES;
 ghost use mathlib.Core.Path.{_≡_};
 ghost use mathlib.Core.Bool.{true};
 ghost use mathlib.Core.List.{List};
-ghost use Prim.Native.Nat.{ℕ, _≤_, _<_};
+ghost use Prim.Native.Nat.{ℕ, _^_, _≤_, _<_};
 ghost use lib.ListN.{length, take, getD};
 ghost use Rattle.math_lists.specs.NumbersBelow.{mask};
 ghost use Rattle.math_lists.specs.SortedLists.{any, elem};
-ghost use Rattle.edit_record.specs.declared.Edit.{Edit};
 ghost use Rattle.edit_record.specs.Layout.{mostMembers};
 ghost use Rattle.edit_record.specs.RecordBytes.{decodeOf};
 ghost use Rattle.edit_record.specs.Answer1.{isLimited};
-ghost use Rattle.edit_causal.specs.Causal.{comesBefore};
-ghost use Rattle.edit_causal.specs.Conflict.{doConflict, listedBy};
+ghost use Rattle.edit_causal.specs.Conflict.{listedBy};
 ghost use Rattle.edit_history.specs.EditsHeld.{recordAt};
 ghost use Rattle.edit_history.specs.Answer16.{isStrange};
 ghost use Rattle.group_step.specs.GroupRows.{mostSets};
 ghost use Rattle.group_limited.specs.LimitedForms.{
   setsIn,
+  mostRecent,
   seenMarks,
   namedMarks,
   marksOn,
   NameOf,
   NamesIn,
+  SightedTo,
   sumOfName,
   marksOfName,
   isUnseen,
@@ -91,62 +87,31 @@ pub fn put_names(names: &mut [u32], recs: &[u8], places: &[u16], k: usize)
     }
 }
 
-// Whether the edit with the name x comes before the one with the name y and the vector v.
-fn is_seen(x: u32, y: u32, v: &[u16]) -> bool
-    ensures { λ r.
-        ⌜ ((a b : Edit) → NameOf x a → NameOf y b → b .vector ≡ now (v .entry) → r ≡ comesBefore a b) ⌝ }
-{
-    let site = x / SEQ_NUMBERS % SITE_NUMBERS;
-    let seq = (x % SEQ_NUMBERS) as u16;
-    let seen = edit_record::entry_at(v, site as usize);
-    (x != y) & (seq <= seen)
-}
-
-// Whether the edit in place p conflicts with that of rec by document 01's rule.
-fn is_conflict_with(recs: &[u8], p: u16, rec: &[u8]) -> bool
-    ensures { λ r. ⌜ r ≡ doConflict (recordAt (now (recs .entry)) p) (decodeOf (now (rec .entry))) ⌝ }
-{
-    let at = p as usize * PLACE;
-    if (at + RECORD <= recs.len()) & (RECORD <= rec.len()) {
-        return is_conflict_in(&recs[at..], rec);
-    }
-    let a = edit_history::decode_at(recs, p as usize);
-    let e = edit_record::decode(rec);
-    is_conflict(a, e)
-}
-
-// The same, where it is known whether the edit in place p comes before that of rec: then they do not conflict.
-fn is_conflict_unless(seen: bool, recs: &[u8], p: u16, rec: &[u8]) -> bool
-    ensures { λ r.
-        ⌜ (seen ≡ comesBefore (recordAt (now (recs .entry)) p) (decodeOf (now (rec .entry))) →
-        r ≡ doConflict (recordAt (now (recs .entry)) p) (decodeOf (now (rec .entry)))) ⌝ }
-{
-    if seen {
-        return false;
-    }
-    is_conflict_with(recs, p, rec)
-}
-
-// The marks of the Sets in the k first places, which stand before that of rec; these are their names.
-pub fn marks_of(recs: &[u8], places: &[u16], names: &[u32], k: usize, rec: &[u8]) -> Marks
+// The marks of the Sets in the k first places, which stand before that of rec; these are their names, and `sees` has
+// what the author of each had seen. Only one that was not seen is held against that of rec.
+pub fn marks_of(
+    recs: &[u8],
+    places: &[u16],
+    names: &[u32],
+    sees: &[u64],
+    k: usize,
+    rec: &[u8],
+) -> Marks
     requires { ⌜ (k ≤ mostSets)
         × (k ≤ length (now places))
         × (k ≤ length (now names))
+        × (mostRecent ≤ length (now sees))
         × NamesIn (now recs) (now places) k (now names) ⌝ }
-    ensures { λ r. ⌜ r
-        ≡ marksOn (decodeOf (now (rec .entry))) (setsIn (now (recs .entry)) (now (places .entry)) k) ⌝ }
+    ensures { λ r. ⌜ (r .plain < 2 ^ k) × SightedTo (setsIn (now (recs .entry)) (now (places .entry)) k)
+        (decodeOf (now (rec .entry))) (now (sees .entry))
+        (r ≡ marksOn (decodeOf (now (rec .entry))) (setsIn (now (recs .entry)) (now (places .entry)) k)) ⌝ }
 {
     let v = vector_in(rec);
     let own = name_of(rec);
-    let mut plain: u64 = 0;
-    let mut seen: u64 = 0;
-    let mut i: usize = 0;
-    while i < k {
-        let b = is_seen(names[i], own, &v);
-        plain = marked_if(is_conflict_unless(b, recs, places[i], rec), plain, i);
-        seen = marked_if(b, seen, i);
-        i += 1;
-    }
+    let seen = seen::seen_of(names, sees, k, own, &v);
+    let all = seen::first(k);
+    let others = group_step::without(all, seen);
+    let plain = seen::plain_of(recs, places, others, rec);
     Marks { plain, seen }
 }
 
@@ -183,17 +148,26 @@ fn marks_one_by_one(names: &[u32], k: usize, x: u32) -> u64
     m
 }
 
-// The same: the sum of their places tells which they are where they are one at most, and is worked out faster.
+// The same: the sum of their places tells which they are where they are one at most, and is worked out faster, the more
+// so by whole eights of names; one past the k first does not count.
 fn marks_of_name(names: &[u32], k: usize, x: u32) -> u64
     requires { ⌜ (k ≤ mostSets) × (k ≤ length (now names)) ⌝ }
     ensures { λ r. ⌜ r ≡ marksOfName (now (names .entry)) k x ⌝ }
 {
-    let t = sum_of_name(names, k, x);
+    let m = (k + 7) / 8 * 8;
+    if names.len() < m {
+        return marks_one_by_one(names, k, x);
+    }
+    let t = sum_of_name(names, m, x);
     if t == 0 {
         return 0;
     }
     if t < 2 * FOUND {
-        return group_step::only((t - FOUND) as usize);
+        let p = (t - FOUND) as usize;
+        if k <= p {
+            return 0;
+        }
+        return group_step::only(p);
     }
     marks_one_by_one(names, k, x)
 }

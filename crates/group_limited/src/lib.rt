@@ -3,6 +3,7 @@
 // are taken one after another, each by the rows that tell of those before it: bit j of `plain[i]` says that Sets i and
 // j conflict by document 01's rule, and `ctx[i]` is the context of Set i.
 pub mod earlier;
+mod seen;
 
 use earlier::list_of;
 use earlier::marks_of;
@@ -23,13 +24,17 @@ ghost use Rattle.edit_record.specs.declared.Edit.{Edit};
 ghost use Rattle.edit_record.specs.RecordBytes.{decodeOf};
 ghost use Rattle.edit_record.specs.Answer1.{isLimited};
 ghost use Rattle.edit_causal.specs.Conflict.{boxOn};
-ghost use Rattle.edit_causal.specs.ConflictForms.{plainMarks};
+ghost use Rattle.edit_causal.specs.ConflictForms.{Proper, plainMarks};
 ghost use Rattle.edit_history.specs.EditsHeld.{recordAt};
 ghost use Rattle.edit_history.specs.Answer16.{namelessAmong};
 ghost use Rattle.group_step.specs.GroupRows.{mostSets};
+ghost use Rattle.group_context.specs.RowsOfBox.{whatIsLeft};
 ghost use Rattle.group_limited.specs.LimitedForms.{
   setsIn,
+  mostRecent,
   NamesIn,
+  SeesTell,
+  SightedTo,
   SightOf,
   withMark,
   RowsTell,
@@ -37,6 +42,9 @@ ghost use Rattle.group_limited.specs.LimitedForms.{
   JudgedOf,
   namedInTurn,
 };
+
+// Of so many Sets of an object, the last ones, it is kept what their authors had seen.
+pub const RECENT: usize = 16;
 
 // What is asked of each of the Sets before a Set: bit i of `plain` says that the i-th conflicts with it by document
 // 01's rule, and of `seen` that its author had seen the i-th.
@@ -60,10 +68,11 @@ pub struct Sight {
     pub limited: bool,
 }
 
-// What is told of a Set by those before it: those that conflict with it by document 01's rule, its context, whether 16
-// is given to it, and those that conflict with it.
+// What is told of a Set by those before it: those that conflict with it by document 01's rule, those that its author
+// had seen, its context, whether 16 is given to it, and those that conflict with it.
 pub struct Told {
     pub row: u64,
+    pub seen: u64,
     pub context: u64,
     pub nameless: bool,
     pub conflicts: u64,
@@ -90,15 +99,17 @@ pub fn is_any_limited(recs: &[u8], places: &[u16], k: usize) -> bool
 }
 
 // What is asked of the Sets in the k first places, whose names these are, for that of rec, which comes after them.
-fn sight_of(recs: &[u8], places: &[u16], names: &[u32], k: usize, rec: &[u8]) -> Sight
+fn sight_of(recs: &[u8], places: &[u16], names: &[u32], sees: &[u64], k: usize, rec: &[u8]) -> Sight
     requires { ⌜ (k ≤ mostSets)
         × (k ≤ length (now places))
         × (k ≤ length (now names))
+        × (mostRecent ≤ length (now sees))
         × NamesIn (now recs) (now places) k (now names) ⌝ }
-    ensures { λ r.
-        ⌜ SightOf (setsIn (now (recs .entry)) (now (places .entry)) k) (decodeOf (now (rec .entry))) r ⌝ }
+    ensures { λ r. ⌜ (r .plain < 2 ^ k) × SightedTo (setsIn (now (recs .entry)) (now (places .entry)) k)
+        (decodeOf (now (rec .entry))) (now (sees .entry))
+        (SightOf (setsIn (now (recs .entry)) (now (places .entry)) k) (decodeOf (now (rec .entry))) r) ⌝ }
 {
-    let m = marks_of(recs, places, names, k, rec);
+    let m = marks_of(recs, places, names, sees, k, rec);
     let l = list_of(recs, places, names, k, m.seen, rec);
     Sight {
         plain: m.plain,
@@ -110,57 +121,59 @@ fn sight_of(recs: &[u8], places: &[u16], names: &[u32], k: usize, rec: &[u8]) ->
 }
 
 // The same for the Set in place p.
-fn sight_at(recs: &[u8], places: &[u16], names: &[u32], k: usize, p: u16) -> Sight
+fn sight_at(recs: &[u8], places: &[u16], names: &[u32], sees: &[u64], k: usize, p: u16) -> Sight
     requires { ⌜ (k ≤ mostSets)
         × (k ≤ length (now places))
         × (k ≤ length (now names))
+        × (mostRecent ≤ length (now sees))
         × NamesIn (now recs) (now places) k (now names) ⌝ }
-    ensures { λ r.
-        ⌜ SightOf (setsIn (now (recs .entry)) (now (places .entry)) k) (recordAt (now (recs .entry)) p) r ⌝ }
+    ensures { λ r. ⌜ (r .plain < 2 ^ k) × SightedTo (setsIn (now (recs .entry)) (now (places .entry)) k)
+        (recordAt (now (recs .entry)) p) (now (sees .entry))
+        (SightOf (setsIn (now (recs .entry)) (now (places .entry)) k) (recordAt (now (recs .entry)) p) r) ⌝ }
 {
     let at = p as usize * PLACE;
     if at <= recs.len() {
-        sight_of(recs, places, names, k, &recs[at..])
+        sight_of(recs, places, names, sees, k, &recs[at..])
     } else {
-        sight_of(recs, places, names, k, &recs[..0])
+        sight_of(recs, places, names, sees, k, &recs[..0])
     }
 }
 
-// The context of a Set after the n first, whose rows these are, by its sight of them.
-fn context_by(plain: &[u64], ctx: &[u64], n: usize, s: Sight) -> u64
-    requires { ⌜ (n ≤ mostSets) × (n ≤ length (now plain)) × (n ≤ length (now ctx)) ⌝ }
+// What is left of what the author of a Set had seen, by its sight of those before it, whose rows these are: its
+// context, if it names a version.
+fn left_by(plain: &[u64], ctx: &[u64], s: Sight) -> u64
     ensures { λ r.
-        ⌜ ((ms : List Edit) (e : Edit) → length ms ≡ n → RowsTell ms (now (plain .entry)) (now (ctx .entry)) →
-        SightOf ms e s → r ≡ context (boxOn (ms ++ (e ∷ []))) n) ⌝ }
+        ⌜ ((ms : List Edit) (e : Edit) → length ms ≤ mostSets → RowsTell ms (now (plain .entry)) (now (ctx .entry)) →
+        SightOf ms e s → r ≡ whatIsLeft (boxOn (ms ++ (e ∷ []))) (length ms)) ⌝ }
 {
-    group_context::context_of(plain, ctx, n, s.seen, s.named, s.limited)
+    group_context::left_of(plain, ctx, s.seen, s.named, s.limited)
 }
 
-// Whether 16 is given to it, where `own` is its context.
-fn is_nameless(plain: &[u64], ctx: &[u64], n: usize, s: Sight, own: u64) -> bool
-    requires { ⌜ (n ≤ mostSets) × (n ≤ length (now plain)) × (n ≤ length (now ctx)) ⌝ }
+// Whether 16 is given to it, where `own` is left.
+fn is_nameless(plain: &[u64], s: Sight, own: u64) -> bool
     ensures { λ r.
-        ⌜ ((ms : List Edit) (e : Edit) → length ms ≡ n → RowsTell ms (now (plain .entry)) (now (ctx .entry)) →
-        SightOf ms e s → own ≡ context (boxOn (ms ++ (e ∷ []))) n →
+        ⌜ ((ms : List Edit) (e : Edit) (cs : List ℕ) → RowsTell ms (now (plain .entry)) cs → SightOf ms e s →
+        own ≡ whatIsLeft (boxOn (ms ++ (e ∷ []))) (length ms) →
         Lawful (boxOn (ms ++ (e ∷ []))) (suc (length ms)) → AllNamed (boxOn ms) (length ms) →
         r ≡ namelessAmong ms e) ⌝ }
 {
-    let names = group_context::names_version(plain, ctx, n, s.seen, s.named, s.limited, own);
+    let names = group_context::names_version(plain, s.seen, s.named, s.limited, own);
     s.limited & (s.strange | !names)
 }
 
-// What is told of it.
+// What is told of a Set after the n first, whose rows these are, by its sight of them.
 fn told_by(plain: &[u64], ctx: &[u64], n: usize, s: Sight) -> Told
     requires { ⌜ (n ≤ mostSets) × (n ≤ length (now plain)) × (n ≤ length (now ctx)) ⌝ }
-    ensures { λ r.
-        ⌜ ((ms : List Edit) (e : Edit) → length ms ≡ n → RowsTell ms (now (plain .entry)) (now (ctx .entry)) →
-        SightOf ms e s → ToldOf ms e r) ⌝ }
+    ensures { λ r. ⌜ (r .row ≡ s .plain)
+        × ((ms : List Edit) (e : Edit) → length ms ≡ n → RowsTell ms (now (plain .entry)) (now (ctx .entry)) →
+        SightOf ms e s → Lawful (boxOn (ms ++ (e ∷ []))) (suc (length ms)) → ToldOf ms e r) ⌝ }
 {
-    let own = context_by(plain, ctx, n, s);
-    let nameless = is_nameless(plain, ctx, n, s, own);
+    let own = left_by(plain, ctx, s);
+    let nameless = is_nameless(plain, s, own);
     let conflicts = group_context::conflicts_of(plain, ctx, n, s.plain, own);
     Told {
         row: s.plain,
+        seen: s.seen,
         context: own,
         nameless,
         conflicts,
@@ -172,6 +185,7 @@ pub fn told_at(
     recs: &[u8],
     places: &[u16],
     names: &[u32],
+    sees: &[u64],
     n: usize,
     plain: &[u64],
     ctx: &[u64],
@@ -180,14 +194,16 @@ pub fn told_at(
     requires { ⌜ (n ≤ mostSets)
         × (n ≤ length (now places))
         × (n ≤ length (now names))
+        × (mostRecent ≤ length (now sees))
         × (n ≤ length (now plain))
         × (n ≤ length (now ctx))
         × NamesIn (now recs) (now places) n (now names) ⌝ }
-    ensures { λ r.
-        ⌜ (RowsTell (setsIn (now (recs .entry)) (now (places .entry)) n) (now (plain .entry)) (now (ctx .entry)) →
+    ensures { λ r. ⌜ (r .row < 2 ^ n) × SightedTo (setsIn (now (recs .entry)) (now (places .entry)) n)
+        (recordAt (now (recs .entry)) p) (now (sees .entry))
+        (RowsTell (setsIn (now (recs .entry)) (now (places .entry)) n) (now (plain .entry)) (now (ctx .entry)) →
         ToldOf (setsIn (now (recs .entry)) (now (places .entry)) n) (recordAt (now (recs .entry)) p) r) ⌝ }
 {
-    let s = sight_at(recs, places, names, n, p);
+    let s = sight_at(recs, places, names, sees, n, p);
     told_by(plain, ctx, n, s)
 }
 
@@ -230,10 +246,12 @@ pub fn put_told(plain: &mut [u64], ctx: &mut [u64], n: usize, row: u64, own: u64
     ctx[n] = own;
 }
 
-// Puts down the rows of the Sets in the k first places, whose names these are, each by those before it.
+// Puts down the rows of the Sets in the k first places, whose names these are, each by those before it, and in `sees`
+// what the authors of the last of them had seen.
 pub fn put_rows(
     plain: &mut [u64],
     ctx: &mut [u64],
+    sees: &mut [u64],
     recs: &[u8],
     places: &[u16],
     names: &[u32],
@@ -244,15 +262,18 @@ pub fn put_rows(
         × (k ≤ length (now names))
         × (k ≤ length (now plain))
         × (k ≤ length (now ctx))
+        × (mostRecent ≤ length (now sees))
         × NamesIn (now recs) (now places) k (now names) ⌝ }
-    ensures { λ r.
-        ⌜ RowsTell (setsIn (now (recs .entry)) (now (places .entry)) k) (now (plain .exit)) (now (ctx .exit)) ⌝ }
+    ensures { λ r. ⌜ (Proper (setsIn (now (recs .entry)) (now (places .entry)) k) →
+        RowsTell (setsIn (now (recs .entry)) (now (places .entry)) k) (now (plain .exit)) (now (ctx .exit))
+        × SeesTell (setsIn (now (recs .entry)) (now (places .entry)) k) (now (sees .exit))) ⌝ }
 {
     let mut i: usize = 0;
     while i < k {
-        let s = sight_at(recs, places, names, i, places[i]);
-        let own = context_by(plain, ctx, i, s);
+        let s = sight_at(recs, places, names, sees, i, places[i]);
+        let own = left_by(plain, ctx, s);
         put_told(plain, ctx, i, s.plain, own);
+        sees[i % RECENT] = s.seen;
         i += 1;
     }
 }
@@ -266,10 +287,11 @@ pub fn judge(recs: &[u8], places: &[u16], k: usize, rec: &[u8]) -> Judged
     // what work space holds at first does not matter; zeros would be set by memset (docs/DECISIONS.md, 24)
     let mut plain = [1u64; SETS];
     let mut ctx = [1u64; SETS];
+    let mut sees = [1u64; RECENT];
     let mut names = [1u32; SETS];
     put_names(&mut names, recs, places, k);
-    put_rows(&mut plain, &mut ctx, recs, places, &names, k);
-    let s = sight_of(recs, places, &names, k, rec);
+    put_rows(&mut plain, &mut ctx, &mut sees, recs, places, &names, k);
+    let s = sight_of(recs, places, &names, &sees, k, rec);
     let t = told_by(&plain, &ctx, k, s);
     Judged {
         nameless: t.nameless,
@@ -281,6 +303,7 @@ pub fn judge(recs: &[u8], places: &[u16], k: usize, rec: &[u8]) -> Judged
 fn are_named_with(
     plain: &mut [u64],
     ctx: &mut [u64],
+    sees: &mut [u64],
     recs: &[u8],
     places: &[u16],
     names: &[u32],
@@ -291,6 +314,7 @@ fn are_named_with(
         × (k ≤ length (now names))
         × (k ≤ length (now plain))
         × (k ≤ length (now ctx))
+        × (mostRecent ≤ length (now sees))
         × NamesIn (now recs) (now places) k (now names) ⌝ }
     ensures { λ r.
         ⌜ (Lawful (boxOn (setsIn (now (recs .entry)) (now (places .entry)) k)) k →
@@ -298,22 +322,24 @@ fn are_named_with(
 {
     let mut i: usize = 0;
     while i < k {
-        let s = sight_at(recs, places, names, i, places[i]);
-        let own = context_by(plain, ctx, i, s);
-        if is_nameless(plain, ctx, i, s, own) {
+        let s = sight_at(recs, places, names, sees, i, places[i]);
+        let own = left_by(plain, ctx, s);
+        if is_nameless(plain, s, own) {
             return false;
         }
         put_told(plain, ctx, i, s.plain, own);
+        sees[i % RECENT] = s.seen;
         i += 1;
     }
     true
 }
 
-// Whether 16 is given to none of the Sets in the k first places, each after those before it. Their names and their rows
-// are put down in what is lent.
+// Whether 16 is given to none of the Sets in the k first places, each after those before it. Their names, their rows
+// and what their authors had seen are put down in what is lent.
 pub fn are_named(
     plain: &mut [u64],
     ctx: &mut [u64],
+    sees: &mut [u64],
     names: &mut [u32],
     recs: &[u8],
     places: &[u16],
@@ -323,11 +349,12 @@ pub fn are_named(
         × (k ≤ length (now places))
         × (k ≤ length (now names))
         × (k ≤ length (now plain))
-        × (k ≤ length (now ctx)) ⌝ }
+        × (k ≤ length (now ctx))
+        × (mostRecent ≤ length (now sees)) ⌝ }
     ensures { λ r.
         ⌜ (Lawful (boxOn (setsIn (now (recs .entry)) (now (places .entry)) k)) k →
         r ≡ namedInTurn (setsIn (now (recs .entry)) (now (places .entry)) k)) ⌝ }
 {
     put_names(names, recs, places, k);
-    are_named_with(plain, ctx, recs, places, names, k)
+    are_named_with(plain, ctx, sees, recs, places, names, k)
 }

@@ -1,5 +1,5 @@
--- The chain followed from a Create: k places have been put down, and from the entry v it goes through the rest. They are
--- those of the Sets on the Create. Assumes nothing.
+-- The chain followed from a Create: k places have been put down, and from the entry v it goes through the rest. They
+-- are those of the Sets on the Create. Assumes nothing.
 use mathlib.Core.Path.{_≡_, refl, sym, ap, subst, _∙_}
 use mathlib.Core.Logic.{_⊎_, inl, inr}
 use mathlib.Core.Bool.{Bool, true, false, not, _&&_, cond}
@@ -86,7 +86,8 @@ module _ (rs : List ℕ) (p : ℕ) where
   f = isSetOn (recordAt rs p .site) (recordAt rs p .seq)
 
   sets-kept :
-      (n : ℕ) → map (recordAt rs) (keep n (isOn rs p)) ≡ setsOn (recordAt rs p .site) (recordAt rs p .seq) (editsOf rs n)
+      (n : ℕ) → map (recordAt rs) (keep n (isOn rs p)) ≡ setsOn (recordAt rs p .site) (recordAt rs p .seq)
+      (editsOf rs n)
   unfolding keep setsOn editsOf filter
   sets-kept zero = refl
   sets-kept (suc n) =

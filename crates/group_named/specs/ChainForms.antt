@@ -1,6 +1,6 @@
--- The chain of the Sets of each object, ch: the entry of a Create has the place of the first Set on it, and the entry of
--- a Set the place of the next one on the same Create; 0 says that there is none. No one need believe it: laws in proofs/
--- tie it to `setsOn`. Assumes nothing.
+-- The chain of the Sets of each object, ch: the entry of a Create has the place of the first Set on it, and the entry
+-- of a Set the place of the next one on the same Create; 0 says that there is none. No one need believe it: laws in
+-- proofs/ tie it to `setsOn`. Assumes nothing.
 use mathlib.Core.Path.{_≡_}
 use mathlib.Core.Bool.{Bool, true, _&&_, cond}
 use mathlib.Core.List.{List, [], _∷_}

@@ -6,6 +6,7 @@ mod chain;
 use edit_history::RECORDS;
 use edit_record::CREATE;
 use edit_record::LIMITED;
+use group_limited::RECENT;
 use group_step::SETS;
 ghost use mathlib.Core.Path.{_≡_};
 ghost use mathlib.Core.Bool.{true};
@@ -22,6 +23,7 @@ ghost use Rattle.edit_history.specs.Answers2to5.{recordsPass};
 ghost use Rattle.edit_history.specs.Answer16.{recordsNamed};
 ghost use Rattle.edit_walk.specs.WalkForms.{Indexed};
 ghost use Rattle.group_step.specs.GroupRows.{mostSets};
+ghost use Rattle.group_limited.specs.LimitedForms.{mostRecent};
 ghost use Rattle.group_named.specs.ChainForms.{TargetsHeld, ByteChained};
 ghost use Rattle.group_named.specs.NamedForms.{FewSets, LawfulSets, isNamedAt};
 
@@ -39,12 +41,13 @@ fn is_limited_held(recs: &[u8], n: usize) -> bool
     found
 }
 
-// Whether 16 is given to none of the Sets on the Create in place p, which the chain goes through, each after those before
-// it; there is nothing to ask of another edit. The rest of what is lent is work space.
+// Whether 16 is given to none of the Sets on the Create in place p, which the chain goes through, each after those
+// before it; there is nothing to ask of another edit. The rest of what is lent is work space.
 fn are_named_at(
     members: &mut [u16],
     plain: &mut [u64],
     ctx: &mut [u64],
+    sees: &mut [u64],
     names: &mut [u32],
     recs: &[u8],
     n: usize,
@@ -57,6 +60,7 @@ fn are_named_at(
         × (mostSets ≤ length (now members))
         × (mostSets ≤ length (now plain))
         × (mostSets ≤ length (now ctx))
+        × (mostRecent ≤ length (now sees))
         × (mostSets ≤ length (now names)) ⌝ }
     ensures { λ r.
         ⌜ (ByteChained (now (recs .entry)) n (now (chain .entry)) → LawfulSets (editsOf (now (recs .entry)) n) →
@@ -69,7 +73,7 @@ fn are_named_at(
     if !group_limited::is_any_limited(recs, members, k) {
         return true;
     }
-    group_limited::are_named(plain, ctx, names, recs, members, k)
+    group_limited::are_named(plain, ctx, sees, names, recs, members, k)
 }
 
 // The same for each of the first n records.
@@ -77,6 +81,7 @@ fn are_named_each(
     members: &mut [u16],
     plain: &mut [u64],
     ctx: &mut [u64],
+    sees: &mut [u64],
     names: &mut [u32],
     recs: &[u8],
     n: usize,
@@ -87,6 +92,7 @@ fn are_named_each(
         × (mostSets ≤ length (now members))
         × (mostSets ≤ length (now plain))
         × (mostSets ≤ length (now ctx))
+        × (mostRecent ≤ length (now sees))
         × (mostSets ≤ length (now names)) ⌝ }
     ensures { λ r.
         ⌜ (ByteChained (now (recs .entry)) n (now (chain .entry)) → LawfulSets (editsOf (now (recs .entry)) n) →
@@ -95,7 +101,7 @@ fn are_named_each(
     let mut named = true;
     let mut i: usize = 0;
     while i < n {
-        let own = are_named_at(members, plain, ctx, names, recs, n, chain, i);
+        let own = are_named_at(members, plain, ctx, sees, names, recs, n, chain, i);
         named = named & own;
         i += 1;
     }
@@ -115,11 +121,13 @@ fn are_boxes_named(recs: &[u8], n: usize, places: &[u16]) -> bool
     let mut members = [1u16; SETS];
     let mut plain = [1u64; SETS];
     let mut ctx = [1u64; SETS];
+    let mut sees = [1u64; RECENT];
     let mut names = [1u32; SETS];
     are_named_each(
         &mut members,
         &mut plain,
         &mut ctx,
+        &mut sees,
         &mut names,
         recs,
         n,

@@ -9,7 +9,7 @@ use lib.Seq.{take-at}
 use borrow.Author.Tests.{ne-eqb}
 use Rattle.table_drawing.specs.Tables.{Tables, emptyDrawing}
 use Rattle.table_soundness.specs.Sound.{sound}
-use Rattle.table_replay.specs.Replay.{Replayed, replayed}
+use Rattle.table_given.specs.Replay.{Replayed, replayed}
 use Rattle.block_store.specs.Reading.{readingOf}
 use Rattle.block_store.proofs.RoundTrips.{accepted-sound}
 use Rattle.list_text.specs.HeadAndRefusal.{refusalLine}

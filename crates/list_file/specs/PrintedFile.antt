@@ -5,7 +5,7 @@ use mathlib.Core.List.{List}
 use Prim.Native.Nat.{ℕ}
 use lib.Dec.{eqb}
 use Rattle.table_drawing.specs.Tables.{emptyDrawing}
-use Rattle.table_replay.specs.Replay.{Replayed}
+use Rattle.table_given.specs.Replay.{Replayed}
 use Rattle.block_store.specs.Reading.{readingOf}
 use Rattle.list_text.specs.HeadAndRefusal.{refusalLine}
 use Rattle.list_print.specs.Printing.{listOf}

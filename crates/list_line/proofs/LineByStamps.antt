@@ -1,6 +1,6 @@
 -- The line from the Sets in dispute and the stamps is the version's line: the largest stamp of the members with a key
 -- is that of the last one, and it holds its value. Assumes that the Sets have different names, and are not too many.
-use mathlib.Core.Path.{_≡_, refl, ap, ap₂}
+use mathlib.Core.Path.{_≡_, refl, ap₂}
 use mathlib.Core.List.{List, [], _∷_, _++_}
 use Prim.Native.Nat.{ℕ, zero, suc, _-_, _%_, _≤_}
 use native.Mathlib.Omega.{arith}
@@ -10,8 +10,8 @@ use Rattle.edit_record.specs.declared.Edit.{Edit}
 use Rattle.edit_record.specs.Layout.{keys}
 use Rattle.group_step.specs.GroupRows.{mostSets}
 use Rattle.list_version.specs.Values.{lastWith}
-use Rattle.list_version.specs.VersionForms.{values, disputesIn, Stamped, largestBy, LargestOf}
-use Rattle.list_line.specs.LineForms.{stampText, settingsBy, settingsOf, lineBy, lineWith}
+use Rattle.list_version.specs.VersionForms.{values, disputesIn, Stamped, largestBy}
+use Rattle.list_line.specs.LineForms.{stampText, settingsBy, lineBy}
 use Rattle.list_line.specs.Line.{settingText, settingsText, versionLine}
 use Rattle.list_version.proofs.LastMember.{last-all}
 use Rattle.list_version.proofs.IdentifiersByDisputes.{identifier-by}
@@ -41,16 +41,3 @@ module _ (ms : List Edit) (stamps : List ℕ) (all : Stamped ms stamps) (g : ℕ
       lineBy (c .site .0) (c .seq .0) (disputesIn ms) stamps g ≡ versionLine c ms g
   unfolding lineBy versionLine
   line-by c differ few long = rw (identifier-by ms differ few g, settings-by long keys (omega arith))
-
--- ---- the same, by the largest stamp of each key
-
-pub line-with :
-    (s q : ℕ) (xs best stamps : List ℕ) (g : ℕ) → LargestOf best stamps g →
-    lineWith s q xs best g ≡ lineBy s q xs stamps g
-unfolding lineWith lineBy settingsOf settingsBy
-line-with s q xs best stamps g largest = rw (settings-with keys (omega arith))
-  where
-    settings-with : (k : ℕ) → k ≤ keys → settingsOf best k ≡ settingsBy stamps g k
-    settings-with zero h = refl
-    settings-with (suc k) h =
-        ap₂ (λ (a b : List ℕ). a ++ b) (settings-with k (omega arith)) (ap (stampText k) (largest k (omega arith)))

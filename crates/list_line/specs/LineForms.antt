@@ -27,15 +27,6 @@ unfoldable pub lineBy : ℕ → ℕ → List ℕ → List ℕ → ℕ → List �
 lineBy s q xs stamps g =
     dotted s q ++ ((space ∷ identifierText (identifierBy xs g)) ++ (settingsBy stamps g keys ++ (newline ∷ [])))
 
--- the same, where the largest stamp of each key is known
-unfoldable pub settingsOf : List ℕ → ℕ → List ℕ
-settingsOf best zero = []
-settingsOf best (suc k) = settingsOf best k ++ stampText k (getD best k 0)
-
-unfoldable pub lineWith : ℕ → ℕ → List ℕ → List ℕ → ℕ → List ℕ
-lineWith s q xs best g =
-    dotted s q ++ ((space ∷ identifierText (identifierBy xs g)) ++ (settingsOf best keys ++ (newline ∷ [])))
-
 -- ---- pieces that are kept from line to line: a setting of each key, then a name for each Set in dispute
 
 -- the bytes of the place of a piece, and how many places there are

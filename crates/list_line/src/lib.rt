@@ -1,5 +1,5 @@
-// The line of a version. The Sets of the object are given twice: those in dispute by their names, and the largest stamp
-// of each key among the version's members. Pieces of it are kept for the lines that follow.
+// The line of a version. The Sets of the object are given twice: those in dispute by their names, and all by their
+// stamps. Pieces of it are kept for the lines that follow.
 pub mod pieces;
 
 use group_step::SETS;
@@ -13,6 +13,7 @@ use list_text::put_dotted;
 use list_version::ALL_KEYS;
 use list_version::sets::NUMBERS;
 use list_version::sets::is_member;
+use list_version::values::last_of;
 use pieces::PIECE;
 use pieces::is_kept;
 use pieces::put_anew;
@@ -27,8 +28,8 @@ ghost use Rattle.group_step.specs.GroupRows.{mostSets};
 ghost use Rattle.list_text.specs.Pieces.{space, plus, dottedLength, equatedLength};
 ghost use Rattle.list_line.specs.Line.{nameText, identifierText};
 ghost use Rattle.list_line.specs.Line.{identifierLength, settingsLength, lineLength};
-ghost use Rattle.list_version.specs.VersionForms.{nameBy, isIn, identifierBy};
-ghost use Rattle.list_line.specs.LineForms.{stampText, settingsOf, lineWith, pieceLength, Kept};
+ghost use Rattle.list_version.specs.VersionForms.{nameBy, isIn, identifierBy, KeyedBy};
+ghost use Rattle.list_line.specs.LineForms.{stampText, settingsBy, lineBy, pieceLength, Kept};
 
 // The bytes that a line has at most: the Create; for each Set a separator and its name; for each key a space, the key,
 // `=` and the value; and a newline.
@@ -151,32 +152,43 @@ fn put_setting(
     put_anew(out, n, texts, lens, told, key, s)
 }
 
-// Puts ` key=value` for each key that is set, ascending, by the largest stamp of each.
+// Puts ` key=value` for each key that a member of g sets, ascending, by the stamps of the t Sets and what is noted of
+// their keys.
 fn put_settings(
     out: &mut [u8],
     n: usize,
     texts: &mut [u8],
     lens: &mut [u8],
     told: &mut [u64],
-    best: [u64; ALL_KEYS],
+    stamps: &[u64],
+    t: usize,
+    keyed: &[u64],
+    peaks: u64,
+    g: u64,
 ) -> usize
     requires { ⌜ (n + settingsLength + pieceLength ≤ length (now out))
-        × Kept (now texts) (now lens) (now told) ⌝ }
-    ensures { λ r. ⌜ (take r (now (out .exit)) ≡ take n (now (out .entry)) ++ settingsOf best keys)
+        × Kept (now texts) (now lens) (now told)
+        × (t ≤ length (now stamps))
+        × (t ≤ mostSets)
+        × (keys ≤ length (now keyed))
+        × KeyedBy (now stamps) (now keyed) peaks t ⌝ }
+    ensures { λ r. ⌜ (take r (now (out .exit))
+        ≡ take n (now (out .entry)) ++ settingsBy (take t (now (stamps .entry))) g keys)
         × (r ≤ n + settingsLength)
         × Kept (now (texts .exit)) (now (lens .exit)) (now (told .exit)) ⌝ }
 {
     let mut w = n;
     let mut k: usize = 0;
     while k < ALL_KEYS {
-        w = put_setting(out, w, texts, lens, told, k, best[k]);
+        let s = last_of(stamps, t, keyed, peaks, g, k);
+        w = put_setting(out, w, texts, lens, told, k, s);
         k += 1;
     }
     w
 }
 
-// Puts at the front the line of the version g of the object whose Create is site.seq, by the d Sets in dispute and the
-// largest stamp of each key; says how many bytes it has.
+// Puts at the front the line of the version g of the object whose Create is site.seq, by the d Sets in dispute, the
+// stamps of the t Sets and what is noted of their keys; says how many bytes it has.
 pub fn put_line(
     out: &mut [u8],
     texts: &mut [u8],
@@ -186,19 +198,27 @@ pub fn put_line(
     seq: u16,
     disputes: &[u64],
     d: usize,
-    best: [u64; ALL_KEYS],
+    stamps: &[u64],
+    t: usize,
+    keyed: &[u64],
+    peaks: u64,
     g: u64,
 ) -> usize
     requires { ⌜ (d ≤ length (now disputes))
         × (d ≤ mostSets)
         × (lineLength + pieceLength ≤ length (now out))
-        × Kept (now texts) (now lens) (now told) ⌝ }
-    ensures { λ r. ⌜ (take r (now (out .exit)) ≡ lineWith site seq (take d (now (disputes .entry))) best g)
+        × Kept (now texts) (now lens) (now told)
+        × (t ≤ length (now stamps))
+        × (t ≤ mostSets)
+        × (keys ≤ length (now keyed))
+        × KeyedBy (now stamps) (now keyed) peaks t ⌝ }
+    ensures { λ r. ⌜ (take r (now (out .exit))
+        ≡ lineBy site seq (take d (now (disputes .entry))) (take t (now (stamps .entry))) g)
         × (r ≤ lineLength)
         × Kept (now (texts .exit)) (now (lens .exit)) (now (told .exit)) ⌝ }
 {
     let a = put_dotted(out, 0, site, seq);
     let b = put_identifier(out, a, texts, lens, told, disputes, d, g);
-    let w = put_settings(out, b, texts, lens, told, best);
+    let w = put_settings(out, b, texts, lens, told, stamps, t, keyed, peaks, g);
     put_byte(out, w, NEWLINE)
 }

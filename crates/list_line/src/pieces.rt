@@ -1,6 +1,6 @@
 // Pieces of lines that are kept from line to line, since the lines of an object have most of them in common: a setting
-// of each key, and the names of the Sets in dispute. A piece is formed anew only where the last one in its place was told
-// by another number. It is copied whole, with what stands behind it: that is written over next.
+// of each key, and the names of the Sets in dispute. A piece is formed anew only where the last one in its place was
+// told by another number. It is copied whole, with what stands behind it: that is written over next.
 use edit_causal::shown;
 use edit_record::VALUES;
 use group_step::SETS;

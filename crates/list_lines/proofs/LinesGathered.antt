@@ -17,6 +17,7 @@ use Rattle.math_lists.proofs.NumbersBelow.{keep-at}
 use Rattle.math_lists.proofs.Elements.{any-off}
 use Rattle.math_lists.proofs.ByPlaces.{any-place-on}
 use Rattle.math_lists.proofs.PutInOrder.{any-gathered, gathered-length}
+use Rattle.edit_record.specs.Layout.{keys}
 use Rattle.group_step.specs.GroupRows.{mostSets, mostGroups}
 use Rattle.table_drawing.specs.Tables.{Tables}
 use Rattle.table_soundness.proofs.SoundFacts.{Sound}
@@ -31,20 +32,22 @@ use Rattle.list_objects.specs.ObjectForms.{goesFirst, GatheredOf}
 use Rattle.list_objects.proofs.GatheredIs.{names-differ}
 use Rattle.list_objects.proofs.KeysByTops.{in-order}
 use Rattle.list_lines.specs.List.{linesFor}
-use Rattle.list_lines.specs.LinesForms.{Ready, lineIn}
+use Rattle.list_lines.specs.LinesForms.{LongEnough, lineIn}
 
 -- ---- what is gathered of an object
 
-module _ (t : Tables) (s : Sound t) (o : ℕ) (low : o < t .counters .objects) (g : Gathered) (ds ss vs : List ℕ)
-    (f : GatheredOf t o g ds ss vs) (disputes-long : mostSets ≤ length ds) (stamps-long : mostSets ≤ length ss)
-    (versions-long : mostGroups ≤ length vs) where
-  pub gathered-ready : Ready g ds ss vs
+module _ (t : Tables) (s : Sound t) (o : ℕ) (low : o < t .counters .objects) (g : Gathered) (ds ss ks vs : List ℕ)
+    (f : GatheredOf t o g ds ss ks vs) (disputes-long : mostSets ≤ length ds) (stamps-long : mostSets ≤ length ss)
+    (keyed-long : keys ≤ length ks) (versions-long : mostGroups ≤ length vs) where
+  pub gathered-ready : LongEnough g ds ss ks vs
   gathered-ready =
       record {
         few = f .few-sets;
         disputed = f .few-disputes;
         disputes-long = disputes-long;
         stamps-long = stamps-long;
+        keyed-long = keyed-long;
+        keyed = f .keyed;
         versions-long = versions-long;
       }
 

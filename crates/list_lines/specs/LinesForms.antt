@@ -10,7 +10,9 @@ use Rattle.math_lists.specs.NumbersBelow.{sum}
 use Rattle.group_step.specs.GroupRows.{mostSets, mostGroups}
 use Rattle.table_drawing.specs.declared.Counters.{Counters}
 use Rattle.table_drawing.specs.Tables.{Tables, groupsAt}
+use Rattle.edit_record.specs.Layout.{keys}
 use Rattle.list_text.specs.HeadAndRefusal.{headLine}
+use Rattle.list_version.specs.VersionForms.{KeyedBy}
 use Rattle.list_line.specs.Line.{lineLength}
 use Rattle.list_line.specs.LineForms.{lineBy}
 use Rattle.list_objects.specs.declared.Gathered.{Gathered}
@@ -21,12 +23,14 @@ use Rattle.list_lines.specs.List.{linesFor}
 
 -- ---- the lines of what is gathered
 
--- the arrays are as long as they must be: the Sets in dispute, the stamps and the versions
-pub record Ready (g : Gathered) (ds ss vs : List ℕ) : Type 0 where
+-- the arrays are as long as they must be: the Sets in dispute, the stamps, the Sets of each key, and the versions
+pub record LongEnough (g : Gathered) (ds ss ks vs : List ℕ) : Type 0 where
   pub few : g .sets ≤ mostSets
   pub disputed : g .disputes ≤ mostSets
   pub disputes-long : mostSets ≤ length ds
   pub stamps-long : mostSets ≤ length ss
+  pub keyed-long : keys ≤ length ks
+  pub keyed : KeyedBy ss ks (g .peaks) (g .sets)
   pub versions-long : mostGroups ≤ length vs
 
 abbrev pub lineIn : Gathered → List ℕ → List ℕ → ℕ → List ℕ

@@ -10,7 +10,7 @@ use list_objects::Gathered;
 use list_objects::gather;
 use list_objects::order::sort_objects;
 use list_objects::put_sets;
-use list_version::values::largest;
+use list_version::ALL_KEYS;
 use table_drawing::Answer;
 use table_drawing::Counters;
 use table_drawing::ENTRY;
@@ -32,7 +32,7 @@ ghost use Rattle.list_line.specs.Line.{lineLength};
 ghost use Rattle.list_line.specs.LineForms.{pieceLength};
 ghost use Rattle.list_lines.specs.List.{linesFor, linesOf};
 ghost use Rattle.list_lines.specs.LineByNumber.{lineOf};
-ghost use Rattle.list_lines.specs.LinesForms.{Ready, lineIn, headOf, FoundIn, NumberedAs};
+ghost use Rattle.list_lines.specs.LinesForms.{LongEnough, lineIn, headOf, FoundIn, NumberedAs};
 
 // Where a line of a version is found: whether there is one, the object, and which of its versions it is.
 struct LinePlace {
@@ -112,10 +112,11 @@ fn put_version(
     g: Gathered,
     disputes: &[u64],
     stamps: &[u64],
+    keyed: &[u64],
     versions: &[u64],
     v: usize,
 ) -> usize
-    requires { ⌜ Ready g (now disputes) (now stamps) (now versions)
+    requires { ⌜ LongEnough g (now disputes) (now stamps) (now keyed) (now versions)
         × (v < mostGroups)
         × (lineLength + pieceLength ≤ length (now out)) ⌝ }
     ensures { λ r.
@@ -127,7 +128,6 @@ fn put_version(
     let mut texts = [1u8; PIECES * PIECE];
     let mut lens = [0u8; PIECES];
     let mut told = [0u64; PIECES];
-    let best = largest(stamps, g.sets, versions[v]);
     put_line(
         out,
         &mut texts,
@@ -137,7 +137,10 @@ fn put_version(
         g.seq,
         disputes,
         g.disputes,
-        best,
+        stamps,
+        g.sets,
+        keyed,
+        g.peaks,
         versions[v],
     )
 }
@@ -166,9 +169,11 @@ fn put_found(
     let mut disputes = [1u64; SETS];
     let mut stamps = [1u64; SETS];
     let mut versions = [1u64; GROUPS];
+    let mut keyed = [0u64; ALL_KEYS];
     let g = gather(
         &mut disputes,
         &mut stamps,
+        &mut keyed,
         &mut versions,
         c,
         records,
@@ -177,7 +182,7 @@ fn put_found(
         &places,
         o,
     );
-    put_version(out, g, &disputes, &stamps, &versions, v)
+    put_version(out, g, &disputes, &stamps, &keyed, &versions, v)
 }
 
 // Puts line k at the front of out, if there is one.

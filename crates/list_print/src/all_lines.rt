@@ -13,6 +13,7 @@ use list_lines::head;
 use list_objects::gather;
 use list_objects::order::sort_objects;
 use list_objects::put_chained;
+use list_version::ALL_KEYS;
 use table_drawing::Counters;
 use table_index::chain::CHAINS;
 ghost use mathlib.Core.Path.{_≡_};
@@ -76,9 +77,11 @@ fn put_object(
     // what work space holds at first does not matter; zeros would be set by memset (docs/DECISIONS.md, 24)
     let mut places = [1u16; SETS];
     put_chained(&mut places, c, records, objects, groups, chain, o);
+    let mut keyed = [0u64; ALL_KEYS];
     let g = gather(
         disputes,
         stamps,
+        &mut keyed,
         versions,
         c,
         records,
@@ -97,6 +100,7 @@ fn put_object(
         g,
         disputes,
         stamps,
+        &keyed,
         versions,
     )
 }

@@ -1,21 +1,16 @@
 // The lines of a gathered object, put into the output one behind another where they have room.
-use group_step::without;
 use list_line::put_line;
 use list_objects::Gathered;
-use list_version::ALL_KEYS;
-use list_version::sets::shared;
-use list_version::values::largest;
-use list_version::values::largest_with;
 use table_output::copy_in;
 use table_output::has_room;
 ghost use mathlib.Core.List.{map};
 ghost use Prim.Native.Nat.{_+_, _*_, _≤_, _<_};
-ghost use lib.ListN.{length, take};
-ghost use Rattle.group_step.specs.GroupRows.{mostSets, mostGroups};
+ghost use lib.ListN.{length, take, getD};
+ghost use Rattle.group_step.specs.GroupRows.{mostGroups};
 ghost use Rattle.list_line.specs.Line.{lineLength};
-ghost use Rattle.list_line.specs.LineForms.{pieceLength, lineWith, Kept};
+ghost use Rattle.list_line.specs.LineForms.{pieceLength, Kept};
 ghost use Rattle.list_print.specs.Printing.{joined, listLength};
-ghost use Rattle.list_lines.specs.LinesForms.{Ready, lineIn};
+ghost use Rattle.list_lines.specs.LinesForms.{LongEnough, lineIn};
 ghost use Rattle.list_print.specs.PrintForms.{Behind};
 
 // Puts the first k bytes of a line behind the first n bytes of out, if they have room there; says where they end, room
@@ -31,8 +26,8 @@ pub fn put_behind(out: &mut [u8], n: usize, line: &[u8], k: usize) -> usize
     n + k
 }
 
-// Puts the line of the version v of the object gathered behind the first n bytes, by the largest stamp of each key. The
-// line is formed in a buffer of its own, so that no other byte of out changes.
+// Puts the line of the v-th version of the object gathered behind the first n bytes. The line is formed in a buffer of
+// its own, so that no other byte of out changes.
 fn put_version(
     out: &mut [u8],
     line: &mut [u8],
@@ -42,16 +37,19 @@ fn put_version(
     n: usize,
     g: Gathered,
     disputes: &[u64],
-    best: [u64; ALL_KEYS],
-    v: u64,
+    stamps: &[u64],
+    keyed: &[u64],
+    versions: &[u64],
+    v: usize,
 ) -> usize
-    requires { ⌜ (g .disputes ≤ length (now disputes))
-        × (g .disputes ≤ mostSets)
+    requires { ⌜ LongEnough g (now disputes) (now stamps) (now keyed) (now versions)
+        × (v < mostGroups)
         × (n + lineLength ≤ listLength)
         × (lineLength + pieceLength ≤ length (now line))
         × Kept (now texts) (now lens) (now told) ⌝ }
     ensures { λ r. ⌜ Behind (now (out .entry)) n
-        (lineWith (g .site) (g .seq) (take (g .disputes) (now (disputes .entry))) best v) lineLength (now (out .exit)) r
+        (lineIn g (now (disputes .entry)) (now (stamps .entry)) (getD (now (versions .entry)) v 0)) lineLength
+        (now (out .exit)) r
         × Kept (now (texts .exit)) (now (lens .exit)) (now (told .exit)) ⌝ }
 {
     let k = put_line(
@@ -63,13 +61,16 @@ fn put_version(
         g.seq,
         disputes,
         g.disputes,
-        best,
-        v,
+        stamps,
+        g.sets,
+        keyed,
+        g.peaks,
+        versions[v],
     );
     put_behind(out, n, line, k)
 }
 
-// Puts the lines of all versions behind the first n bytes. What the Sets that all of them share set is found once.
+// Puts the lines of all versions behind the first n bytes.
 pub fn put_versions(
     out: &mut [u8],
     line: &mut [u8],
@@ -80,9 +81,10 @@ pub fn put_versions(
     g: Gathered,
     disputes: &[u64],
     stamps: &[u64],
+    keyed: &[u64],
     versions: &[u64],
 ) -> usize
-    requires { ⌜ Ready g (now disputes) (now stamps) (now versions)
+    requires { ⌜ LongEnough g (now disputes) (now stamps) (now keyed) (now versions)
         × (g .count ≤ mostGroups)
         × (n + mostGroups * lineLength ≤ listLength)
         × (lineLength + pieceLength ≤ length (now line))
@@ -92,13 +94,9 @@ pub fn put_versions(
         (take (g .count) (now (versions .entry))))) (g .count * lineLength) (now (out .exit)) r
         × Kept (now (texts .exit)) (now (lens .exit)) (now (told .exit)) ⌝ }
 {
-    let common = shared(versions, g.count);
-    let base = largest(stamps, g.sets, common);
     let mut w = n;
     let mut v: usize = 0;
     while v < g.count {
-        let more = without(versions[v], common);
-        let best = largest_with(base, stamps, g.sets, more);
         w = put_version(
             out,
             line,
@@ -108,8 +106,10 @@ pub fn put_versions(
             w,
             g,
             disputes,
-            best,
-            versions[v],
+            stamps,
+            keyed,
+            versions,
+            v,
         );
         v += 1;
     }

@@ -28,7 +28,8 @@ use Rattle.group_step.proofs.LoopTurns.{gather-snoc}
 use Rattle.group_true.specs.Disputed.{isDisputed, disputedOf}
 use Rattle.list_version.specs.Identifier.{identifierOf}
 use Rattle.list_version.specs.VersionOrder.{isAhead, versionsOf}
-use Rattle.list_version.specs.VersionForms.{namedAt, disputesBelow, disputesIn, nameBy, isIn, Named, identifierBy}
+use Rattle.list_version.specs.VersionForms.{namedAt, disputesBelow, disputesIn, nameBy}
+use Rattle.list_version.specs.VersionForms.{isIn, NamesAscend, identifierBy}
 use Rattle.list_version.specs.VersionForms.{isAheadBy, versionsBy}
 use Rattle.list_version.proofs.MembersByTest.{one-more, none-more}
 use Rattle.list_version.proofs.IdentifiersGrow.{nameAt, NamesDiffer, name-on, name-at}
@@ -80,7 +81,7 @@ no-names g = refl
 
 -- ---- names that ascend
 
-member-names-ascend : (xs : List ℕ) (g : ℕ) → Named xs → Ascending (identifierBy xs g)
+member-names-ascend : (xs : List ℕ) (g : ℕ) → NamesAscend xs → Ascending (identifierBy xs g)
 unfolding identifierBy filter
 member-names-ascend [] g a = tt
 member-names-ascend (x ∷ xs) g (above, a) = go (isIn g x) (member-names-ascend xs g a)
@@ -97,7 +98,7 @@ member-names-ascend (x ∷ xs) g (above, a) = go (isIn g x) (member-names-ascend
 
 named-where :
     (xs : List ℕ) → Ascending xs →
-    ((x y : ℕ) → List·Memᴰ x xs → List·Memᴰ y xs → x < y → nameBy x < nameBy y) → Named xs
+    ((x y : ℕ) → List·Memᴰ x xs → List·Memᴰ y xs → x < y → nameBy x < nameBy y) → NamesAscend xs
 named-where [] a h = tt
 named-where (x ∷ xs) (above, a) h = (
   (λ y m. h x y (List·Memᴰ·head refl) (List·Memᴰ·tail m) (above y m)),
@@ -131,7 +132,7 @@ module _ (ms : List Edit) (differ : NamesDiffer ms) (few : length ms ≤ mostSet
       ∙ any-on (λ j. eqb (namedAt ms i) (namedAt ms j)) (keep n disputed) i (keep-on n disputed i l p)
       (eq-eqb (namedAt ms i) (namedAt ms i) refl)
 
-  pub disputes-named : Named (disputesIn ms)
+  pub disputes-named : NamesAscend (disputesIn ms)
   disputes-named =
       named-where (disputesIn ms) (disputes-ascend ms (length ms))
       (λ x y m n less.

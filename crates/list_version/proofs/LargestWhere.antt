@@ -1,22 +1,22 @@
--- The largest stamp of each key among the Sets that pass a test: what one Set more does to it, and the members of a
--- number gone through one by one. Assumes nothing.
+-- The largest stamp of a key among the Sets that pass a test: what one Set more does to it, and the members of a group
+-- with the key gone through from the last one on, as far as one that those before it do not outdo. Assumes nothing.
 use mathlib.Core.Path.{_≡_, refl, sym, ap, _∙_}
 use mathlib.Core.Bool.{Bool, true, false, not, _&&_, _||_, cond}
 use mathlib.Core.List.{List}
-use Prim.Native.Nat.{ℕ, zero, suc, _-_, _/_, _≤_, _<_, max}
+use Prim.Native.Nat.{ℕ, zero, suc, _+_, _/_, _^_, _≤_, _<_, max}
 use native.Mathlib.Omega.{arith}
 use native.Mathlib.Decide.{ℕ-discrete}
 use lib.Bits.{bitAnd}
-use lib.Dec.{eqb}
-use lib.ListN.{length, getD, set}
-use lib.Seq.{getD-set-same, getD-set-other}
-use borrow.Author.Tests.{ne-eqb, eqb-true, eqb-false}
-use Rattle.math_lists.proofs.Booleans.{and-true, or-false, or-true, eqb-self}
+use lib.Dec.{eqb, ltb}
+use lib.ListN.{length, getD, take}
+use lib.Seq.{getD-take, length-take-le}
+use borrow.Author.Tests.{eq-eqb, ne-eqb, lt-ltb, eqb-true, ltb-true}
+use Rattle.math_lists.proofs.Booleans.{clash, both, or-false, or-true, eqb-self}
 use Rattle.edit_record.specs.Layout.{keys}
 use Rattle.math_maximal.specs.Groups.{bit}
-use Rattle.math_maximal.proofs.Bits.{bit-none, bit-minus}
+use Rattle.math_maximal.proofs.Bits.{bit-none, bit-below, bit-and}
 use Rattle.math_maximal.proofs.OneMemberLess.{fewer, still-left, own-gone, others-left}
-use Rattle.list_version.specs.VersionForms.{placings, largestBelow, LargestOf}
+use Rattle.list_version.specs.VersionForms.{placings, largestBelow, largestBy, KeyedBy}
 
 unfoldable pub largestWhere : (ℕ → Bool) → List ℕ → ℕ → ℕ → ℕ
 largestWhere f stamps k zero = 0
@@ -34,15 +34,38 @@ once false true m s = refl
 once false false m s = refl
 
 module _ (stamps : List ℕ) (k : ℕ) where
-  -- it goes by the tests of the first n alone
-  pub same-where :
-      (f h : ℕ → Bool) (n : ℕ) → ((i : ℕ) → i < n → f i ≡ h i) →
+  abbrev has : ℕ → Bool
+  has i = eqb (getD stamps i 0 / placings) k
+
+  -- it goes by the tests of those of the first n that have the key
+  same-of-key :
+      (f h : ℕ → Bool) (n : ℕ) → ((i : ℕ) → i < n → (f i && has i) ≡ (h i && has i)) →
       largestWhere f stamps k n ≡ largestWhere h stamps k n
   unfolding largestWhere
-  same-where f h zero e = refl
-  same-where f h (suc n) e = rw (e n (omega arith), same-where f h n (λ i l. e i (omega arith)))
+  same-of-key f h zero e = refl
+  same-of-key f h (suc n) e = rw (e n (omega arith), same-of-key f h n (λ i l. e i (omega arith)))
 
-  pub by-members :
+  same-where :
+      (f h : ℕ → Bool) (n : ℕ) → ((i : ℕ) → i < n → f i ≡ h i) →
+      largestWhere f stamps k n ≡ largestWhere h stamps k n
+  same-where f h n e = same-of-key f h n (λ i l. ap (λ (b : Bool). b && has i) (e i l))
+
+  -- none is larger than x
+  none-above :
+      (f : ℕ → Bool) (x n : ℕ) →
+      ((i : ℕ) → i < n → f i ≡ true → getD stamps i 0 / placings ≡ k → getD stamps i 0 ≤ x) →
+      largestWhere f stamps k n ≤ x
+  unfolding largestWhere
+  none-above f x zero h = omega arith
+  none-above f x (suc n) h = go (f n) refl (has n) refl (none-above f x n (λ i l. h i (omega arith)))
+    where
+      go : (b : Bool) → f n ≡ b → (e : Bool) → has n ≡ e → largestWhere f stamps k n ≤ x →
+          cond (b && e) (max (largestWhere f stamps k n) (getD stamps n 0)) (largestWhere f stamps k n) ≤ x
+      go true p true q rest = omega (arith, rest, h n (omega arith) p (eqb-true (getD stamps n 0 / placings) k q))
+      go true p false q rest = rest
+      go false p e q rest = rest
+
+  by-members :
       (g n : ℕ) → largestBelow stamps g k n ≡ largestWhere (bit g) stamps k n
   unfolding largestBelow largestWhere
   by-members g zero = refl
@@ -69,7 +92,7 @@ module _ (stamps : List ℕ) (k : ℕ) where
         go false = refl
     apart false m s = refl
 
-    pub one-more : (n : ℕ) → i < n → largestWhere withOne stamps k n ≡ raised (largestWhere f stamps k n)
+    one-more : (n : ℕ) → i < n → largestWhere withOne stamps k n ≡ raised (largestWhere f stamps k n)
     unfolding largestWhere
     one-more zero l = absurd (omega arith)
     one-more (suc n) l = elim (ℕ-discrete n i) [
@@ -84,85 +107,79 @@ module _ (stamps : List ℕ) (k : ℕ) where
           (apart (f n && eqb (getD stamps n 0 / placings) k) (largestWhere f stamps k n) (getD stamps n 0))
     ]
 
--- ---- the members of `more` gone through one by one, besides others; those of `left` are still to come
+-- the stamps of the first t Sets alone count
+of-first :
+    (stamps : List ℕ) (f : ℕ → Bool) (k t n : ℕ) → n ≤ t →
+    largestWhere f (take t stamps) k n ≡ largestWhere f stamps k n
+unfolding largestWhere
+of-first stamps f k t zero l = refl
+of-first stamps f k t (suc n) l = rw (getD-take t stamps n 0 (omega arith), of-first stamps f k t n (omega arith))
 
-module _ (stamps : List ℕ) (others more : ℕ) where
-  abbrev pub goneThrough : ℕ → ℕ → Bool
-  goneThrough left j = bit others j || bit more j && not (bit left j)
+-- ---- the members of g with the key k, of the first t Sets
 
-  abbrev pub LargestBut : ℕ → List ℕ → Type 0
-  LargestBut left best =
-      (k : ℕ) → k < keys → getD best k 0 ≡ largestWhere (goneThrough left) stamps k (length stamps)
+module _ (stamps by : List ℕ) (peaks t g k : ℕ) (key : k < keys) (keyed : KeyedBy stamps by peaks t) where
+  abbrev pub most : ℕ → ℕ
+  most h = largestWhere (bit h) stamps k t
 
-  pub none-gone : (best : List ℕ) → LargestOf best stamps others → LargestBut more best
-  none-gone best h k low =
-      h k low ∙ by-members stamps k others (length stamps)
-      ∙ same-where stamps k (bit others) (goneThrough more) (length stamps) (λ i l. go (bit others i) (bit more i))
+  pub most-is : t ≤ length stamps → most g ≡ largestBy (take t stamps) g k
+  most-is fits =
+      let long = length-take-le t stamps fits in
+      sym (ap (λ (n : ℕ). largestBelow (take t stamps) g k n) long ∙ by-members (take t stamps) k g t
+      ∙ of-first stamps (bit g) k t t (omega arith))
+
+  abbrev pub having : ℕ
+  having = bitAnd g (getD by k 0)
+
+  pub having-alone : most having ≡ most g
+  having-alone =
+      same-of-key stamps k (bit having) (bit g) t
+      (λ i l. rw (bit-and g (getD by k 0) i, keyed .own k i key, lt-ltb i t l)
+      (go (bit g i) (eqb (getD stamps i 0 / placings) k)))
     where
-      go : (b c : Bool) → b ≡ (b || c && not c)
-      go true c = refl
-      go false true = refl
-      go false false = refl
+      go : (a e : Bool) → ((a && (true && e)) && e) ≡ (a && e)
+      go true true = refl
+      go true false = refl
+      go false e = refl
 
-  pub all-gone :
-      (g left : ℕ) (best : List ℕ) → left ≡ 0 → ((i : ℕ) → i < length stamps → bit g i ≡ (bit others i || bit more i)) →
-      LargestBut left best → LargestOf best stamps g
-  all-gone g left best z e h k low =
-      h k low
-      ∙ same-where stamps k (goneThrough left) (bit g) (length stamps)
-      (λ i l. rw (z, bit-none i, e i l) (ap (λ (c : Bool). bit others i || c) (and-true (bit more i))))
-      ∙ sym (by-members stamps k g (length stamps))
+  -- each member of `left` is one of the first t, and has the key
+  abbrev pub Part : ℕ → Type 0
+  Part left = (i : ℕ) → bit left i ≡ true → (i < t) × (getD stamps i 0 / placings ≡ k)
 
-  -- Set j is gone through
-  module _ (left j : ℕ) (part : (i : ℕ) → bit left i ≡ true → bit more i ≡ true) (h : bit left j ≡ true) where
-    pub still-part : (i : ℕ) → bit (fewer left j) i ≡ true → bit more i ≡ true
-    still-part i b = part i (still-left left j i b)
+  pub having-part : Part having
+  having-part i b =
+      let (in-g, in-by) = both (bit g i) (bit (getD by k 0) i) (sym (bit-and g (getD by k 0) i) ∙ b) in
+      let (l, e) = both (ltb i t) (eqb (getD stamps i 0 / placings) k) (sym (keyed .own k i key) ∙ in-by) in
+      (ltb-true i t l, eqb-true (getD stamps i 0 / placings) k e)
 
-    now-gone : (i : ℕ) → goneThrough (fewer left j) i ≡ (goneThrough left i || eqb i j)
-    now-gone i = elim (ℕ-discrete i j) [
-      | yes q ↦ rw (q, own-gone left j, part j h, eqb-self j) (end (bit others j) (true && not (bit left j)))
-      | no d ↦ rw (others-left left j i d, ne-eqb i j d) (sym (or-false (goneThrough left i)))
-    ]
-      where
-        end : (b c : Bool) → (b || true) ≡ ((b || c) || true)
-        end true c = refl
-        end false true = refl
-        end false false = refl
+  pub none-left : (left found : ℕ) → left ≡ 0 → max found (most left) ≡ most g → found ≡ most g
+  none-left left found z inv =
+      let none : most left ≤ 0
+      = none-above stamps k (bit left) 0 t (λ i l b q. absurd (clash b (rw z (bit-none i)))) in
+      omega (arith, none, inv)
 
-    pub one-past : (best : List ℕ) → length stamps ≤ j → LargestBut left best → LargestBut (fewer left j) best
-    one-past best past e k low =
-        e k low
-        ∙ same-where stamps k (goneThrough left) (goneThrough (fewer left j)) (length stamps)
-        (λ i l. sym (now-gone i ∙ rw (ne-eqb i j (λ q. omega arith)) (or-false (goneThrough left i))))
+  -- Set i is gone through
+  module _ (left i found : ℕ) (part : Part left) (h : bit left i ≡ true) (inv : max found (most left) ≡ most g) where
+    one-less : most left ≡ max (most (fewer left i)) (getD stamps i 0)
+    one-less =
+        same-where stamps k (bit left) (λ j. bit (fewer left i) j || eqb j i) t (λ j l. elim (ℕ-discrete j i) [
+          | yes q ↦ rw (q, h, own-gone left i, eqb-self i)
+          | no d ↦ rw (others-left left i j d, ne-eqb j i d) (sym (or-false (bit left j)))
+        ])
+        ∙ one-more stamps k (bit (fewer left i)) i t (part i h .0)
+        ∙ rw (eq-eqb (getD stamps i 0 / placings) k (part i h .1))
 
-    pub one-gone :
-        (best : List ℕ) (s : ℕ) → getD stamps j 0 ≡ s → j < length stamps → length best ≡ keys → s / placings < keys →
-        LargestBut left best → LargestBut (fewer left j) (set best (s / placings) (max (getD best (s / placings) 0) s))
-    one-gone best s here l long small e k low =
-        go (eqb (s / placings) k) refl
-        ∙ sym (same-where stamps k (goneThrough (fewer left j)) _ (length stamps) (λ i m. now-gone i)
-        ∙ one-more stamps k (goneThrough left) j (length stamps) l ∙ rw here)
-      where
-        m : ℕ
-        m = largestWhere (goneThrough left) stamps k (length stamps)
+    pub part-on : Part (fewer left i)
+    part-on j b = part j (still-left left i j b)
 
-        go : (b : Bool) → eqb (s / placings) k ≡ b →
-            getD (set best (s / placings) (max (getD best (s / placings) 0) s)) k 0 ≡ cond b (max m s) m
-        go true q =
-            let same : s / placings ≡ k = eqb-true (s / placings) k q in
-            let own : getD (set best k (max (getD best k 0) s)) k 0 ≡ max m s
-            = getD-set-same best k (max (getD best k 0) s) 0 (omega arith) ∙ ap (λ (x : ℕ). max x s) (e k low) in
-            rw same own
-        go false q = getD-set-other best (s / placings) k _ 0 (λ z. eqb-false (s / placings) k q (sym z)) ∙ e k low
+    pub goes-on : max (max found (getD stamps i 0)) (most (fewer left i)) ≡ most g
+    goes-on = omega (arith, one-less, inv)
 
--- ---- what all groups share
-
--- a group is what it shares with others and the rest of it
-pub shared-and-rest :
-    (g c : ℕ) → ((i : ℕ) → bit c i ≡ true → bit g i ≡ true) → (i : ℕ) →
-    bit g i ≡ (bit c i || bit (g - bitAnd g c) i)
-shared-and-rest g c part i = rw (bit-minus g c i) (go (bit c i) refl)
-  where
-    go : (b : Bool) → bit c i ≡ b → bit g i ≡ (b || bit g i && not b)
-    go true e = part i e
-    go false e = sym (and-true (bit g i))
+    pub ends : left < 2 ^ (i + 1) → bit peaks i ≡ true → max found (getD stamps i 0) ≡ most g
+    ends top p =
+        let above : most left ≤ getD stamps i 0
+        = none-above stamps k (bit left) (getD stamps i 0) t (λ j l b q. elim (ℕ-discrete j i) [
+          | yes e ↦ rw e (omega arith)
+          | no d ↦
+              keyed .peak i j p (omega (arith, d, bit-below (i + 1) left top j b)) (q ∙ sym (part i h .1))
+        ]) in
+        omega (arith, one-less, above, inv)

@@ -1,4 +1,3 @@
-pub mod ValueInPlace
 pub mod LargestWhere
 pub mod LoopTurns
 pub mod MembersByTest
@@ -13,3 +12,5 @@ pub mod VersionsSorted
 pub mod RanksStrict
 pub mod ValueShown
 pub mod LastInAnyOrder
+pub mod HighestMember
+pub mod StampsByKey

@@ -7,7 +7,7 @@ use Prim.Native.Nat.{ℕ, zero, suc, _+_, _-_, _*_, _/_, _≤_, _<_, max}
 use native.Mathlib.Numerals.{add-one}
 use native.Mathlib.Omega.{arith}
 use native.Mathlib.Decide.{decLt}
-use borrow.Author.Tests.{lt-ltb, le-ltb, ne-eqb, eqb-true, eqb-false, ltb-true, ltb-false}
+use borrow.Author.Tests.{lt-ltb, le-ltb, ne-eqb, eqb-true, ltb-true, ltb-false}
 use lib.Dec.{eqb, ltb}
 use lib.ListN.{length, getD, take, set}
 use lib.Seq.{getD-take, getD-set-same, getD-set-other}
@@ -162,50 +162,6 @@ pub stamps-all :
 stamps-all rs ps out t fits inv i l =
     let low : i < t = omega (arith, sets-length rs ps t fits) in
     rw (getD-take t out i 0 low, set-place rs ps t fits i low) (inv i low)
-
--- ---- the largest stamp of each key, one Set after another
-
-module _
-    (stamps best : List ℕ)
-    (g i s : ℕ)
-    (here : getD stamps i 0 ≡ s)
-    (inv : (k : ℕ) → k < keys → getD best k 0 ≡ largestBelow stamps g k i) where
-  pub larger-more :
-      bit g i ≡ true → length best ≡ keys → s / placings < keys → getD best (s / placings) 0 < s → (k : ℕ) → k < keys →
-      getD (set best (s / placings) s) k 0 ≡ largestBelow stamps g k (i + 1)
-  unfolding largestBelow
-  larger-more b long fits more k low = rw (add-one, b, here) (go (eqb (s / placings) k) refl)
-    where
-      go : (e : Bool) → eqb (s / placings) k ≡ e →
-          getD (set best (s / placings) s) k 0 ≡ cond e (max (largestBelow stamps g k i) s) (largestBelow stamps g k i)
-      go true q =
-          let same : s / placings ≡ k = eqb-true (s / placings) k q in
-          let less : getD best k 0 < s = subst (λ (j : ℕ). getD best j 0 < s) same more in
-          let own : getD (set best (s / placings) s) k 0 ≡ s
-          = ap (λ (j : ℕ). getD (set best j s) k 0) same ∙ getD-set-same best k s 0 (omega arith) in
-          own ∙ omega (arith, inv k low)
-      go false q = getD-set-other best (s / placings) k s 0 (λ e. eqb-false (s / placings) k q (sym e)) ∙ inv k low
-
-  pub none-larger :
-      (bit g i && ltb (getD best (s / placings) 0) s) ≡ false → (k : ℕ) → k < keys →
-      getD best k 0 ≡ largestBelow stamps g k (i + 1)
-  unfolding largestBelow
-  none-larger h k low = rw (add-one, here) (go (bit g i) refl (eqb (s / placings) k) refl)
-    where
-      go : (b : Bool) → bit g i ≡ b → (e : Bool) → eqb (s / placings) k ≡ e →
-          getD best k 0 ≡ cond (b && e) (max (largestBelow stamps g k i) s) (largestBelow stamps g k i)
-      go true b true q =
-          let same : s / placings ≡ k = eqb-true (s / placings) k q in
-          let off : ltb (getD best (s / placings) 0) s ≡ false = rw (← h, b) in
-          let less : s ≤ getD best k 0
-          = subst (λ (j : ℕ). s ≤ getD best j 0) same (ltb-false (getD best (s / placings) 0) s off) in
-          omega (arith, inv k low)
-      go true b false q = inv k low
-      go false b e q = inv k low
-
-pub none-largest : (stamps : List ℕ) (g k : ℕ) → 0 ≡ largestBelow stamps g k 0
-unfolding largestBelow
-none-largest stamps g k = refl
 
 -- ---- the stamp of an edit whose fields are known
 

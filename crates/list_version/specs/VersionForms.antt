@@ -1,7 +1,7 @@
 -- Forms that the code uses: identifiers from the Sets in dispute, values from stamps. No one need believe them: laws in
 -- proofs/ tie each one to the definitions of `Identifier`, `Values` and `VersionOrder`. Assumes nothing.
 use mathlib.Core.Path.{_≡_}
-use mathlib.Core.Bool.{Bool, _&&_, cond}
+use mathlib.Core.Bool.{Bool, true, _&&_, cond}
 use mathlib.Core.List.{List, [], map}
 use Prim.Native.Nat.{ℕ, zero, suc, _+_, _-_, _*_, _/_, _%_, _≤_, _<_, max}
 use lib.Dec.{eqb, ltb}
@@ -49,8 +49,8 @@ abbrev pub isIn : ℕ → ℕ → Bool
 isIn g x = bit g (x % mostSets)
 
 -- the names ascend
-abbrev pub Named : List ℕ → Type 0
-Named xs = Asc (λ x y. nameBy x < nameBy y) xs
+abbrev pub NamesAscend : List ℕ → Type 0
+NamesAscend xs = Asc (λ x y. nameBy x < nameBy y) xs
 
 -- of the Sets in dispute, xs, the names of the members of g
 unfoldable pub identifierBy : List ℕ → ℕ → List ℕ
@@ -99,6 +99,17 @@ largestBelow stamps g k (suc n) =
 abbrev pub largestBy : List ℕ → ℕ → ℕ → ℕ
 largestBy stamps g k = largestBelow stamps g k (length stamps)
 
--- the largest stamp of each key
-abbrev pub LargestOf : List ℕ → List ℕ → ℕ → Type 0
-LargestOf best stamps g = (k : ℕ) → k < keys → getD best k 0 ≡ largestBy stamps g k
+-- ---- the Sets of each key
+
+-- of the n first Sets, those of each key, and peaks: no Set before one and of its key has a larger stamp
+pub record KeyedBy (stamps by : List ℕ) (peaks n : ℕ) : Type 0 where
+  pub own : (k i : ℕ) → k < keys → bit (getD by k 0) i ≡ (ltb i n && eqb (getD stamps i 0 / placings) k)
+  pub peak :
+      (i j : ℕ) → bit peaks i ≡ true → j < i → getD stamps j 0 / placings ≡ getD stamps i 0 / placings →
+      getD stamps j 0 ≤ getD stamps i 0
+  pub low : (i : ℕ) → bit peaks i ≡ true → i < n
+
+-- and no stamp of a key is larger than that of the key in tops
+pub record KeyedTo (stamps by tops : List ℕ) (peaks n : ℕ) : Type 0 where
+  pub keyed : KeyedBy stamps by peaks n
+  pub top : (j : ℕ) → j < n → getD stamps j 0 ≤ getD tops (getD stamps j 0 / placings) 0

@@ -2,8 +2,7 @@
 use group_step::SETS;
 ghost use mathlib.Core.Path.{_≡_};
 ghost use mathlib.Core.Bool.{true};
-ghost use Prim.Native.Nat.{ℕ, _≤_, _<_};
-ghost use lib.ListN.{length, getD};
+ghost use Prim.Native.Nat.{_+_, _^_, _<_};
 ghost use Rattle.group_step.specs.GroupRows.{mostSets};
 ghost use Rattle.math_maximal.specs.Groups.{bit};
 
@@ -18,17 +17,10 @@ pub fn is_member(g: u64, i: usize) -> bool
     (g >> i) % 2 == 1
 }
 
-// The Sets that are members of each of the n first groups; all numbers if there is none.
-pub fn shared(gs: &[u64], n: usize) -> u64
-    requires { ⌜ n ≤ length (now gs) ⌝ }
-    ensures { λ r.
-        ⌜ ((j i : ℕ) → j < n → bit r i ≡ true → bit (getD (now (gs .entry)) j 0) i ≡ true) ⌝ }
+// The last member of m.
+pub fn highest(m: u64) -> usize
+    requires { ⌜ 0 < m ⌝ }
+    ensures { λ r. ⌜ (m < 2 ^ (r + 1)) × (bit m r ≡ true) ⌝ }
 {
-    let mut all: u64 = 18446744073709551615;
-    let mut j: usize = 0;
-    while j < n {
-        all = all & gs[j];
-        j += 1;
-    }
-    all
+    63 - u64::leading_zeros(m) as usize
 }

@@ -1,26 +1,30 @@
 // The values of a version. A stamp is an edit's key, then its place in the total order, then its value, as one number
 // that is never 0 for a key: the largest stamp of the members with a key is that of the last one. The stamps of an
-// object's Sets are made once; one pass over the members of a version finds the largest of each key.
+// object's Sets are made once, and with them is noted which Sets have a key, so that a version looks at few of them.
 use super::ALL_KEYS;
 use super::SITE_NUMBERS;
+use super::sets::highest;
 use super::sets::is_member;
 use edit_causal::vector_sum;
 use edit_record::AT_KEY;
 use edit_record::AT_SITE;
 use edit_record::AT_VALUE;
 use edit_record::KEYS;
-use edit_record::PLACE;
 use edit_record::VALUES;
+use edit_record::vector_of;
+use group_step::only;
+use group_step::without;
+use table_sets::copied::copy_at;
 ghost use mathlib.Core.Path.{_≡_};
-ghost use mathlib.Core.Bool.{_||_};
+ghost use mathlib.Core.List.{List};
 ghost use Prim.Native.Nat.{ℕ, _+_, _*_, _-_, _≤_, _<_, max};
-ghost use lib.ListN.{length, take};
+ghost use lib.ListN.{length, take, set, replicate};
 ghost use Rattle.edit_record.specs.Layout.{mostSites, keys, twoBytes};
 ghost use Rattle.edit_history.specs.EditsHeld.{recordAt};
-ghost use Rattle.math_maximal.specs.Groups.{bit};
 ghost use Rattle.group_step.specs.GroupRows.{mostSets};
 ghost use Rattle.list_version.specs.Identifier.{siteNumbers};
-ghost use Rattle.list_version.specs.VersionForms.{setsAt, stampOf, values, placings, Small, Stamped, LargestOf};
+ghost use Rattle.list_version.specs.VersionForms.{setsAt, stampOf, values, placings, Small, Stamped};
+ghost use Rattle.list_version.specs.VersionForms.{largestBy, KeyedBy, KeyedTo};
 
 // A number above each place in the total order with a value behind it.
 const PLACINGS: u64 = 1152921504606846976;
@@ -33,50 +37,59 @@ fn stamped(key: u8, sum: u32, site: u8, value: u32) -> u64
     key as u64 * PLACINGS + ((sum as u64 * SITE_NUMBERS + site as u64) * VALUES + value as u64 + 1)
 }
 
-// The stamp of the record in place p, whose fields are read where they stand; 0 for a key that is none.
+// The stamp of the record in place p; 0 for a key that is none.
 fn stamp_at(recs: &[u8], p: u16) -> u64
     ensures { λ r. ⌜ (r ≡ stampOf (recordAt (now (recs .entry)) p)) × Small (recordAt (now (recs .entry)) p) ⌝ }
 {
-    let at = p as usize * PLACE;
-    let v = edit_history::vector_at(recs, p as usize);
-    let sum = vector_sum(v);
-    let site = edit_record::byte_at(recs, at + AT_SITE);
-    let key = edit_record::byte_at(recs, at + AT_KEY);
-    let value = edit_record::four_at(recs, at + AT_VALUE);
+    let rec = copy_at(recs, p);
+    let sum = vector_sum(vector_of(&rec));
+    let value = edit_record::four_at(&rec, AT_VALUE);
+    let site = rec[AT_SITE];
+    let key = rec[AT_KEY];
     if KEYS <= key {
         return 0;
     }
     stamped(key, sum, site, value)
 }
 
-// Puts the stamps of the t Sets at the front of out.
-pub fn put_stamps(out: &mut [u64], recs: &[u8], places: &[u16], t: usize)
-    requires { ⌜ (t ≤ length (now places)) × (t ≤ length (now out)) ⌝ }
-    ensures { λ r. ⌜ Stamped (setsAt (now (recs .entry)) (take t (now (places .entry)))) (take t (now (out .exit))) ⌝ }
+// Notes that the i-th Set has the stamp s: among those of its key, and as a peak if it outdoes all of them before it.
+// `tops` has a stamp of each key that none before it outdoes; gives the peaks.
+fn note(keyed: &mut [u64], tops: &mut [u64], peaks: u64, i: usize, s: u64) -> u64
+    requires { ⌜ (i < mostSets) × (length (now keyed) ≡ keys) × (length (now tops) ≡ keys) ⌝ }
+    ensures { λ r. ⌜ ((stamps : List ℕ) → i < length stamps →
+        KeyedTo stamps (now (keyed .entry)) (now (tops .entry)) peaks i →
+        KeyedTo (set stamps i s) (now (keyed .exit)) (now (tops .exit)) r (i + 1)) ⌝ }
 {
-    let mut i: usize = 0;
-    while i < t {
-        out[i] = stamp_at(recs, places[i]);
-        i += 1;
+    let k = (s / PLACINGS) as usize;
+    let own = only(i);
+    keyed[k] = keyed[k] | own;
+    if s <= tops[k] {
+        return peaks;
     }
+    tops[k] = s;
+    peaks | own
 }
 
-// The largest stamp of each key among the members of g, by the t stamps of the object's Sets; 0 where there is none.
-pub fn largest(stamps: &[u64], t: usize, g: u64) -> [u64; ALL_KEYS]
-    requires { ⌜ (t ≤ length (now stamps)) × (t ≤ mostSets) ⌝ }
-    ensures { λ r. ⌜ LargestOf r (take t (now (stamps .entry))) g ⌝ }
+// Puts the stamps of the t Sets at the front of out, and those that have each key into keyed, which is all 0; gives
+// the peaks.
+pub fn put_stamps(out: &mut [u64], keyed: &mut [u64], recs: &[u8], places: &[u16], t: usize) -> u64
+    requires { ⌜ (t ≤ length (now places))
+        × (t ≤ length (now out))
+        × (t ≤ mostSets)
+        × (now keyed ≡ replicate keys 0) ⌝ }
+    ensures { λ r. ⌜ Stamped (setsAt (now (recs .entry)) (take t (now (places .entry)))) (take t (now (out .exit)))
+        × KeyedBy (now (out .exit)) (now (keyed .exit)) r t ⌝ }
 {
-    let mut best = [0u64; ALL_KEYS];
+    let mut tops = [0u64; ALL_KEYS];
+    let mut peaks: u64 = 0;
     let mut i: usize = 0;
     while i < t {
-        let s = stamps[i];
-        let k = (s / PLACINGS) as usize;
-        if is_member(g, i) & (best[k] < s) {
-            best[k] = s;
-        }
+        let s = stamp_at(recs, places[i]);
+        out[i] = s;
+        peaks = note(keyed, &mut tops, peaks, i, s);
         i += 1;
     }
-    best
+    peaks
 }
 
 // The larger of two numbers.
@@ -86,25 +99,25 @@ fn larger(a: u64, b: u64) -> u64
     if a < b { b } else { a }
 }
 
-// The same with the members of `more` besides, where `best` has the largest stamps of the others.
-pub fn largest_with(best: [u64; ALL_KEYS], stamps: &[u64], t: usize, more: u64) -> [u64; ALL_KEYS]
-    requires { ⌜ (t ≤ length (now stamps)) × (t ≤ mostSets) ⌝ }
-    ensures { λ r.
-        ⌜ ((g others : ℕ) → LargestOf best (take t (now (stamps .entry))) others →
-        ((i : ℕ) → i < t → bit g i ≡ (bit others i || bit more i)) →
-        LargestOf r (take t (now (stamps .entry))) g) ⌝ }
+// The largest stamp of the key k among the members of g; 0 where there is none. They are gone through from the last one
+// on as far as a peak, which those before it do not outdo.
+pub fn last_of(stamps: &[u64], t: usize, keyed: &[u64], peaks: u64, g: u64, k: usize) -> u64
+    requires { ⌜ (t ≤ length (now stamps))
+        × (t ≤ mostSets)
+        × (k < keys)
+        × (keys ≤ length (now keyed))
+        × KeyedBy (now stamps) (now keyed) peaks t ⌝ }
+    ensures { λ r. ⌜ r ≡ largestBy (take t (now (stamps .entry))) g k ⌝ }
 {
-    let mut found = best;
-    let mut left = more;
+    let mut found: u64 = 0;
+    let mut left = g & keyed[k];
     while left != 0 {
-        let i = u64::trailing_zeros(left) as usize;
-        if i < t {
-            let s = stamps[i];
-            let k = (s / PLACINGS) as usize;
-            found[k] = larger(found[k], s);
+        let i = highest(left);
+        found = larger(found, stamps[i]);
+        if is_member(peaks, i) {
+            return found;
         }
-        let own = group_step::only(i);
-        left = group_step::without(left, own);
+        left = without(left, only(i));
     }
     found
 }

@@ -1,8 +1,8 @@
--- Contexts and conflicts by the operations of a 64-bit number are those of the definition. Assumes nothing.
+-- The reach of a Set as a number, and conflicts by the operations of a 64-bit number, which are those of the
+-- definition. Assumes nothing.
 use mathlib.Core.Path.{_≡_, _∙_, ap, fun-ext}
 use mathlib.Core.Logic.{inl, inr}
-use mathlib.Core.Bool.{Bool, true, false, not, _&&_, cond}
-use mathlib.Core.List.{List}
+use mathlib.Core.Bool.{Bool, true, false, not, _&&_}
 use Prim.Native.Nat.{ℕ, suc, _^_, _≤_, _<_}
 use native.Mathlib.Omega.{arith}
 use lib.Pow.{pow-lt}
@@ -17,9 +17,9 @@ use Rattle.math_maximal.specs.Step.{compatible}
 use Rattle.math_maximal.proofs.Bits.{bit-or, bit-power, compatible-on, compatible-at}
 use Rattle.math_maximal.proofs.Masks.{mask-at, mask-on}
 use Rattle.math_contexts.specs.Box.{Box}
-use Rattle.math_contexts.specs.Contexts.{unnamed, suits, contextIn, contexts, context, reach, conflicts}
-use Rattle.math_contexts.specs.MaskForms.{reachMask, foes, maskContext, maskConflicts}
-use Rattle.math_contexts.proofs.ContextMembers.{contexts-hold, suits-at, suits-on, reach-in}
+use Rattle.math_contexts.specs.Contexts.{contexts, context, reach, conflicts}
+use Rattle.math_contexts.specs.MaskForms.{reachMask, foes, maskConflicts}
+use Rattle.math_contexts.proofs.ContextMembers.{contexts-hold}
 use Rattle.math_contexts.proofs.ContextMembers.{context-below, reach-below}
 use Rattle.math_contexts.proofs.ConflictByReach.{conflicts-at, conflicts-on}
 
@@ -46,30 +46,6 @@ module _ (b : Box) (n j : ℕ) (l : j < n) where
   pub apart-on :
       (m : ℕ) → ((a : ℕ) → a ∈ reach b j → bit m a ≡ false) → compatible m (reachMask (contexts b n) j) ≡ true
   apart-on m h = compatible-on m (reachMask (contexts b n) j) n reach-small (λ a p. h a (rw bit-reach at p))
-
--- ---- contexts
-
-pub context-by-masks : (b : Box) (i : ℕ) → context b i ≡ maskContext b i
-unfolding context contextIn maskContext
-context-by-masks b i =
-    ap (λ (g : ℕ). cond (b .limited i) g 0)
-    (mask-same i (λ j. b .seen i j && suits b cs i j) (λ j. b .seen i j && compatible u (reachMask cs j))
-    (λ j l. ap (λ (t : Bool). b .seen i j && t) (same j l)))
-  where
-    cs : List ℕ
-    cs = contexts b i
-
-    u : ℕ
-    u = mask i (unnamed b i)
-
-    same : (j : ℕ) → j < i → suits b cs i j ≡ compatible u (reachMask cs j)
-    same j l =
-        same-test (suits b cs i j) (compatible u (reachMask cs j))
-        (λ h. apart-on b i j l u (λ a r. off (bit u a) (λ p.
-        let (k, t) = mask-at i (unnamed b i) a p in
-        clash t (suits-at b cs i j h a k (rw (reach-in b i j l) r)))))
-        (λ h. suits-on b cs i j (λ a k r. off (unnamed b i a) (λ t.
-        clash (mask-on i (unnamed b i) a k t) (apart-at b i j l u h a (rw (reach-in b i j l) at r)))))
 
 -- ---- those that conflict with a member of P
 

@@ -1,5 +1,5 @@
--- More Sets never bring two versions into one: two groups are never found in one set without conflict, not even by their
--- disputed members alone. Assumes that the Sets are lawful; that they are valid is not asked.
+-- More Sets never bring two versions into one: two groups are never found in one set without conflict, not even by
+-- their disputed members alone. Assumes that the Sets are lawful; that they are valid is not asked.
 use mathlib.Core.Path.{_≡_, _∙_}
 use mathlib.Core.Bool.{Bool, true}
 use Prim.Native.Nat.{ℕ}

@@ -1,6 +1,6 @@
--- The box of Sets in the order of their arrival, xs. d stands for an element past the end; `conf` says that two conflict
--- by document 01's rule, `saw x y` that the author of x had seen y, `lists x y` that y is one of the members that x
--- lists, and `lim` that a Set is of kind 3. Assumes nothing.
+-- The box of Sets in the order of their arrival, xs. d stands for an element past the end; `conf` says that two
+-- conflict by document 01's rule, `saw x y` that the author of x had seen y, `lists x y` that y is one of the members
+-- that x lists, and `lim` that a Set is of kind 3. Assumes nothing.
 use mathlib.Core.Bool.{Bool}
 use mathlib.Core.List.{List}
 use Prim.Native.Nat.{ℕ}

@@ -1,7 +1,7 @@
--- Forms that code uses: contexts, conflicts and answer 16 by the operations of a 64-bit number. `compatible m g` of
+-- Forms that code uses: conflicts and answer 16 by the operations of a 64-bit number. `compatible m g` of
 -- `math_maximal` says that g and m have no bit in common. Laws in proofs/ tie them to the definitions, so no one need
 -- believe them. Assumes nothing.
-use mathlib.Core.Bool.{Bool, not, _&&_, _||_, cond, Bool·beq}
+use mathlib.Core.Bool.{Bool, not, _&&_, _||_, Bool·beq}
 use mathlib.Core.List.{List}
 use Prim.Native.Nat.{ℕ, suc, _^_}
 use lib.Bits.{bitOr}
@@ -10,7 +10,7 @@ use Rattle.math_lists.specs.NumbersBelow.{some, all, mask}
 use Rattle.math_maximal.specs.Groups.{bit}
 use Rattle.math_maximal.specs.Step.{compatible}
 use Rattle.math_contexts.specs.Box.{Box, disputedBy}
-use Rattle.math_contexts.specs.Contexts.{unnamed, contexts, context, reach}
+use Rattle.math_contexts.specs.Contexts.{contexts, context, reach}
 
 -- j with its context, where cs are the contexts
 abbrev pub reachMask : List ℕ → ℕ → ℕ
@@ -19,12 +19,6 @@ reachMask cs j = bitOr (getD cs j 0) (2 ^ j)
 -- those below n that conflict, by document 01's rule, with a member of P below n
 abbrev pub foes : Box → ℕ → (ℕ → Bool) → ℕ
 foes b n P = mask n (λ y. some n (λ x. P x && b .plain x y))
-
--- the context of i: each that i has seen and whose reach has no disputed one that i does not list
-unfoldable pub maskContext : Box → ℕ → ℕ
-maskContext b i =
-    let u = mask i (unnamed b i) in
-    cond (b .limited i) (mask i (λ j. b .seen i j && compatible u (reachMask (contexts b i) j))) 0
 
 -- the Sets before k that conflict with k: those whose reach has a foe of the reach of k
 unfoldable pub maskConflicts : Box → ℕ → ℕ

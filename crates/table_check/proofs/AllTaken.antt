@@ -46,8 +46,8 @@ use Rattle.table_soundness.proofs.ObjectsByNumber.{sets-few}
 use Rattle.table_arrival.proofs.ObjectOfSet.{object-less, target-site, target-seq, row-few, row-fits}
 use Rattle.table_arrival.proofs.ProperWith.{proper-held}
 use Rattle.table_arrival.proofs.Faithful.{RowsTrue}
-use Rattle.table_replay.specs.Replay.{replayOf}
-use Rattle.table_replay.proofs.OwnRecords.{edits-held}
+use Rattle.table_given.specs.Replay.{replayOf}
+use Rattle.table_given.proofs.OwnRecords.{edits-held}
 use Rattle.demand_any_order.specs.Records.{recordsOf, Whole}
 use Rattle.demand_any_order.specs.Settled.{named, fullOver, crowdedOver, listAnswer, AllAccepted}
 use Rattle.demand_any_order.proofs.Identities.{one-object}

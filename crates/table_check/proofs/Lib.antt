@@ -1,6 +1,6 @@
+pub mod JoinedLater
 pub mod SettledByRecords
 pub mod AllTaken
 pub mod TrueExactly
 pub mod SetsInTurn
 pub mod RowWorkedOut
-pub mod RowsTold

@@ -55,12 +55,19 @@ module _ (rs ms : List ℕ) where
       ∙ sets-step (setsIn rs ms i) e (rw more at irr)
       ∙ ap groupsOf (sym more)
 
-  -- the step for the Set e in the i-th place, whose conflicts are m, on a row that has the groups of those before it
+  -- the step for the Set e in the i-th place, whose conflicts are m, on the groups of those before it
+  pub stepped-on :
+      (i : ℕ) (l : List ℕ) → i < length ms → NoneItself (setsIn rs ms (i + 1)) → l ≡ groupsIn rs ms i →
+      (e : Edit) → e ≡ recordAt rs (getD ms i 0) → (m : ℕ) → m ≡ conflictsWith e (setsIn rs ms i) →
+      step m i l ≡ groupsIn rs ms (i + 1)
+  stepped-on i l low irr h e q m d = rw (h, d, q) (groups-next i low irr)
+
+  -- and on a row that has them
   pub stepped :
       (i n : ℕ) (gs : List ℕ) → i < length ms → NoneItself (setsIn rs ms (i + 1)) → take n gs ≡ groupsIn rs ms i →
       (e : Edit) → e ≡ recordAt rs (getD ms i 0) → (m : ℕ) → m ≡ conflictsWith e (setsIn rs ms i) →
       step m i (take n gs) ≡ groupsIn rs ms (i + 1)
-  stepped i n gs l irr h e q m d = rw (h, d, q) (groups-next i l irr)
+  stepped i n gs = stepped-on i (take n gs)
 
   pub in-ascending : (i : ℕ) → Ascending (groupsIn rs ms i)
   unfolding groupsIn groupsOf

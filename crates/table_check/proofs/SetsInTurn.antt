@@ -15,6 +15,8 @@ use Rattle.math_lists.proofs.Booleans.{clash, off, both}
 use Rattle.math_lists.proofs.ByPlaces.{any-place-on}
 use Rattle.math_lists.proofs.NumbersBelow.{all-on, all-at, keep-more}
 use Rattle.math_contexts.specs.Box.{Lawful}
+use Rattle.math_contexts.specs.Contexts.{context}
+use Rattle.math_contexts.specs.Versions.{AllNamed}
 use Rattle.edit_record.specs.declared.Site.{Site}
 use Rattle.edit_record.specs.declared.Seq.{Seq}
 use Rattle.edit_record.specs.declared.Edit.{Edit}
@@ -29,7 +31,7 @@ use Rattle.edit_history.specs.EditsHeld.{recordAt, editsOf, setsOn}
 use Rattle.edit_history.specs.Answers2to5.{passes, recordsPass}
 use Rattle.edit_history.specs.Answer16.{namelessAmong, isNameless, recordsNamed}
 use Rattle.edit_history.proofs.EditsInPlaces.{sets-length, set-place}
-use Rattle.group_true.proofs.ProperSets.{orderly-table}
+use Rattle.group_true.proofs.ProperSets.{orderly-table, named-version}
 use Rattle.group_limited.specs.declared.Told.{Told}
 use Rattle.group_limited.specs.LimitedForms.{setsIn, ToldOf}
 use Rattle.group_limited.proofs.OneMoreTaken.{sets-more}
@@ -178,13 +180,26 @@ module _ (rs ms : List ℕ) (k : ℕ) (fits : k ≤ length ms) (i : ℕ) (l : i 
       (rw own (none i l)))
 
   -- else those that it is told
-  pub told-are-all :
-      ProperInTurn rs ms k → (t : Told) → ToldOf (setsIn rs ms i) e t → t .conflicts ≡ conflictsWith e (setsIn rs ms i)
-  told-are-all w t told =
-      let xs = setsIn rs ms i in
-      let more : setsIn rs ms (suc i) ≡ xs ++ (e ∷ []) = rw own (sets-more rs ms i (omega arith)) in
-      let law : Lawful (boxOn (xs ++ (e ∷ []))) (suc (length xs))
-      = subst (Lawful (boxOn (xs ++ (e ∷ [])))) (omega (arith, length-append xs (e ∷ [])))
-      (subst Proper more (w .proper (suc i) l) .lawful) in
-      let named = w .proper i (omega arith) .named in
-      told .conflicts law named (told .nameless law named ∙ rw own (w .named i l))
+  module _ (w : ProperInTurn rs ms k) where
+    abbrev xs : List Edit
+    xs = setsIn rs ms i
+
+    pub lawful-next : Lawful (boxOn (xs ++ (e ∷ []))) (suc (length xs))
+    lawful-next =
+        let more : setsIn rs ms (suc i) ≡ xs ++ (e ∷ []) = rw own (sets-more rs ms i (omega arith)) in
+        subst (Lawful (boxOn (xs ++ (e ∷ [])))) (omega (arith, length-append xs (e ∷ [])))
+        (subst Proper more (w .proper (suc i) l) .lawful)
+
+    named : AllNamed (boxOn xs) (length xs)
+    named = w .proper i (omega arith) .named
+
+    free : namelessAmong xs e ≡ false
+    free = rw own (w .named i l)
+
+    module _ (t : Told) (told : ToldOf xs e t) where
+      pub told-are-all : t .conflicts ≡ conflictsWith e xs
+      told-are-all = told .conflicts named (told .nameless named ∙ free)
+
+      -- and its context
+      pub told-context : t .context ≡ context (boxOn (xs ++ (e ∷ []))) (length xs)
+      told-context = told .context named (named-version xs e free)

@@ -24,9 +24,9 @@ use Rattle.table_soundness.proofs.SoundFacts.{Sound, sound-at, sound-on}
 use Rattle.table_arrival.specs.Answers6and7.{rowOf}
 use Rattle.group_true.specs.TrueGroups.{trueGroups}
 use Rattle.table_arrival.proofs.Faithful.{RowsTrue, Faithful}
-use Rattle.table_replay.specs.Replay.{Replayed, replayOf}
-use Rattle.table_replay.proofs.ReplayFaithful.{replay-faithful}
-use Rattle.table_replay.proofs.OwnRecords.{Holds, going-of, holds}
+use Rattle.table_given.specs.Replay.{Replayed, replayOf}
+use Rattle.table_given.proofs.ReplayFaithful.{replay-faithful}
+use Rattle.table_given.proofs.OwnRecords.{Holds, going-of, holds}
 use Rattle.table_check.specs.Check.{sameCounters, sameTables, givesBack, isTrue, checkOf}
 use Rattle.table_check.specs.CheckForms.{rowTrue, rowsTrue}
 use Rattle.table_check.proofs.SettledByRecords.{same-records, same-number, same-counts, same-sum, same-groups}

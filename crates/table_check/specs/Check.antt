@@ -10,7 +10,7 @@ use Rattle.edit_history.specs.EditsHeld.{bytesAt}
 use Rattle.table_drawing.specs.declared.Counters.{Counters}
 use Rattle.table_drawing.specs.Tables.{Tables, lengthsRight}
 use Rattle.table_soundness.specs.Sound.{withinLimits}
-use Rattle.table_replay.specs.Replay.{replayOf}
+use Rattle.table_given.specs.Replay.{replayOf}
 
 abbrev pub sameCounters : Counters → Counters → Bool
 sameCounters c d =

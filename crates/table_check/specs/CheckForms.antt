@@ -3,8 +3,9 @@
 -- Assumes nothing.
 use mathlib.Core.Path.{_≡_}
 use mathlib.Core.Bool.{Bool, false}
-use mathlib.Core.List.{List}
+use mathlib.Core.List.{List, map}
 use Prim.Native.Nat.{ℕ, _≤_, _<_}
+use lib.Bits.{bitOr}
 use lib.ListN.{getD, length, take}
 use Rattle.math_lists.specs.NumbersBelow.{all, sameList}
 use Rattle.edit_causal.specs.ConflictForms.{Proper}
@@ -30,6 +31,10 @@ rowsTrue t = all (t .counters .objects) (rowTrue t)
 -- those of the Sets in the first k of the places ms
 unfoldable pub groupsIn : List ℕ → List ℕ → ℕ → List ℕ
 groupsIn rs ms k = groupsOf (setsIn rs ms k)
+
+-- the groups gs with the members of m in each
+unfoldable pub joinedWith : ℕ → List ℕ → List ℕ
+joinedWith m gs = map (λ g. bitOr g m) gs
 
 -- the first of them are proper, however many they are, and 16 is given to none of them after those before it
 pub record ProperInTurn (rs ms : List ℕ) (k : ℕ) : Type 0 where

@@ -3,6 +3,7 @@
 // held against the table's.
 use edit_history::RECORDS;
 use edit_walk::PLACES;
+use group_limited::RECENT;
 use group_limited::earlier::put_names;
 use group_step::GROUPS;
 use group_step::SETS;
@@ -15,21 +16,23 @@ use table_sets::by_key::take_set;
 ghost use mathlib.Core.Path.{_≡_};
 ghost use mathlib.Core.Bool.{true, false};
 ghost use mathlib.Core.List.{[], _∷_};
-ghost use Prim.Native.Nat.{_+_, _*_, _≤_, _<_};
+ghost use Prim.Native.Nat.{ℕ, _+_, _*_, _^_, _≤_, _<_};
 ghost use lib.ListN.{length, take};
 ghost use Rattle.math_lists.specs.NumbersBelow.{sameList};
-ghost use Rattle.math_lists.specs.SortedLists.{any};
+ghost use Rattle.math_lists.specs.SortedLists.{any, elem, Ascending};
+ghost use Rattle.math_maximal.specs.Step.{step};
 ghost use Rattle.edit_record.specs.Answer1.{isLimited};
 ghost use Rattle.edit_walk.specs.WalkForms.{Indexed};
 ghost use Rattle.group_step.specs.GroupRows.{mostGroups, mostSets, row};
-ghost use Rattle.group_limited.specs.LimitedForms.{setsIn, NamesIn};
+ghost use Rattle.group_step.specs.StepForms.{Apart};
+ghost use Rattle.group_limited.specs.LimitedForms.{mostRecent, setsIn, NamesIn};
 ghost use Rattle.table_drawing.specs.Tables.{tablesOf};
 ghost use Rattle.table_drawing.specs.AnswerNumbers.{numberOf};
 ghost use Rattle.table_soundness.specs.Sound.{sound};
 ghost use Rattle.table_sets.specs.ChainForms.{Chained};
 ghost use Rattle.table_sets.specs.KeyForms.{TellsIn};
 ghost use Rattle.table_check.specs.Check.{checkOf};
-ghost use Rattle.table_check.specs.CheckForms.{rowTrue, rowsTrue, groupsIn, ProperInTurn, WorkedOut};
+ghost use Rattle.table_check.specs.CheckForms.{rowTrue, rowsTrue, groupsIn, joinedWith, ProperInTurn, WorkedOut};
 
 // Whether two rows of groups are the same.
 fn is_same(a: &[u64], b: &[u64]) -> bool
@@ -59,6 +62,52 @@ fn is_row(groups: &[u64], o: usize, g: usize, gs: &[u64], r: usize) -> bool
     is_same(&groups[at..end], &gs[..r])
 }
 
+// How many groups there are after a step, and which Sets are yet to be put into all of them.
+struct Stepped {
+    count: usize,
+    common: u64,
+}
+
+// Puts the members of m into the n first groups.
+fn join_all(gs: &mut [u64], n: usize, m: u64)
+    requires { ⌜ n ≤ length (now gs) ⌝ }
+    ensures { λ r. ⌜ (length (now (gs .exit)) ≡ length (now (gs .entry)))
+        × (take n (now (gs .exit)) ≡ joinedWith m (take n (now (gs .entry)))) ⌝ }
+{
+    let mut i: usize = 0;
+    while i < n {
+        gs[i] = gs[i] | m;
+        i += 1;
+    }
+}
+
+// The step for Set i, which has the conflicts m, on the n first groups with the members of `common`. A Set without
+// conflict comes into every group, and waits with them for one that has conflicts.
+fn step_later(gs: &mut [u64], n: usize, common: u64, m: u64, i: usize) -> Stepped
+    requires { ⌜ (length (now gs) ≡ mostGroups)
+        × (n ≤ mostGroups)
+        × (i < mostSets)
+        × Ascending (joinedWith common (take n (now gs)))
+        × ((x : ℕ) → elem x (joinedWith common (take n (now gs))) ≡ true → x < 2 ^ i)
+        × Apart (joinedWith common (take n (now gs))) ⌝ }
+    ensures { λ r. ⌜ (r .count ≡ length (step m i (joinedWith common (take n (now (gs .entry))))))
+        × (r .count ≤ mostGroups →
+        joinedWith (r .common) (take (r .count) (now (gs .exit)))
+        ≡ step m i (joinedWith common (take n (now (gs .entry))))) ⌝ }
+{
+    if m == 0 {
+        return Stepped {
+            count: n,
+            common: common | group_step::only(i),
+        };
+    }
+    join_all(gs, n, common);
+    Stepped {
+        count: group_step::step_apart(gs, n, m, i),
+        common: 0,
+    }
+}
+
 // Makes the step for one after another of the Sets in the first k places, none of which is limited, on a row that has
 // the empty group alone; says how many groups there are. Once they are more than a row holds, they stay so, and the
 // rest is left.
@@ -77,15 +126,19 @@ fn step_plainly(gs: &mut [u64], recs: &[u8], places: &[u16], k: usize) -> usize
     let mut earlier = [1u8; SETS];
     let mut tolds = [1u64; SETS];
     let mut n: usize = 1;
+    let mut common: u64 = 0;
     let mut i: usize = 0;
     while i < k {
         let m = take_set(&mut latest, &mut earlier, &mut tolds, recs, places, i);
-        n = group_step::step_apart(gs, n, m, i);
+        let t = step_later(gs, n, common, m, i);
+        n = t.count;
+        common = t.common;
         if GROUPS < n {
             return n;
         }
         i += 1;
     }
+    join_all(gs, n, common);
     n
 }
 
@@ -95,6 +148,7 @@ fn step_limited(
     gs: &mut [u64],
     plain: &mut [u64],
     ctx: &mut [u64],
+    sees: &mut [u64],
     recs: &[u8],
     places: &[u16],
     names: &[u32],
@@ -104,6 +158,7 @@ fn step_limited(
         × (take 1 (now gs) ≡ 0 ∷ [])
         × (k ≤ length (now plain))
         × (k ≤ length (now ctx))
+        × (mostRecent ≤ length (now sees))
         × (k ≤ length (now places))
         × (k ≤ mostSets)
         × ProperInTurn (now recs) (now places) k
@@ -114,12 +169,13 @@ fn step_limited(
     let mut n: usize = 1;
     let mut i: usize = 0;
     while i < k {
-        let t = group_limited::told_at(recs, places, names, i, plain, ctx, places[i]);
+        let t = group_limited::told_at(recs, places, names, sees, i, plain, ctx, places[i]);
         n = group_step::step_apart(gs, n, t.conflicts, i);
         if GROUPS < n {
             return n;
         }
         group_limited::put_told(plain, ctx, i, t.row, t.context);
+        sees[i % RECENT] = t.seen;
         i += 1;
     }
     n
@@ -142,9 +198,10 @@ fn work_out(recs: &[u8], places: &[u16], k: usize, gs: &mut [u64]) -> usize
     // what work space holds at first does not matter; zeros would be set by memset (docs/DECISIONS.md, 24)
     let mut plain = [1u64; SETS];
     let mut ctx = [1u64; SETS];
+    let mut sees = [1u64; RECENT];
     let mut names = [1u32; SETS];
     put_names(&mut names, recs, places, k);
-    step_limited(gs, &mut plain, &mut ctx, recs, places, &names, k)
+    step_limited(gs, &mut plain, &mut ctx, &mut sees, recs, places, &names, k)
 }
 
 // Whether the row of object o has the groups of the object's Sets, which are found by the chain.

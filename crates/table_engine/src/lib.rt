@@ -2,6 +2,7 @@
 // arrival order, to be held against the row that the arriving step left.
 use edit_record::Seq;
 use edit_record::Site;
+use group_limited::RECENT;
 use group_limited::earlier::put_names;
 use group_step::GROUPS;
 use group_step::SETS;
@@ -60,9 +61,10 @@ fn put_by_rows(recs: &[u8], places: &[u16], k: usize, masks: &mut [u64])
     // what work space holds at first does not matter; zeros would be set by memset (docs/DECISIONS.md, 24)
     let mut plain = [1u64; DECIDED];
     let mut ctx = [1u64; DECIDED];
+    let mut sees = [1u64; RECENT];
     let mut names = [1u32; DECIDED];
     put_names(&mut names, recs, places, k);
-    group_limited::put_rows(&mut plain, &mut ctx, recs, places, &names, k);
+    group_limited::put_rows(&mut plain, &mut ctx, &mut sees, recs, places, &names, k);
     group_context::put_conflicts(masks, &plain, &ctx, k);
 }
 

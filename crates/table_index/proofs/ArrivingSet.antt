@@ -19,6 +19,7 @@ use Rattle.edit_causal.specs.ShownValue.{shownValue}
 use Rattle.edit_history.specs.EditsHeld.{recordAt, editsOf, countFrom}
 use Rattle.edit_history.proofs.EditsHeld.{target-parts, count-grows}
 use Rattle.edit_history.proofs.RecordsPassed.{InTurn, passed-at, formed-at, seq-held}
+use Rattle.group_limited.proofs.NamesOfSets.{seen-never-conflicts}
 use Rattle.table_drawing.specs.declared.Counters.{Counters}
 use Rattle.table_index.specs.IndexForms.{isOn, isKeyed, Holds, Arriving, unseenOther}
 use Rattle.table_index.proofs.SurveyByIndex.{turn}
@@ -91,3 +92,10 @@ module _ (c : Counters) (rs : List ℕ) (h : Holds c rs) (q : ℕ) (e : Edit) (a
             (s && v) ≡ (i && j && s && t && k && v)
         rest i j true t k v a b d f = rw (a, b, d, f)
         rest i j false t k v a b d f = rw (a, b)
+
+    -- one that it has seen is in conflict with it no more
+    pub seen-apart : hasSeen (e .vector) (a .site) (a .seq) ≡ true → doConflict a e ≡ false
+    seen-apart seen =
+        seen-never-conflicts a e
+        (and-on (not (sameEdit (a .site) (a .seq) (e .site) (e .seq))) (hasSeen (e .vector) (a .site) (a .seq))
+        (rw not-same) seen)

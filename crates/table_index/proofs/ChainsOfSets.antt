@@ -88,17 +88,19 @@ module _ (rs : List ℕ) (q : ℕ) where
         (λ (k : ℕ). marksOn rs n q e + cond (doConflict (recordAt rs n) e) (2 ^ k) 0)
         (length-map (placesOn rs n q) (recordAt rs))
 
-    -- an edit that is no Set is in conflict with none
-    pub marks-unset : (n : ℕ) → isSet e ≡ false → marksOn rs n q e ≡ 0
+    -- an edit that is in conflict with none has no marks: one that is no Set is such a one
+    pub marks-apart : (n : ℕ) → ((p : ℕ) → p < n → doConflict (recordAt rs p) e ≡ false) → marksOn rs n q e ≡ 0
     unfolding placesOn keep
-    marks-unset zero h = none-marked e
-    marks-unset (suc n) h = elim (decide (isOn rs q n)) [
-      | inl on ↦
-          (let other : doConflict (recordAt rs n) e ≡ false = rw (h, and-false (isSet (recordAt rs n))) in
-          marks-added n on ∙ rw other (omega (arith, marks-unset n h)))
+    marks-apart zero h = none-marked e
+    marks-apart (suc n) h = elim (decide (isOn rs q n)) [
+      | inl on ↦ marks-added n on ∙ rw (h n (omega arith)) (omega (arith, marks-apart n (λ p l. h p (omega arith))))
       | inr none ↦
-          ap (λ (l : List ℕ). plainMarks e (map (recordAt rs) l)) (places-stay rs q n none) ∙ marks-unset n h
+          ap (λ (l : List ℕ). plainMarks e (map (recordAt rs) l)) (places-stay rs q n none)
+          ∙ marks-apart n (λ p l. h p (omega arith))
     ]
+
+    pub marks-unset : (n : ℕ) → isSet e ≡ false → marksOn rs n q e ≡ 0
+    marks-unset n h = marks-apart n (λ p l. rw (h, and-false (isSet (recordAt rs p))))
 
     -- a Set of another key, and what is no Set on the Create, marks nothing
     marks-stay : (n : ℕ) → isKeyed rs q (e .key) n ≡ false → marksOn rs (suc n) q e ≡ marksOn rs n q e

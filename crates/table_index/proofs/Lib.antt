@@ -6,4 +6,5 @@ pub mod OneRecordMore
 pub mod SameEdits
 pub mod SurveyByIndex
 pub mod ArrivingSet
+pub mod SeesAll
 pub mod LookByIndex

@@ -11,21 +11,23 @@ use edit_record::SET;
 use edit_record::Seq;
 use edit_record::Site;
 use edit_record::byte_at;
+use edit_walk::whole;
 use group_step::OBJECTS;
 use group_step::SETS;
 use table_drawing::entries::at16;
 ghost use mathlib.Core.Path.{_≡_};
 ghost use mathlib.Core.Bool.{true};
 ghost use Prim.Native.Nat.{_*_, _≤_};
-ghost use lib.ListN.{length};
+ghost use lib.ListN.{length, getD};
 ghost use Rattle.math_lists.specs.SortedLists.{any};
 ghost use Rattle.edit_record.specs.Layout.{mostSites, recordLength, placeLength};
 ghost use Rattle.edit_record.specs.RecordBytes.{decodeOf};
 ghost use Rattle.edit_record.specs.Answer1.{isSet};
 ghost use Rattle.edit_history.specs.EditsHeld.{mostRecords, editsOf, isTarget};
-ghost use Rattle.edit_walk.specs.WalkForms.{inTurnAgainst};
+ghost use Rattle.edit_walk.specs.WalkForms.{inTurnAgainst, seesAll};
 ghost use Rattle.table_drawing.specs.declared.Counters.{Counters};
 ghost use Rattle.table_index.specs.IndexForms.{IndexOf, Holds, countersOf, FoundOf, FitOf};
+ghost use Rattle.table_index.specs.IndexForms.{numberAt, ChainsOf, Arriving, marksOn};
 
 // What is found of a record that is no Set.
 fn no_set(ok: bool) -> Looked
@@ -39,8 +41,37 @@ fn no_set(ok: bool) -> Looked
     }
 }
 
-// What is found of a Set that is not limited and passes 1 to 5.
+// Those of the Sets on the Create in place q, among the first n records, that are in conflict with an arriving Set on
+// it by document 01's rule, where it is known of some that they have seen all of these: they are in conflict with none.
+fn marks_unless(
+    all: bool,
+    recs: &[u8],
+    n: usize,
+    numbers: &[u8],
+    chains: &[u8],
+    q: usize,
+    rec: &[u8],
+) -> u64
+    requires { ⌜ ((c : Counters) × Holds c (now recs) × (c .records ≡ n) × Arriving c (now recs) q (decodeOf (now rec))
+        × (all ≡ true → seesAll (c .held) (decodeOf (now rec)) ≡ true))
+        × (mostRecords * placeLength ≤ length (now recs))
+        × ChainsOf (now recs) n (now numbers) (now chains)
+        × (length (now numbers) ≡ mostRecords)
+        × (getD (now numbers) q 0 ≡ numberAt (now recs) q)
+        × (recordLength ≤ length (now rec))
+        × (isSet (decodeOf (now rec)) ≡ true) ⌝ }
+    ensures { λ r. ⌜ r ≡ marksOn (now (recs .entry)) n q (decodeOf (now (rec .entry))) ⌝ }
+{
+    if all {
+        return 0;
+    }
+    chain::marks_along(recs, n, numbers, chains, q, rec)
+}
+
+// What is found of a Set that is not limited and passes 1 to 5, where it is known of some that they have seen all of
+// the first n records.
 fn look_at_set(
+    all: bool,
     recs: &[u8],
     n: usize,
     places: &[u16],
@@ -50,7 +81,8 @@ fn look_at_set(
     rec: &[u8],
 ) -> Looked
     requires { ⌜ ((c : Counters) × Holds c (now recs) × (c .records ≡ n)
-        × (inTurnAgainst (c .sites) (c .held) (decodeOf (now rec)) ≡ true))
+        × (inTurnAgainst (c .sites) (c .held) (decodeOf (now rec)) ≡ true)
+        × (all ≡ true → seesAll (c .held) (decodeOf (now rec)) ≡ true))
         × (mostRecords * placeLength ≤ length (now recs))
         × IndexOf (now recs) n (now places) (now numbers) (now counts) (now chains)
         × (recordLength ≤ length (now rec))
@@ -67,7 +99,7 @@ fn look_at_set(
     if limits != 0 {
         return no_set(false);
     }
-    let conflicts = chain::marks_along(recs, n, numbers, chains, q, rec);
+    let conflicts = marks_unless(all, recs, n, numbers, chains, q, rec);
     Looked {
         ok: sets < SETS,
         object,
@@ -101,11 +133,12 @@ pub fn look(
     if kind == LIMITED {
         return no_set(false);
     }
-    if !edit_walk::next::is_passing_after(sites, held, recs, places, n, rec) {
+    let all = whole::is_all_seen(held, recs, n, rec);
+    if !whole::is_passing_with(all, sites, held, recs, places, n, rec) {
         return no_set(false);
     }
     if kind == SET {
-        return look_at_set(recs, n, places, numbers, counts, chains, rec);
+        return look_at_set(all, recs, n, places, numbers, counts, chains, rec);
     }
     no_set((kind != CREATE) | ((m as usize) < OBJECTS))
 }

@@ -17,9 +17,9 @@ use Rattle.edit_history.proofs.EditsHeld.{count-snoc}
 use Rattle.edit_walk.specs.WalkForms.{Spaced}
 use Rattle.edit_walk.proofs.RoomInIndex.{counted-in-all, spaced-less}
 use Rattle.table_drawing.specs.Tables.{Tables, sitesRight}
-use Rattle.table_replay.specs.Replay.{editsIn}
-use Rattle.table_replay.proofs.ReplayGoes.{Going}
-use Rattle.table_replay.proofs.OwnRecords.{holds, held-edits}
+use Rattle.table_given.specs.Replay.{editsIn}
+use Rattle.table_given.proofs.ReplayGoes.{Going}
+use Rattle.table_given.proofs.OwnRecords.{holds, held-edits}
 
 pub edits-in-length : (rs : ℕ → List ℕ) (n : ℕ) → length (editsIn rs n) ≡ n
 unfolding editsIn

@@ -11,8 +11,8 @@ use Rattle.table_drawing.specs.AnswerNumbers.{outcomeOf}
 use Rattle.table_index.specs.IndexForms.{countersOf}
 use Rattle.table_arrival.specs.Arrival.{acceptanceOf}
 use Rattle.table_arrival.proofs.Admitted.{was-taken, taken-records}
-use Rattle.table_replay.specs.ReplayForms.{Takes, Leaves, LeavesPlain}
-use Rattle.table_replay.proofs.ReplayGoes.{Going, going-on}
+use Rattle.table_plain.specs.TakingForms.{Takes, Leaves, LeavesPlain}
+use Rattle.table_given.proofs.ReplayGoes.{Going, going-on}
 
 module _
     (sites i : ℕ)

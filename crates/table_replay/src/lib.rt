@@ -1,6 +1,4 @@
 // Records taken one after another from an empty drawing.
-mod plain;
-
 use edit_form::OLD;
 use edit_history::RECORDS;
 use edit_record::SITES;
@@ -23,8 +21,8 @@ ghost use Rattle.edit_walk.specs.WalkForms.{Spaced};
 ghost use Rattle.table_drawing.specs.Tables.{tablesOf, emptyDrawing, lengthsRight, sitesRight};
 ghost use Rattle.table_drawing.specs.AnswerNumbers.{numberOf};
 ghost use Rattle.table_index.specs.IndexForms.{IndexOf, countersOf};
-ghost use Rattle.table_replay.specs.Replay.{replayed, replayOf, editsIn};
-ghost use Rattle.table_replay.specs.ReplayForms.{Takes, Leaves};
+ghost use Rattle.table_given.specs.Replay.{replayed, replayOf, editsIn};
+ghost use Rattle.table_plain.specs.TakingForms.{Takes, Leaves};
 
 // The answer to the first refused record and its index, or 0 and 0; and the counters after the records before it.
 pub struct Taken {
@@ -185,7 +183,7 @@ fn take_records(
         let rest = &recs[at..];
         at = at + edit_form::length_from(rest, form);
         let front = edit_form::front_from(rest, form);
-        let t = plain::take_plain(
+        let t = table_plain::take_plain(
             sites,
             i,
             m,

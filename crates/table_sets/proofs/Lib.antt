@@ -3,3 +3,4 @@ pub mod Followed
 pub mod MarksByKey
 pub mod SetsTold
 pub mod DisputesByMarks
+pub mod FieldsCopied

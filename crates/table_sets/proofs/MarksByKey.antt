@@ -24,7 +24,7 @@ use Rattle.edit_history.specs.EditsHeld.{recordAt}
 use Rattle.edit_history.proofs.EditsInPlaces.{sets-length, set-place}
 use Rattle.group_step.specs.GroupRows.{mostSets}
 use Rattle.group_limited.specs.LimitedForms.{setsIn}
-use Rattle.table_sets.specs.KeyForms.{setAt, chainOf, unlike, Tells, values, Told}
+use Rattle.table_sets.specs.KeyForms.{setAt, chainOf, unlike, Tells, values, ToldAs}
 use Rattle.table_sets.specs.KeyForms.{LastOf, NotedTo, LinkedTo}
 
 -- ---- numbers that pass no test are no bits
@@ -62,7 +62,7 @@ value-in-place rs p =
 
 pub told-is :
     (e : Edit) (s q v : ℕ) → s ≡ e .site .0 → q ≡ e .seq .0 → v ≡ shownValue (e .key) (e .value) → s < 256 →
-    q < twoBytes → v < values → Told ((s * twoBytes + q) * values + v) e
+    q < twoBytes → v < values → ToldAs ((s * twoBytes + q) * values + v) e
 told-is e s q v es eq ev ls lq lv = record {
   site = omega (arith, es);
   seq = omega (arith, eq);
@@ -138,7 +138,7 @@ linked-none rs ps latest earlier tolds h = record {
 }
 
 module _ (rs ps latest earlier tolds : List ℕ) (i y : ℕ) (h : LinkedTo rs ps i latest earlier tolds)
-    (l : keys ≤ length latest) (m : i < length earlier) (n : i < length tolds) (told : Told y (setAt rs ps i)) where
+    (l : keys ≤ length latest) (m : i < length earlier) (n : i < length tolds) (told : ToldAs y (setAt rs ps i)) where
   abbrev own : ℕ
   own = chainOf (setAt rs ps i)
 

@@ -52,7 +52,7 @@ abbrev pub values : ℕ
 values = 4294967296
 
 -- x has the site of e, its sequence number and its value as it is shown
-pub record Told (x : ℕ) (e : Edit) : Type 0 where
+pub record ToldAs (x : ℕ) (e : Edit) : Type 0 where
   pub site : x / (twoBytes * values) % 256 ≡ e .site .0
   pub seq : x / values % twoBytes ≡ e .seq .0
   pub value : x % values ≡ shownValue (e .key) (e .value)
@@ -68,7 +68,7 @@ pub record LastOf (rs ps : List ℕ) (x n c : ℕ) : Type 0 where
 -- of each of the first i Sets the one of its chain before it, and what is told of it
 pub record NotedTo (rs ps : List ℕ) (i : ℕ) (earlier tolds : List ℕ) : Type 0 where
   pub before : (j : ℕ) → j < i → LastOf rs ps (chainOf (setAt rs ps j)) j (getD earlier j 0)
-  pub told : (j : ℕ) → j < i → Told (getD tolds j 0) (setAt rs ps j)
+  pub told : (j : ℕ) → j < i → ToldAs (getD tolds j 0) (setAt rs ps j)
 
 -- and the last of each chain
 pub record LinkedTo (rs ps : List ℕ) (i : ℕ) (latest earlier tolds : List ℕ) : Type 0 where

@@ -1,2 +1,3 @@
 pub mod ChainForms
 pub mod KeyForms
+pub mod FieldForms

@@ -1,16 +1,12 @@
 // The Sets of an object by their keys. Only Sets of one key conflict, so each is held against those of its key alone,
 // back from the last one; of these a number tells site, sequence number and value, and no record is read again.
-use edit_causal::has_seen;
+use super::copied::copy_at;
 use edit_causal::shown;
 use edit_record::AT_KEY;
 use edit_record::AT_SEQ;
 use edit_record::AT_SITE;
 use edit_record::AT_VALUE;
 use edit_record::KEYS;
-use edit_record::PLACE;
-use edit_record::SITES;
-use edit_record::Seq;
-use edit_record::Site;
 use edit_record::VALUES;
 use group_step::SETS;
 ghost use mathlib.Core.Path.{_≡_};
@@ -18,13 +14,13 @@ ghost use Prim.Native.Nat.{ℕ, _+_, _≤_, _<_};
 ghost use lib.ListN.{length};
 ghost use Rattle.math_lists.specs.NumbersBelow.{mask};
 ghost use Rattle.edit_record.specs.declared.Edit.{Edit};
-ghost use Rattle.edit_record.specs.Layout.{keys};
+ghost use Rattle.edit_record.specs.Layout.{keys, recordLength};
 ghost use Rattle.edit_causal.specs.Conflict.{doConflict};
 ghost use Rattle.edit_causal.specs.ConflictForms.{plainMarks};
-ghost use Rattle.edit_history.specs.EditsHeld.{recordAt};
 ghost use Rattle.group_step.specs.GroupRows.{mostSets};
 ghost use Rattle.group_limited.specs.LimitedForms.{setsIn};
-ghost use Rattle.table_sets.specs.KeyForms.{setAt, chainOf, unlike, Tells, TellsIn, Told};
+ghost use Rattle.table_sets.specs.FieldForms.{HasFields};
+ghost use Rattle.table_sets.specs.KeyForms.{setAt, chainOf, unlike, Tells, TellsIn, ToldAs};
 ghost use Rattle.table_sets.specs.KeyForms.{DisputedBy, LastOf, NotedTo, LinkedTo};
 
 // The chains of an object's Sets: one for each key.
@@ -35,30 +31,30 @@ const SEQ_NUMBERS: u64 = edit_record::SEQ_NUMBERS as u64;
 
 const SITE_NUMBERS: u64 = edit_record::SITE_NUMBERS as u64;
 
-// What a later Set is told of the one in place p, whose key is known, as one number.
-fn told_at(recs: &[u8], p: u16, key: u8) -> u64
-    requires { ⌜ key ≡ recordAt (now recs) p .key ⌝ }
-    ensures { λ r. ⌜ Told r (recordAt (now (recs .entry)) p) ⌝ }
+// What a later Set is told of the one with these bytes, whose key is known, as one number.
+fn told_of(rec: &[u8], key: u8) -> u64
+    ensures { λ r. ⌜ ((e : Edit) → HasFields (now (rec .entry)) e → key ≡ e .key → ToldAs r e) ⌝ }
 {
-    let at = p as usize * PLACE;
-    let site = edit_record::byte_at(recs, at + AT_SITE);
-    let seq = edit_record::two_at(recs, at + AT_SEQ);
-    let sent = edit_record::four_at(recs, at + AT_VALUE);
+    let site = edit_record::byte_at(rec, AT_SITE);
+    let seq = edit_record::two_at(rec, AT_SEQ);
+    let sent = edit_record::four_at(rec, AT_VALUE);
     let value = shown(key, sent);
     (site as u64 * SEQ_NUMBERS + seq as u64) * VALUES + value as u64
 }
 
-// Whether the author of the vector v had not seen the Set told as x, and it is shown differently from that told as y.
-fn is_unlike(x: u64, y: u64, v: [u16; SITES]) -> bool
-    ensures { λ r. ⌜ ((a b : Edit) → Told x a → Told y b → b .vector ≡ v → r ≡ unlike a b) ⌝ }
+// Whether the author of the Set with these bytes, told as y, had not seen the one told as x, and it is shown
+// differently.
+fn is_unlike(x: u64, y: u64, rec: &[u8]) -> bool
+    requires { ⌜ recordLength ≤ length (now rec) ⌝ }
+    ensures { λ r. ⌜ ((a b : Edit) → ToldAs x a → ToldAs y b → HasFields (now (rec .entry)) b → r ≡ unlike a b) ⌝ }
 {
     let site = (x / (SEQ_NUMBERS * VALUES) % SITE_NUMBERS) as u8;
     let seq = (x / VALUES % SEQ_NUMBERS) as u16;
-    let seen = has_seen(v, Site(site), Seq(seq));
-    !seen & (x % VALUES != y % VALUES)
+    let seen = edit_record::own_entry(rec, site);
+    !(seq <= seen) & (x % VALUES != y % VALUES)
 }
 
-// Which of the Sets before the i-th conflict with it, bit j for the j-th, where it is told as y and has the vector v;
+// Which of the Sets before the i-th conflict with it, bit j for the j-th, where it has these bytes and is told as y;
 // `from` is the last one of its chain.
 fn marks_along(
     recs: &[u8],
@@ -68,15 +64,16 @@ fn marks_along(
     i: usize,
     from: u8,
     y: u64,
-    v: [u16; SITES],
+    rec: &[u8],
 ) -> u64
     requires { ⌜ (i < mostSets)
         × (i ≤ length (now earlier))
         × (i ≤ length (now tolds))
         × NotedTo (now recs) (now places) i (now earlier) (now tolds)
         × LastOf (now recs) (now places) (chainOf (setAt (now recs) (now places) i)) i from
-        × Told y (setAt (now recs) (now places) i)
-        × (setAt (now recs) (now places) i .vector ≡ v)
+        × ToldAs y (setAt (now recs) (now places) i)
+        × HasFields (now rec) (setAt (now recs) (now places) i)
+        × (recordLength ≤ length (now rec))
         × ((j : ℕ) → j < i → Tells (setAt (now recs) (now places) j) (setAt (now recs) (now places) i)) ⌝ }
     ensures { λ r. ⌜ r ≡ mask i (λ j. doConflict (setAt (now (recs .entry)) (now (places .entry)) j)
         (setAt (now (recs .entry)) (now (places .entry)) i)) ⌝ }
@@ -85,7 +82,7 @@ fn marks_along(
     let mut c = from as usize;
     while 0 < c {
         let j = c - 1;
-        if is_unlike(tolds[j], y, v) {
+        if is_unlike(tolds[j], y, rec) {
             marks = marks + (1 << j);
         }
         c = earlier[j] as usize;
@@ -114,32 +111,33 @@ pub fn take_set(
         × LinkedTo (now (recs .entry)) (now (places .entry)) (i + 1) (now (latest .exit)) (now (earlier .exit))
         (now (tolds .exit)) ⌝ }
 {
-    let p = places[i];
-    let key = edit_record::byte_at(recs, p as usize * PLACE + AT_KEY);
+    let rec = copy_at(recs, places[i]);
+    let key = rec[AT_KEY];
     let k = (key % KEYS) as usize;
-    let y = told_at(recs, p, key);
-    let v = edit_history::vector_at(recs, p as usize);
+    let y = told_of(&rec, key);
     let from = latest[k];
-    let m = marks_along(recs, places, earlier, tolds, i, from, y, v);
+    let m = marks_along(recs, places, earlier, tolds, i, from, y, &rec);
     tolds[i] = y;
     earlier[i] = from;
     latest[k] = i as u8 + 1;
     m
 }
 
-// Which of the t Sets are in dispute, bit i for the i-th.
-pub fn disputed_in(recs: &[u8], places: &[u16], t: usize) -> u64
-    requires { ⌜ (t ≤ length (now places)) × (t ≤ mostSets) × TellsIn (now recs) (now places) t ⌝ }
+// Which of the t Sets are in dispute, bit i for the i-th; `tolds` is work space.
+pub fn disputed_in(tolds: &mut [u64], recs: &[u8], places: &[u16], t: usize) -> u64
+    requires { ⌜ (t ≤ length (now places))
+        × (t ≤ mostSets)
+        × (t ≤ length (now tolds))
+        × TellsIn (now recs) (now places) t ⌝ }
     ensures { λ r. ⌜ DisputedBy (now (recs .entry)) (now (places .entry)) t r ⌝ }
 {
     let mut latest = [0u8; KEY_CHAINS];
     // what work space holds at first does not matter; zeros would be set by memset (docs/DECISIONS.md, 24)
     let mut earlier = [1u8; SETS];
-    let mut tolds = [1u64; SETS];
     let mut all: u64 = 0;
     let mut i: usize = 0;
     while i < t {
-        let m = take_set(&mut latest, &mut earlier, &mut tolds, recs, places, i);
+        let m = take_set(&mut latest, &mut earlier, tolds, recs, places, i);
         if m != 0 {
             all = all | m | (1 << i);
         }

@@ -74,11 +74,11 @@ chosen-fewer f rs (suc n) h = rw (chosen-more f rs (suc n)) (go (f (recordAt rs 
 
 -- a tally below the last record has room for one more in a byte
 pub aimed-low :
-    (rs ps ts : List ℕ) (m n p : ℕ) → m ≤ mostRecords → n < m → Targeted rs m → Tallying rs n ps ts → p < mostRecords →
+    (rs ps ts : List ℕ) (n p : ℕ) → n < mostRecords → Targeted rs (n + 1) → Tallying rs n ps ts → p < mostRecords →
     getD ts p 0 + 1 < mostRecords
-aimed-low rs ps ts m zero p few l targets h k =
+aimed-low rs ps ts zero p few targets h k =
     omega (arith, h .1 p k, chosen-few (aimsAt ps p) rs 0)
-aimed-low rs ps ts m (suc n) p few l targets h k =
+aimed-low rs ps ts (suc n) p few targets h k =
     omega (arith, h .1 p k, chosen-fewer (aimsAt ps p) rs n first)
   where
     first : aimsAt ps p (recordAt rs 0) ≡ false

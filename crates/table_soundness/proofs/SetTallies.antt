@@ -1,16 +1,17 @@
 -- The tallies by the index of places are the numbers of Sets: where each Set has its Create before it, a Set aimed at a
--- place is a Set on the record there. Assumes nothing.
+-- place is a Set on the record there. A larger index tells the same. Assumes nothing.
 use mathlib.Core.Path.{_≡_, refl, sym, ap, _∙_}
-use mathlib.Core.Bool.{Bool, true}
+use mathlib.Core.Bool.{Bool, true, false}
+use mathlib.Core.Logic.{_⊎_, inl, inr}
 use mathlib.Core.List.{List}
-use Prim.Native.Nat.{ℕ, zero, suc, _≤_, _<_}
+use Prim.Native.Nat.{ℕ, zero, suc, _+_, _≤_, _<_}
 use native.Mathlib.Omega.{arith}
 use lib.Dec.{eqb}
 use lib.ListN.{length}
 use borrow.Author.Tests.{eqb-true, eq-eqb}
 use Rattle.edit_walk.specs.WalkForms.{placeOf, Indexed}
 use Rattle.math_lists.specs.SortedLists.{filter}
-use Rattle.math_lists.proofs.Booleans.{same-test, both, and-on}
+use Rattle.math_lists.proofs.Booleans.{decide, same-test, both, and-on}
 use Rattle.math_lists.proofs.GrownAtEnd.{filter-snoc}
 use Rattle.edit_record.specs.declared.Edit.{Edit}
 use Rattle.edit_record.specs.Answer1.{isSet}
@@ -75,3 +76,21 @@ module _ (rs ps : List ℕ) (n : ℕ) (index : Indexed rs n ps) (targets : Targe
       ∙ ap length
       (filter-agree (aimsAt ps q) (isSetOn (recordAt rs q .site) (recordAt rs q .seq)) rs n
       (λ p o. aims-is q p m o))
+
+-- ---- a Set's target stands before it, so that the index of the records before the last tells the targets of all
+
+pub tallied-still :
+    (rs ps ps′ ts : List ℕ) (n : ℕ) → Targeted rs (n + 1) → Indexed rs n ps → Indexed rs n ps′ →
+    Tallying rs (n + 1) ps ts → Tallying rs (n + 1) ps′ ts
+tallied-still rs ps ps′ ts n targets index index′ (l, h) =
+    (l, λ p m. h p m ∙ ap length (filter-agree (aimsAt ps p) (aimsAt ps′ p) rs (n + 1) (same p)))
+  where
+    same : (p q : ℕ) → q < n + 1 → aimsAt ps p (recordAt rs q) ≡ aimsAt ps′ p (recordAt rs q)
+    same p q o = go (decide (isSet (recordAt rs q)))
+      where
+        go : (isSet (recordAt rs q) ≡ true) ⊎ (isSet (recordAt rs q) ≡ false) →
+            aimsAt ps p (recordAt rs q) ≡ aimsAt ps′ p (recordAt rs q)
+        go (inl y) =
+            let (k, m, _, u, v) = targets q o y in
+            rw (← u, ← v, index k (omega arith), index′ k (omega arith))
+        go (inr y) = rw y

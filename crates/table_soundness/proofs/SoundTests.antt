@@ -1,5 +1,5 @@
 -- The tests of soundness put together. Assumes nothing.
-use mathlib.Core.Path.{_≡_, refl, sym, ap}
+use mathlib.Core.Path.{_≡_, refl, ap}
 use mathlib.Core.Bool.{Bool, true, false, not, _&&_, _||_, and-assoc, and-true, and-false, or-false}
 use mathlib.Core.List.{List}
 use Prim.Native.Nat.{ℕ, _*_, _≤_, _<_}
@@ -9,15 +9,13 @@ use lib.ListN.{getD, length}
 use borrow.Author.Tests.{eqb-true, leb-true, lt-ltb, le-ltb, le-leb, lt-leb, not-false}
 use Rattle.math_lists.specs.NumbersBelow.{all, sum}
 use Rattle.math_lists.proofs.Booleans.{clash, off, both}
-use Rattle.math_lists.proofs.NumbersBelow.{all-same, all-at}
+use Rattle.math_lists.proofs.NumbersBelow.{all-on, all-same, all-at}
 use Rattle.edit_record.specs.Layout.{mostSites, placeLength}
 use Rattle.edit_record.proofs.WellFormed.{set-aimed}
 use Rattle.edit_history.specs.Answers2to5.{recordsPass}
 use Rattle.edit_history.specs.Answer16.{recordsNamed}
 use Rattle.edit_history.specs.EditsHeld.{mostRecords, recordAt, editsOf, creates, countFrom}
 use Rattle.edit_sum.specs.WordSum.{sumHeld}
-use Rattle.edit_walk.specs.declared.Walked.{Walked}
-use Rattle.edit_walk.specs.WalkForms.{WalkedOver}
 use Rattle.edit_history.proofs.EditsHeld.{edits-length, target-parts}
 use Rattle.edit_history.proofs.RecordsPassed.{target-before}
 use Rattle.edit_walk.proofs.RoomInIndex.{counted-in-all}
@@ -26,7 +24,8 @@ use Rattle.table_drawing.specs.declared.Counters.{Counters}
 use Rattle.table_drawing.specs.Tables.{Tables, entryLength, heldBy, recordsLength, objectsLength, groupsLength}
 use Rattle.table_drawing.specs.Tables.{lengthsRight, sitesRight}
 use Rattle.table_soundness.specs.Sound.{withinLimits, countsAgree, objectSound, zeroFrom, restZero, sound}
-use Rattle.table_soundness.specs.SoundnessForms.{Targeted, FewSets, Passed}
+use Rattle.table_soundness.specs.SoundnessForms.{Targeted, GatheredOver, SetsWithinLimit, PassedOver}
+use Rattle.table_soundness.specs.declared.Tally.{Tally}
 use Rattle.table_soundness.proofs.EachObject.{object-at}
 use Rattle.table_soundness.proofs.SoundFacts.{sound-at}
 use Rattle.table_soundness.proofs.ObjectsByNumber.{entered-sets-few}
@@ -99,20 +98,23 @@ crowded t h =
     let es = editsOf (t .records) (t .counters .records) in
     let fits = counted-in-all (t .counters .held) es (s .held) in
     let long = edits-length (t .records) (t .counters .records) in
-    let few : sum mostSites (λ s. getD (t .counters .held) s 0) ≤ mostRecords = omega (arith, fits, long, s .few-records) in
+    let few : sum mostSites (λ s. getD (t .counters .held) s 0) ≤ mostRecords
+    = omega (arith, fits, long, s .few-records) in
     clash (le-leb (sum mostSites (λ s. getD (t .counters .held) s 0)) mostRecords few) h)
 
--- records that do not pass, or more of a site than are counted
-pub not-walked :
-    (t : Tables) (w : Walked) (ps : List ℕ) →
-    WalkedOver (t .counters .sites) (λ s. getD (t .counters .held) s 0) (t .records) (t .counters .records) w ps →
-    w .ok ≡ false → sound t ≡ false
-not-walked t w ps over h =
+-- records that do not pass, more of a site than are counted, or a place that is not zero past its record
+pub not-right :
+    (t : Tables) (g : Tally) (ps ns ts : List ℕ) →
+    GatheredOver (t .counters .sites) (λ s. getD (t .counters .held) s 0) (t .records) (t .counters .records) g ps ns
+    ts →
+    g .right ≡ false → sound t ≡ false
+not-right t g ps ns ts over h =
     off (sound t) (λ y.
     let s = sound-at t y in
-    over .refused h (s .pass) (λ x l. omega (arith, s .held x l)))
+    over .wrong h (s .pass) (λ x l. omega (arith, s .held x l))
+    (all-on (t .counters .records) (restZero (t .records)) (s .rests)))
 
--- ---- what the walk gives
+-- ---- what records that pass give
 
 -- each Set's target stands before it
 pub targeted :
@@ -122,30 +124,14 @@ targeted sites rs n pass p l h =
     let x = target-parts (recordAt rs p) (recordAt rs q) t in
     (q, m, x .create, x .site, x .seq)
 
-pub walk-passed :
-    (t : Tables) (w : Walked) (ps : List ℕ) → lengthsRight (t .records) (t .objects) (t .groups) ≡ true →
-    withinLimits (t .counters) ≡ true →
-    WalkedOver (t .counters .sites) (λ s. getD (t .counters .held) s 0) (t .records) (t .counters .records) w ps →
-    w .ok ≡ true → Passed t (w .held) ps
-walk-passed t w ps lengths limits over ok =
-    let pass : recordsPass (t .counters .sites) (t .records) (t .counters .records) ≡ true = over .passed ok in
-    record {
-      lengths = lengths;
-      limits = limits;
-      pass = pass;
-      counted = over .counted ok;
-      index = over .indexed ok;
-      targets = targeted (t .counters .sites) (t .records) (t .counters .records) pass;
-    }
-
 -- ---- the whole
 
-module _ (t : Tables) (hs ps : List ℕ) (w : Passed t hs ps) where
+module _ (t : Tables) (g : Tally) (ns ts : List ℕ) (w : PassedOver t g ns ts) where
   same-counts :
       let given = t .counters .held in
-      all mostSites (λ s. eqb (getD given s 0) (getD hs s 0))
+      all mostSites (λ s. eqb (getD given s 0) (getD (g .held) s 0))
       ≡ all mostSites (λ s. eqb (getD given s 0) (countFrom s (heldBy t)))
-  same-counts = all-same mostSites _ _ (λ s l. ap (eqb (getD (t .counters .held) s 0)) (w .counted s l))
+  same-counts = all-same mostSites _ _ (λ s l. ap (eqb (getD (t .counters .held) s 0)) (w .gathered .counted s l))
 
   -- what is left to test of tables within their limits whose records pass, but for 16
   abbrev each? : Bool
@@ -164,31 +150,24 @@ module _ (t : Tables) (hs ps : List ℕ) (w : Passed t hs ps) where
   added? = eqb (t .counters .sum) (sumHeld (t .counters .records) (t .records))
 
   abbrev counts? : Bool
-  counts? = all mostSites (λ s. eqb (getD (t .counters .held) s 0) (getD hs s 0))
-
-  abbrev rests? : Bool
-  rests? = all (t .counters .records) (restZero (t .records))
+  counts? = all mostSites (λ s. eqb (getD (t .counters .held) s 0) (getD (g .held) s 0))
 
   pub rest-is :
-      rests? ≡ true →
       (counts? && added? && made? && each? && zero? && recordsNamed (t .records) (t .counters .records)) ≡ sound t
   unfolding sound countsAgree
-  rest-is h = rw (same-counts, w .lengths, w .limits, w .pass, h) (simp (and-assoc, and-true))
-
-  -- a place that is not zero past its record
-  pub rest-wrong : rests? ≡ false → false ≡ sound t
-  unfolding sound
-  rest-wrong h = sym (simp (h, and-false))
+  rest-is =
+      rw (same-counts, w .lengths, w .limits, w .gathered .pass, w .gathered .rests) (simp (and-assoc, and-true))
 
   -- where all of that holds no object has too many Sets
-  pub rest-few : (counts? && added? && made? && each? && zero?) ≡ true → FewSets (t .records) (t .counters .records)
+  pub rest-few :
+      (counts? && added? && made? && each? && zero?) ≡ true → SetsWithinLimit (t .records) (t .counters .records)
   rest-few h =
       let (h1, _) = both (counts? && added? && made? && each?) zero? h in
       let (h2, each) = both (counts? && added? && made?) each? h1 in
       let (_, made) = both (counts? && added?) made? h2 in
       entered-sets-few t (record {
         objects = eqb-true (t .counters .objects) (length (creates (heldBy t))) made;
-        pass = w .pass;
+        pass = w .gathered .pass;
         object = λ o l.
             object-at (t .records) (t .counters .records) (t .objects) (t .groups) o
             (all-at (t .counters .objects)

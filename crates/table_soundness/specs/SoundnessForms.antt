@@ -1,7 +1,7 @@
--- What the test of soundness gathers from the records rs: where each edit stands, how many Creates stand
--- before each record, and how many Sets there are on it. Assumes nothing.
+-- What the test of soundness gathers from the records rs: where each edit stands, how many Creates stand before each
+-- record, and how many Sets there are on it. Assumes nothing.
 use mathlib.Core.Path.{_≡_}
-use mathlib.Core.Bool.{Bool, true, _&&_}
+use mathlib.Core.Bool.{Bool, true, false, _&&_}
 use mathlib.Core.List.{List}
 use Prim.Native.Nat.{ℕ, _≤_, _<_}
 use lib.Dec.{eqb}
@@ -11,15 +11,16 @@ use Rattle.math_lists.specs.SortedLists.{filter}
 use Rattle.edit_record.specs.declared.Edit.{Edit}
 use Rattle.edit_record.specs.declared.Site.{Site}
 use Rattle.edit_record.specs.declared.Seq.{Seq}
-use Rattle.edit_record.specs.Layout.{mostSites}
 use Rattle.edit_record.specs.Answer1.{isCreate, isSet}
-use Rattle.edit_history.specs.EditsHeld.{recordAt, editsOf, countFrom, creates, setsOn, mostRecords}
+use Rattle.edit_history.specs.EditsHeld.{recordAt, editsOf, creates, setsOn, mostRecords}
 use Rattle.edit_history.specs.Answers2to5.{recordsPass}
+use Rattle.edit_history.specs.Answer16.{recordsNamed}
+use Rattle.edit_history.specs.SurveyForms.{Counted}
 use Rattle.edit_sum.specs.WordSum.{sumHeld}
-use Rattle.edit_walk.specs.WalkForms.{placeOf, Indexed}
+use Rattle.edit_walk.specs.WalkForms.{placeOf, Indexed, Roomy}
 use Rattle.group_step.specs.GroupRows.{mostSets}
-use Rattle.table_drawing.specs.Tables.{Tables, heldBy, lengthsRight}
-use Rattle.table_soundness.specs.Sound.{withinLimits, restZero}
+use Rattle.table_drawing.specs.Tables.{Tables, lengthsRight}
+use Rattle.table_soundness.specs.Sound.{withinLimits, restZero, sound}
 use Rattle.table_soundness.specs.declared.Tally.{Tally}
 
 -- ---- what is known of the targets
@@ -57,26 +58,45 @@ Tallying rs n ps ts =
     (length ts ≡ mostRecords)
     × ((p : ℕ) → p < mostRecords → getD ts p 0 ≡ length (filter (aimsAt ps p) (editsOf rs n)))
 
--- g is what is gathered from the first n records, with the numbers ns and the tallies ts; nothing is said of these where
--- a place is not zero past its record
-pub record GatheredOver (rs : List ℕ) (n : ℕ) (g : Tally) (ns ts : List ℕ) : Type 0 where
-  pub rests : g .rests ≡ all n (restZero rs)
-  pub sum : g .rests ≡ true → g .sum ≡ sumHeld n rs
-  pub made : g .rests ≡ true → g .creates ≡ length (creates (editsOf rs n))
-  pub numbered : g .rests ≡ true → CreatesBefore rs n ns
-  pub tallied : g .rests ≡ true → Tallied rs n ts
+-- ---- the pass over the first n records
+
+-- not all records past the first n pass 1 to 5, have room for so many edits of each site and places that are zero past
+-- them
+abbrev pub WrongPast : ℕ → (ℕ → ℕ) → List ℕ → ℕ → Type 0
+WrongPast sites room rs n =
+    (m : ℕ) → n < m → recordsPass sites rs m ≡ true → Roomy room rs m → all m (restZero rs) ≡ true → ⊥
+
+-- g is gathered from records that pass 1 to 5 and whose places are zero past them, with the numbers ns and the tallies
+-- ts
+pub record GatheredFrom (sites : ℕ) (rs : List ℕ) (n : ℕ) (g : Tally) (ns ts : List ℕ) : Type 0 where
+  pub pass : recordsPass sites rs n ≡ true
+  pub rests : all n (restZero rs) ≡ true
+  pub counted : Counted (g .held) (editsOf rs n)
+  pub sum : g .sum ≡ sumHeld n rs
+  pub made : g .creates ≡ length (creates (editsOf rs n))
+  pub numbered : CreatesBefore rs n ns
+  pub tallied : Tallied rs n ts
+
+-- g is what the pass over the first n records gives, with the index ps
+pub record GatheredOver (sites : ℕ) (room : ℕ → ℕ) (rs : List ℕ) (n : ℕ) (g : Tally) (ps ns ts : List ℕ) : Type 0 where
+  pub right : g .right ≡ true → GatheredFrom sites rs n g ns ts
+  pub indexed : g .right ≡ true → Indexed rs n ps
+  pub wrong : g .right ≡ false → recordsPass sites rs n ≡ true → Roomy room rs n → all n (restZero rs) ≡ true → ⊥
 
 -- no object has more Sets, among the first n records, than it may have
-abbrev pub FewSets : List ℕ → ℕ → Type 0
-FewSets rs n = (s : Site) (q : Seq) → length (setsOn s q (editsOf rs n)) ≤ mostSets
+abbrev pub SetsWithinLimit : List ℕ → ℕ → Type 0
+SetsWithinLimit rs n = (s : Site) (q : Seq) → length (setsOn s q (editsOf rs n)) ≤ mostSets
 
--- ---- what is known of tables once their limits are tested and their records walked
+-- ---- what is known of tables once their limits are tested and their records passed over
 
--- hs are the counts that the walk gave, and ps is its index
-pub record Passed (t : Tables) (hs ps : List ℕ) : Type 0 where
+pub record PassedOver (t : Tables) (g : Tally) (ns ts : List ℕ) : Type 0 where
   pub lengths : lengthsRight (t .records) (t .objects) (t .groups) ≡ true
   pub limits : withinLimits (t .counters) ≡ true
-  pub pass : recordsPass (t .counters .sites) (t .records) (t .counters .records) ≡ true
-  pub counted : (s : ℕ) → s < mostSites → getD hs s 0 ≡ countFrom s (heldBy t)
-  pub index : Indexed (t .records) (t .counters .records) ps
-  pub targets : Targeted (t .records) (t .counters .records)
+  pub gathered : GatheredFrom (t .counters .sites) (t .records) (t .counters .records) g ns ts
+
+-- r tells whether the tables are sound but for 16; where they are, ps is the index of their records
+pub record SoundButNamed (t : Tables) (r : Bool) (ps : List ℕ) : Type 0 where
+  pub whole : (r && recordsNamed (t .records) (t .counters .records)) ≡ sound t
+  pub pass : r ≡ true → recordsPass (t .counters .sites) (t .records) (t .counters .records) ≡ true
+  pub few : r ≡ true → SetsWithinLimit (t .records) (t .counters .records)
+  pub indexed : r ≡ true → Indexed (t .records) (t .counters .records) ps

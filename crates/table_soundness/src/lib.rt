@@ -23,14 +23,15 @@ ghost use Rattle.edit_record.specs.Layout.{mostSites, placeLength};
 ghost use Rattle.edit_history.specs.EditsHeld.{mostRecords};
 ghost use Rattle.edit_history.specs.Answer16.{recordsNamed};
 ghost use Rattle.edit_walk.specs.WalkForms.{placesLength, Indexed};
-ghost use Rattle.table_drawing.specs.Tables.{entryLength, tablesOf};
+ghost use Rattle.table_drawing.specs.Tables.{entryLength, tablesOf, lengthsRight};
 ghost use Rattle.table_soundness.specs.Sound.{withinLimits, zeroFrom, sound};
-ghost use Rattle.table_soundness.specs.SoundnessForms.{Passed, FewSets};
+ghost use Rattle.table_soundness.specs.SoundnessForms.{PassedOver, SetsWithinLimit, SoundButNamed};
 
-// What one pass over the records gathers: whether every place is zero past its record, and then the sum of their words
-// and how many of them are Creates.
+// What one pass over the records gathers: whether all are right, and then how many edits of each site they are, the sum
+// of their words and how many of them are Creates.
 pub struct Tally {
-    pub rests: bool,
+    pub right: bool,
+    pub held: [u16; SITES],
     pub sum: u32,
     pub creates: u16,
 }
@@ -78,40 +79,71 @@ fn unused_zero(records: &[u8], objects: &[u16], groups: &[u64], n: usize, m: usi
     a & b & d
 }
 
-// Whether tables within their limits whose records pass are sound but for 16, by the counts and the index that the
-// records gave; then no object has more Sets than it may have.
+// Whether tables within their limits whose records are right are sound but for 16, by what the pass over the records
+// gathered; then no object has more Sets than it may have.
 fn rest_sound(
     c: Counters,
-    held: [u16; SITES],
-    places: &[u16],
+    g: Tally,
+    earlier: &[u8],
+    tallies: &[u8],
     records: &[u8],
     objects: &[u16],
     groups: &[u64],
 ) -> bool
-    requires { ⌜ Passed (tablesOf c (now records) (now objects) (now groups)) held (now places) ⌝ }
+    requires { ⌜ PassedOver (tablesOf c (now records) (now objects) (now groups)) g (now earlier) (now tallies) ⌝ }
     ensures { λ r. ⌜ ((r && recordsNamed (now (records .entry)) (c .records))
         ≡ sound (tablesOf c (now (records .entry)) (now (objects .entry)) (now (groups .entry))))
-        × (r ≡ true → FewSets (now (records .entry)) (c .records)) ⌝ }
+        × (r ≡ true → SetsWithinLimit (now (records .entry)) (c .records)) ⌝ }
 {
     let given = c.held;
+    let held = g.held;
     let kept = c.sum;
     let n = c.records as usize;
     let m = c.objects as usize;
     let agree = counts_agree(given, held);
-    let mut earlier = [0u8; RECORDS];
-    let mut tallies = [0u8; RECORDS];
-    let g = gathering::gather(records, n, places, &mut earlier, &mut tallies);
-    if !g.rests {
-        return false;
-    }
-    let each = objects::objects_sound(records, n, objects, groups, &earlier, &tallies, m);
+    let each = objects::objects_sound(records, n, objects, groups, earlier, tallies, m);
     let zero = unused_zero(records, objects, groups, n, m);
     agree & (kept == g.sum) & (m == g.creates as usize) & each & zero
 }
 
-// Whether the tables are sound, whatever stands in them; if they are, places is the index of their records. The records
-// are walked once, with room in the index by the counts that are given, and each object is tested by what one more pass
-// gathers, so that no object is held against every record.
+// Whether tables of the right lengths and within their limits are sound but for 16; if they are, places is the index of
+// their records. Each object is tested by what one pass over the records gathers, so that none is held against every
+// record. Apart from the test of 16, so that what is gathered and what that works with stand in the same room.
+fn is_sound_but_named(
+    c: Counters,
+    records: &[u8],
+    objects: &[u16],
+    groups: &[u64],
+    places: &mut [u16],
+) -> bool
+    requires { ⌜ (lengthsRight (now records) (now objects) (now groups) ≡ true)
+        × (withinLimits c ≡ true)
+        × (sum mostSites (λ s. getD (c .held) s 0) ≤ mostRecords)
+        × (length (now places) ≡ placesLength) ⌝ }
+    ensures { λ r. ⌜ SoundButNamed (tablesOf c (now (records .entry)) (now (objects .entry)) (now (groups .entry))) r
+        (now (places .exit)) ⌝ }
+{
+    let given = c.held;
+    let n = c.records as usize;
+    let mut earlier = [0u8; RECORDS];
+    let mut tallies = [0u8; RECORDS];
+    let g = gathering::gather(
+        c.sites,
+        given,
+        records,
+        n,
+        places,
+        &mut earlier,
+        &mut tallies,
+    );
+    if !g.right {
+        return false;
+    }
+    rest_sound(c, g, &earlier, &tallies, records, objects, groups)
+}
+
+// Whether the tables are sound, whatever stands in them; if they are, places is the index of their records, which has
+// room by the counts that are given.
 pub fn is_sound_with(
     c: Counters,
     records: &[u8],
@@ -133,12 +165,7 @@ pub fn is_sound_with(
     if !is_room_enough(given) {
         return false;
     }
-    let w = edit_walk::walk(c.sites, given, records, c.records as usize, places);
-    if !w.ok {
-        return false;
-    }
-    let held = w.held;
-    if !rest_sound(c, held, places, records, objects, groups) {
+    if !is_sound_but_named(c, records, objects, groups, places) {
         return false;
     }
     group_named::are_all_named(records, c.records as usize, places)

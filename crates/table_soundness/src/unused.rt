@@ -11,8 +11,8 @@ ghost use Rattle.edit_record.specs.Layout.{placeLength};
 ghost use Rattle.edit_history.specs.EditsHeld.{mostRecords};
 ghost use Rattle.table_soundness.specs.Sound.{zeroFrom, restZero};
 
-// Whether every byte from k on is zero. Two halves are walked at once, which share the byte in the middle where there is
-// one: twice as much is in a turn of the loop.
+// Whether every byte from k on is zero. Two halves are walked at once, which share the byte in the middle where there
+// is one: twice as much is in a turn of the loop.
 pub fn is_zero_from8(s: &[u8], k: usize) -> bool
     ensures { λ r. ⌜ r ≡ zeroFrom (now (s .entry)) k ⌝ }
 {

@@ -2,7 +2,7 @@
 use mathlib.Core.Path.{_≡_, sym, _∙_}
 use denote.Ref.{now}
 use borrow.Author.Needs.{needs}
-use Rattle.table_replay.proofs.ReplayGoes.{opened}
+use Rattle.table_given.proofs.ReplayGoes.{opened}
 use Rattle.table_drawing.specs.AnswerNumbers.{numberOf}
 use Rattle.block_store.proofs.ReadingOutcomes.{all-taken, one-refused, lengths-stay}
 use Rattle.block_store.proofs.read_records.Statement.{statement}

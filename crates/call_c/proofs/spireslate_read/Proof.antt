@@ -129,7 +129,7 @@ use denote.Triple.Walked.{
 }
 use denote.Exit.{yes}
 use Rattle.table_drawing.specs.Tables.{tablesOf as tables-of}
-use Rattle.table_replay.specs.Replay.{replayed}
+use Rattle.table_given.specs.Replay.{replayed}
 use Rattle.block_store.specs.Reading.{readingOf}
 use Rattle.table_drawing.specs.declared.Counters.{Counters}
 use Rattle.call_by_value.specs.declared.FileTaken.{FileTaken}

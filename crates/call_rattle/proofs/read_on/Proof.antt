@@ -120,7 +120,7 @@ use denote.Exit.{yes}
 use types.Tokens.{lft-new, lft-end}
 use denote.Lend.{lends-ref, ref-back}
 use Rattle.table_drawing.specs.Tables.{tablesOf as tables-of}
-use Rattle.table_replay.specs.Replay.{replayed}
+use Rattle.table_given.specs.Replay.{replayed}
 use Rattle.block_store.specs.Reading.{readingOf}
 use Rattle.table_drawing.specs.declared.Counters.{Counters}
 use Rattle.call_by_value.specs.declared.FileAnswer.{FileAnswer}

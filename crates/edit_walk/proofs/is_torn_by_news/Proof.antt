@@ -1,5 +1,5 @@
 -- `edit_walk::is_torn_by_news` meets its contract. Assumes nothing.
-use mathlib.Core.Path.{_≡_, sym, ap, ap₂, _∙_}
+use mathlib.Core.Path.{_≡_, sym, ap, _∙_}
 use mathlib.Core.Logic.{⊎-elim}
 use mathlib.Core.Bool.{Bool, not, _&&_, _||_, or-false, or-assoc}
 use mathlib.Core.List.{List}
@@ -14,7 +14,7 @@ use borrow.Author.Tests.{eq-eqb, ne-eqb}
 use Rattle.math_lists.specs.NumbersBelow.{some}
 use Rattle.edit_record.specs.Layout.{mostSites}
 use Rattle.edit_history.specs.Answers2to5.{largerSomewhere}
-use Rattle.edit_walk.specs.WalkForms.{tornBy, vectorBy, seenByLast, tornByNews}
+use Rattle.edit_walk.specs.WalkForms.{seenBefore, tornBy, vectorBy, seenByLast, tornByNews}
 use Rattle.edit_walk.proofs.is_torn_by_news.Statement.{statement}
 use Rattle.edit_walk.proofs.is_torn_by_news.Tie as tie
 
@@ -24,17 +24,14 @@ isNews recs places w seen was t =
     not (eqb (getD seen t 0) (getD was t 0)) && tornBy recs places w t (getD seen t 0)
 
 abbrev Inv-loop : tie.InvT-loop
-Inv-loop recs places w seen was found₀ t₀ found t =
-    (t ≤ mostSites) × (found ≡ (largerSomewhere was w || some t (isNews recs places w seen was)))
+Inv-loop recs places w s last was found₀ t₀ found t =
+    (t ≤ mostSites) × (found ≡ (largerSomewhere was w || some t (isNews recs places w (seenBefore w s) was)))
 
 abbrev μ-loop : tie.MeasureT-loop
-μ-loop recs places w seen was found₀ t₀ found t = mostSites - t
+μ-loop recs places w s last was found₀ t₀ found t = mostSites - t
 
-seen-before-requires : tie.Need-seen-before-requires Inv-loop μ-loop
-seen-before-requires c κs = search needs
-
-entry-requires : tie.Need-entry-requires Inv-loop μ-loop
-entry-requires c κs = search needs
+latest-seen-requires : tie.Need-latest-seen-requires Inv-loop μ-loop
+latest-seen-requires c κs = search needs
 
 vector-by-requires : tie.Need-vector-by-requires Inv-loop μ-loop
 vector-by-requires c κs = search needs
@@ -48,21 +45,14 @@ loop-holds c = (
   omega arith,
   c .is-larger-somewhere .ensures
       ∙ sym (or-false
-      (largerSomewhere (c .before .vector-by .result) (c .before .before .before .before .before .before .args
-      .w))),
+      (largerSomewhere (c .before .vector-by .result) (c .before .before .before .before .before .args .w))),
 )
 
 cast-loop : tie.Need-cast-loop Inv-loop μ-loop
 cast-loop c = search needs
 
-cast-q : tie.Need-cast-q Inv-loop μ-loop
-cast-q c = search needs
-
-mul-q : tie.Need-mul-q Inv-loop μ-loop
-mul-q c = search needs
-
-array-read-q : tie.Need-array-read-q Inv-loop μ-loop
-array-read-q c = search needs
+latest-seen-requires-2 : tie.Need-latest-seen-requires-2 Inv-loop μ-loop
+latest-seen-requires-2 c κs = search needs
 
 cast-if1 : tie.Need-cast-if1 Inv-loop μ-loop
 cast-if1 c = search needs
@@ -85,17 +75,18 @@ loop-less c = search needs
 loop-again : tie.Need-loop-again Inv-loop μ-loop
 unfolding some
 loop-again c =
-    let l = c .before .before .loop in
     let z = c .before .before .before in
+    let l = z .loop in
     let a = z .before .before .before .before .before .before .args in
-    let seen = z .before .before .before .seen-before .result in
-    let was = z .before .vector-by .result in
+    let seen = seenBefore (a .w) (a .s) in
+    let was = z .before .before .vector-by .result in
     let rs = now (a .recs) in
     let ps = now (a .places) in
-    let q = getD seen (l .t) 0 in
+    let q = c .before .latest-seen2 .ensures in
     let e : c .if1 .found ≡ (l .found || isNews rs ps (a .w) seen was (l .t))
-    = ⊎-elim (λ w. w .2 ∙ rw (ne-eqb q (getD was (l .t) 0) (w .0 .taken), w .1 .ensures))
-    (λ w. w .1 ∙ rw (eq-eqb q (getD was (l .t) 0) (w .0 .left)) (sym (or-false (l .found)))) (c .if1 .came) in (
+    = rw (← q)
+    (⊎-elim (λ w. w .2 ∙ rw (ne-eqb _ _ (w .0 .taken), w .1 .ensures))
+    (λ w. w .1 ∙ rw (eq-eqb _ _ (w .0 .left)) (sym (or-false (l .found)))) (c .if1 .came)) in (
       omega arith,
       rw (add-one, e, l .inv .1)
           (or-assoc (largerSomewhere was (a .w)) (some (l .t) (isNews rs ps (a .w) seen was))
@@ -105,18 +96,16 @@ loop-again c =
 returns : tie.Need-returns Inv-loop μ-loop
 unfolding tornByNews
 returns c =
-    let z = c .before .before in
-    let a = z .before .before .before .before .before .before .args in
+    let z = c .before .before .before in
+    let a = z .before .before .before .before .args in
     let rs = now (a .recs) in
     let ps = now (a .places) in
+    let seen = seenBefore (a .w) (a .s) in
     let k : c .before .loop .t ≡ mostSites = omega arith in
-    let seen = z .before .before .before .seen-before .ensures in
-    let last = ap (λ (l : List ℕ). getD l (a .s .0) 0) seen in
-    let was : z .before .vector-by .result ≡ seenByLast rs ps (a .w) (a .s)
-    = z .before .vector-by .ensures
-    ∙ rw (z .before .before .entry .ensures) (ap (vectorBy rs ps (a .s .0)) last) in
+    let was : z .vector-by .result ≡ seenByLast rs ps (a .w) (a .s)
+    = z .vector-by .ensures ∙ ap (vectorBy rs ps (a .s .0)) (z .before .latest-seen .ensures) in
     (rw k at (c .before .loop .inv .1))
-    ∙ ap₂ (λ (x y : List ℕ). largerSomewhere y (a .w) || some mostSites (isNews rs ps (a .w) x y)) seen was
+    ∙ ap (λ (y : List ℕ). largerSomewhere y (a .w) || some mostSites (isNews rs ps (a .w) seen y)) was
 
 pub is-torn-by-news-spec : {M : Type 1} → statement M
 is-torn-by-news-spec =
@@ -124,15 +113,12 @@ is-torn-by-news-spec =
     (tie.spec
     Inv-loop
     μ-loop
-    seen-before-requires
-    entry-requires
+    latest-seen-requires
     vector-by-requires
     is-larger-somewhere-requires
     loop-holds
     cast-loop
-    cast-q
-    mul-q
-    array-read-q
+    latest-seen-requires-2
     cast-if1
     mul-if1
     array-read-if1

@@ -8,23 +8,21 @@ use lib.Count.{trailingZeros}
 use lib.ListN.{getD}
 use denote.Ref.{now}
 use Rattle.math_maximal.specs.Groups.{bit}
-use Rattle.math_maximal.specs.Step.{compatible}
 use Rattle.math_maximal.proofs.OneMemberLess.{first-left, less-left, still-left}
 use Rattle.math_maximal.proofs.Bits.{bit-none, bit-or}
-use Rattle.group_context.proofs.FoesOfMembers.{someGone, none-gone, all-gone, some-more}
+use Rattle.group_context.proofs.MembersGone.{someGone, none-gone, all-gone, some-more}
 use borrow.Author.Needs.{needs}
 use Rattle.group_context.proofs.foes_of.Statement.{statement}
 use Rattle.group_context.proofs.foes_of.Tie as tie
 
 abbrev Inv-loop : tie.InvT-loop
-Inv-loop plain m v foes₀ unmet₀ left₀ foes unmet left =
+Inv-loop plain m foes₀ left₀ foes left =
     (left ≤ m)
     × ((j : ℕ) → bit left j ≡ true → bit m j ≡ true)
     × ((y : ℕ) → bit foes y ≡ someGone m left (λ j. bit (getD plain j 0) y))
-    × (unmet ≡ someGone m left (λ j. compatible v (getD plain j 0)))
 
 abbrev μ-loop : tie.MeasureT-loop
-μ-loop plain m v foes₀ unmet₀ left₀ foes unmet left = left
+μ-loop plain m foes₀ left₀ foes left = left
 
 loop-holds : tie.Need-loop-holds Inv-loop μ-loop
 loop-holds c =
@@ -33,7 +31,6 @@ loop-holds c =
       omega arith,
       λ j h. h,
       λ y. bit-none y ∙ sym (none-gone (a .m) (λ j. bit (getD ps j 0) y)),
-      sym (none-gone (a .m) (λ j. compatible (a .v) (getD ps j 0))),
     )
 
 cast-j : tie.Need-cast-j Inv-loop μ-loop
@@ -50,7 +47,8 @@ only-requires : tie.Need-only-requires Inv-loop μ-loop
 only-requires c κs =
     let l = c .before .before .loop in
     let s = c .before .before .before .before in
-    let (_, few) = first-left {n = 64} (c .before .loop-test .taken) (l .inv .0) (s .fits .m .fits) (s .fits .m .fits) in
+    let fits = s .fits .m .fits in
+    let (_, few) = first-left {n = 64} (c .before .loop-test .taken) (l .inv .0) fits fits in
     few
 
 without-requires : tie.Need-without-requires Inv-loop μ-loop
@@ -81,18 +79,14 @@ loop-again c =
       λ y. bit-or (l .foes) (row .result) y
           ∙ ap₂ (λ (p q : Bool). p || q) (l .inv .2 y) (ap (λ (x : ℕ). bit x y) (row .ensures))
           ∙ some-more (a .m) (l .left) i few here its (λ j. bit (getD ps j 0) y),
-      ap₂ (λ (p q : Bool). p || q) (l .inv .3) (ap (compatible (a .v)) (row .ensures))
-          ∙ some-more (a .m) (l .left) i few here its (λ j. compatible (a .v) (getD ps j 0)),
     )
 
 returns : tie.Need-returns Inv-loop μ-loop
 returns c =
     let l = c .before .loop in
     let a = c .before .before .before .args in
-    let ps = now (a .plain) in (
-      λ y. l .inv .2 y ∙ all-gone (a .m) (l .left) (λ j. bit (getD ps j 0) y) (c .loop-test .left),
-      l .inv .3 ∙ all-gone (a .m) (l .left) (λ j. compatible (a .v) (getD ps j 0)) (c .loop-test .left),
-    )
+    let ps = now (a .plain) in
+    λ y. l .inv .2 y ∙ all-gone (a .m) (l .left) (λ j. bit (getD ps j 0) y) (c .loop-test .left)
 
 pub foes-of-spec : {M : Type 1} → statement M
 foes-of-spec =

@@ -1,32 +1,41 @@
 -- `group_context::names_version` meets its contract: a plain Set is not asked. Assumes nothing.
-use mathlib.Core.Path.{ap, subst, _∙_}
-use mathlib.Core.Bool.{not}
-use Prim.Native.Nat.{ℕ}
+use mathlib.Core.Path.{_≡_, subst, sym, ap, _∙_}
+use mathlib.Core.Bool.{true, false}
+use lib.Dec.{eqb}
 use borrow.Author.Tests.{not-true, not-false}
-use Rattle.group_context.specs.RowForms.{namesOf}
-use Rattle.group_context.specs.RowsOfBox.{NextOf}
-use Rattle.group_context.proofs.NextByRows.{names-of-next}
+use denote.Ref.{now}
+use Rattle.math_contexts.specs.MaskForms.{maskNames}
+use Rattle.group_context.specs.RowsOfBox.{NextOf, whatIsLeft}
+use Rattle.group_context.proofs.ContextByListed.{names-by-listed}
+use Rattle.group_context.proofs.ListedByRows.{listed-is}
 use borrow.Author.Needs.{needs}
 use Rattle.group_context.proofs.names_version.Statement.{statement}
 use Rattle.group_context.proofs.names_version.Tie as tie
 
 returns : tie.Need-returns
-returns c b next its-context =
-    let a = c .before .before .before .args in
-    rw (not-true (a .limited) (c .if1 .taken)) at (names-of-next next)
+unfolding maskNames
+returns c b n cs next its law =
+    let a = c .before .before .args in
+    let plain : b .limited n ≡ false = sym (next .limits) ∙ not-true (a .limited) (c .if1 .taken) in
+    rw plain
 
-names-by-requires : tie.Need-names-by-requires
-names-by-requires c κs = search needs
+clear-of-requires : tie.Need-clear-of-requires
+clear-of-requires c κs = search needs
+
+without-requires : tie.Need-without-requires
+without-requires c κs = search needs
 
 returns-2 : tie.Need-returns-2
-returns-2 c b next its-context =
+unfolding whatIsLeft
+returns-2 c b n cs next its law =
     let a = c .before .before .before .before .args in
-    let ps = a .plain .now in
-    let cs = a .ctx .now in
-    let yes = not-false (a .limited) (c .before .if1 .left) in
-    c .names-by .ensures b (subst (NextOf b (a .n) ps cs (a .seen) (a .named)) yes next) its-context
-    ∙ ap (λ (g : ℕ). namesOf ps cs (a .n) (a .seen) (a .named) g) its-context
-    ∙ rw yes at (names-of-next next)
+    let yes = not-false (a .limited) (c .before .before .if1 .left) in
+    let calm = c .before .clear-of in
+    let limits : b .limited n ≡ true = sym (next .limits) ∙ yes in
+    ap (eqb (a .named)) (c .without .ensures)
+    ∙ listed-is (subst (NextOf b n (now (a .plain)) cs (a .seen) (a .named)) yes next) (a .c) (rw limits at its)
+    (calm .result) (calm .ensures .1)
+    ∙ names-by-listed b n law limits
 
 pub names-version-spec : {M : Type 1} → statement M
-names-version-spec = tie.close (tie.spec returns names-by-requires returns-2)
+names-version-spec = tie.close (tie.spec returns clear-of-requires without-requires returns-2)

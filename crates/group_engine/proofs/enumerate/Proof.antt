@@ -28,6 +28,7 @@ decide-rest-requires c κs =
       start .pre .3,
       start-partial (a .conflicts .now) (a .n) (c .before .only .result) (c .before .only .ensures),
       none-waits (a .conflicts .now) (a .n),
+      omega arith,
       none-found (a .conflicts .now) (a .n) _,
     )
 

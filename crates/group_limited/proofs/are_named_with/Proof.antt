@@ -2,36 +2,45 @@
 -- Assumes nothing.
 use mathlib.Core.Path.{_≡_, refl, sym, _∙_}
 use mathlib.Core.Bool.{false}
-use Prim.Native.Nat.{ℕ, _-_, _≤_, _<_}
+use Prim.Native.Nat.{ℕ, _-_, _%_, _≤_, _<_}
 use native.Mathlib.Omega.{arith}
-use lib.ListN.{length}
+use lib.ListN.{length, getD, length-set}
 use denote.Ref.{now}
 use Rattle.math_contexts.specs.Box.{Lawful}
 use Rattle.edit_causal.specs.Conflict.{boxOn}
+use Rattle.edit_history.specs.EditsHeld.{recordAt}
 use Rattle.edit_history.proofs.EditsInPlaces.{sets-length}
-use Rattle.group_limited.specs.LimitedForms.{setsIn, RowsTell}
-use Rattle.group_limited.proofs.RowsInPlaces.{no-rows, rows-more, row-small}
-use Rattle.group_limited.proofs.NamedInTurn.{nameless}
+use Rattle.group_limited.specs.LimitedForms.{setsIn, mostRecent, SeesTell, RowsTell}
+use Rattle.group_limited.proofs.RowsInPlaces.{no-rows, rows-more, none-sees, sees-more}
+use Rattle.group_limited.proofs.NamedInTurn.{nameless, lawful-to, left-where-named}
 use Rattle.group_limited.proofs.NamedInTurn.{named-where-told, in-turn-on, in-turn-off, passed-one-more}
 use borrow.Author.Needs.{needs}
 use Rattle.group_limited.proofs.are_named_with.Statement.{statement}
 use Rattle.group_limited.proofs.are_named_with.Tie as tie
 
 abbrev Inv-loop : tie.InvT-loop
-Inv-loop plain₀ ctx₀ recs places names k i₀ plain ctx i =
+Inv-loop plain₀ ctx₀ sees₀ recs places names k i₀ plain ctx sees i =
     (i ≤ k)
     × (length plain ≡ length plain₀)
     × (length ctx ≡ length ctx₀)
-    × RowsTell (setsIn recs places i) plain ctx
-    × (Lawful (boxOn (setsIn recs places k)) k → (j : ℕ) → j < i → nameless recs places j ≡ false)
+    × (length sees ≡ length sees₀)
+    × (Lawful (boxOn (setsIn recs places k)) k →
+    RowsTell (setsIn recs places i) plain ctx
+    × SeesTell (setsIn recs places i) sees
+    × ((j : ℕ) → j < i → nameless recs places j ≡ false))
 
 abbrev μ-loop : tie.MeasureT-loop
-μ-loop plain₀ ctx₀ recs places names k i₀ plain ctx i = k - i
+μ-loop plain₀ ctx₀ sees₀ recs places names k i₀ plain ctx sees i = k - i
 
 loop-holds : tie.Need-loop-holds Inv-loop μ-loop
 loop-holds c =
-    let a = c .before .before .before .before .before .args in
-    (omega arith, refl, refl, no-rows (now (a .plain)) (now (a .ctx)), λ law j l. absurd (omega arith))
+    let a = c .before .before .before .before .before .before .args in (
+      omega arith,
+      refl,
+      refl,
+      refl,
+      λ law. (no-rows (now (a .plain)) (now (a .ctx)), none-sees (now (a .sees)), λ j l. absurd (omega arith)),
+    )
 
 mul-sight-at : tie.Need-mul-sight-at Inv-loop μ-loop
 mul-sight-at c = search needs
@@ -41,16 +50,18 @@ shared-slice-read-sight-at c = search needs
 
 sight-at-requires : tie.Need-sight-at-requires Inv-loop μ-loop
 sight-at-requires c κs =
-    let l = c .before .before .loop in
-    let s = c .before .before .before .before .before .before .before .before in (
-      omega (arith, s .pre .0, c .before .loop-test .taken),
-      omega (arith, s .pre .1, c .before .loop-test .taken),
-      omega (arith, s .pre .2, c .before .loop-test .taken),
-      λ j m. s .pre .5 j (omega (arith, c .before .loop-test .taken)),
+    let l = c .before .before .before .loop in
+    let s = c .before .before .before .before .before .before .before .before .before .before in
+    let more = c .before .before .loop-test .taken in (
+      omega (arith, s .pre .0, more),
+      omega (arith, s .pre .1, more),
+      omega (arith, s .pre .2, more),
+      omega (arith, l .inv .3, s .pre .5, more),
+      λ j m. s .pre .6 j (omega (arith, more)),
     )
 
-context-by-requires : tie.Need-context-by-requires Inv-loop μ-loop
-context-by-requires c κs = search needs
+left-by-requires : tie.Need-left-by-requires Inv-loop μ-loop
+left-by-requires c κs = search needs
 
 is-nameless-requires : tie.Need-is-nameless-requires Inv-loop μ-loop
 is-nameless-requires c κs = search needs
@@ -61,38 +72,56 @@ same-length c = search needs
 same-length-2 : tie.Need-same-length-2 Inv-loop μ-loop
 same-length-2 c = search needs
 
+same-length-3 : tie.Need-same-length-3 Inv-loop μ-loop
+same-length-3 c = search needs
+
 returns : tie.Need-returns Inv-loop μ-loop
 returns c law =
+    let back = c .before .before .before .before .before .before .before .before in
+    let far = back .before .before .before .before .before .before .before .before in
     let q = c .before .is-nameless in
-    let own = c .before .before .before .before .context-by in
-    let t = c .before .before .before .before .before .before .before in
-    let y = t .before .before in
-    let l = y .before .loop in
-    let s = y .before .before .before .before .before .before .before in
+    let own = c .before .before .before .left-by in
+    let sight = c .before .before .before .before .before .before .sight-at in
+    let l = back .before .before .loop in
+    let s = far .before in
     let a = s .args in
     let rs = now (a .recs) in
     let ps = now (a .places) in
-    let more : l .i < a .k = y .loop-test .taken in
+    let more : l .i < a .k = back .before .loop-test .taken in
     let fits : a .k ≤ length ps = s .pre .1 in
+    let e = recordAt rs (getD ps (l .i) 0) in
     let size = sets-length rs ps (l .i) (omega arith) in
-    let its = own .ensures _ _ size (l .inv .3) (t .sight-at .ensures) in
+    let (tell, sees, before) = l .inv .4 law in
+    let seen = sight .ensures .1 sees (lawful-to rs ps (a .k) fits (l .i) more e refl law) in
+    let its = own .ensures _ _ (omega (arith, size, s .pre .0)) tell seen in
     let told = named-where-told rs ps (a .k) fits (l .i) more (q .result)
-    (q .ensures _ _ size (l .inv .3) (t .sight-at .ensures) its) law (l .inv .4 law) in
+    (q .ensures _ _ (l .ctx) tell seen its) law before in
     sym (in-turn-off rs ps (a .k) fits (l .i) more (sym told ∙ c .if1 .taken))
 
 put-told-requires : tie.Need-put-told-requires Inv-loop μ-loop
 put-told-requires c κs =
-    let t = c .before .before .before .before .before .before .before .before .before in
-    let y = t .before .before in
-    let l = y .before .loop in
-    let s = y .before .before .before .before .before .before .before in
-    let a = s .args in (
-      omega (arith, s .pre .0, y .loop-test .taken),
-      omega (arith, l .inv .1, s .pre .3, y .loop-test .taken),
-      omega (arith, l .inv .2, s .pre .4, y .loop-test .taken),
-      row-small (now (a .recs)) (now (a .places)) (l .i) (omega (arith, s .pre .1, y .loop-test .taken)) _ _
-          (t .sight-at .ensures),
+    let back = c .before .before .before .before .before .before .before .before in
+    let far = back .before .before .before .before .before .before .before .before in
+    let t = back in
+    let l = back .before .before .before .before .loop in
+    let s = far .before .before .before in
+    let more = back .before .before .before .loop-test .taken in (
+      omega (arith, s .pre .0, more),
+      omega (arith, l .inv .1, s .pre .3, more),
+      omega (arith, l .inv .2, s .pre .4, more),
+      t .sight-at .ensures .0,
     )
+
+mul-sees : tie.Need-mul-sees Inv-loop μ-loop
+mul-sees c = search needs
+
+slice-write-sees : tie.Need-slice-write-sees Inv-loop μ-loop
+slice-write-sees c =
+    let back = c .before .before .before .before .before .before .before .before in
+    let far = back .before .before .before .before .before .before .before .before in
+    let l = far .before .loop in
+    let s = far .before .before .before .before .before .before .before .before in
+    omega (arith, l .inv .3, s .pre .5, far .loop-test .taken)
 
 add-i : tie.Need-add-i Inv-loop μ-loop
 add-i c = search needs
@@ -102,44 +131,57 @@ loop-less c = search needs
 
 loop-again : tie.Need-loop-again Inv-loop μ-loop
 loop-again c =
+    let back = c .before .before .before .before .before .before .before .before in
+    let far = back .before .before .before .before .before .before .before .before in
     let p = c .before .before .before .before .put-told in
-    let f = c .before .before .before .before .before .before .before .if1 in
-    let q = c .before .before .before .before .before .before .before .before in
-    let own = q .before .before .before .context-by in
-    let t = q .before .before .before .before .before .before in
-    let y = t .before .before in
-    let l = y .before .loop in
-    let s = y .before .before .before .before .before .before .before in
+    let q = back .is-nameless in
+    let own = back .before .before .left-by in
+    let sight = back .before .before .before .before .before .sight-at in
+    let l = far .before .loop in
+    let s = far .before .before .before .before .before .before .before .before in
     let a = s .args in
     let rs = now (a .recs) in
     let ps = now (a .places) in
-    let more : l .i < a .k = y .loop-test .taken in
+    let more : l .i < a .k = far .loop-test .taken in
     let fits : a .k ≤ length ps = s .pre .1 in
-    let size = sets-length rs ps (l .i) (omega arith) in
-    let its = own .ensures _ _ size (l .inv .3) (t .sight-at .ensures) in (
+    let e = recordAt rs (getD ps (l .i) 0) in
+    let size = sets-length rs ps (l .i) (omega arith) in (
       omega (arith, more),
       p .kept .0 ∙ l .inv .1,
       p .kept .1 .0 ∙ l .inv .2,
-      rows-more rs ps (l .i) (omega arith) (t .sight-at .result) (own .result) (l .plain) (l .ctx) (p .last .0)
-          (p .last .1 .0) (l .inv .3) (t .sight-at .ensures) (own .ensures) (p .ensures),
-      λ law. passed-one-more rs ps (l .i)
-          (sym
-          (named-where-told rs ps (a .k) fits (l .i) more (q .is-nameless .result)
-          (q .is-nameless .ensures _ _ size (l .inv .3) (t .sight-at .ensures) its) law (l .inv .4 law))
-          ∙ f .left) (l .inv .4 law),
+      length-set (l .sees) (l .i % mostRecent) (sight .result .seen) ∙ l .inv .3,
+      λ law.
+          let (tell, sees, before) = l .inv .4 law in
+          let seen = sight .ensures .1 sees (lawful-to rs ps (a .k) fits (l .i) more e refl law) in
+          let its = own .ensures _ _ (omega (arith, size, s .pre .0)) tell seen in
+          let free = sym
+          (named-where-told rs ps (a .k) fits (l .i) more (q .result) (q .ensures _ _ (l .ctx) tell seen its) law
+          before)
+          ∙ c .before .before .before .before .before .before .before .if1 .left in
+          let context = its ∙ left-where-named rs ps (a .k) fits (l .i) more law before free in (
+            rows-more rs ps (l .i) (omega arith) (sight .result .plain) (own .result) (l .plain) (l .ctx) (p .last .0)
+                (p .last .1 .0) tell (seen .plain) context (p .ensures),
+            sees-more rs ps (l .i) (omega arith) (l .sees) (sight .result .seen) sees (seen .seen)
+                (omega (arith, l .inv .3, s .pre .5)),
+            passed-one-more rs ps (l .i) free before,
+          ),
     )
-
-same-length-3 : tie.Need-same-length-3 Inv-loop μ-loop
-same-length-3 c = search needs
 
 same-length-4 : tie.Need-same-length-4 Inv-loop μ-loop
 same-length-4 c = search needs
 
+same-length-5 : tie.Need-same-length-5 Inv-loop μ-loop
+same-length-5 c = search needs
+
+same-length-6 : tie.Need-same-length-6 Inv-loop μ-loop
+same-length-6 c = search needs
+
 returns-2 : tie.Need-returns-2 Inv-loop μ-loop
 returns-2 c law =
     let l = c .before .loop in
-    let a = c .before .before .before .before .before .before .before .args in
-    sym (in-turn-on (now (a .recs)) (now (a .places)) (a .k) (omega arith) (λ j m. l .inv .4 law j (omega arith)))
+    let a = c .before .before .before .before .before .before .before .before .args in
+    let (_, _, before) = l .inv .4 law in
+    sym (in-turn-on (now (a .recs)) (now (a .places)) (a .k) (omega arith) (λ j m. before j (omega arith)))
 
 pub are-named-with-spec : {M : Type 1} → statement M
 are-named-with-spec =
@@ -151,15 +193,19 @@ are-named-with-spec =
     mul-sight-at
     shared-slice-read-sight-at
     sight-at-requires
-    context-by-requires
+    left-by-requires
     is-nameless-requires
     same-length
     same-length-2
+    same-length-3
     returns
     put-told-requires
+    mul-sees
+    slice-write-sees
     add-i
     loop-less
     loop-again
-    same-length-3
     same-length-4
+    same-length-5
+    same-length-6
     returns-2)

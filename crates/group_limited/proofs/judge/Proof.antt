@@ -20,11 +20,17 @@ slice-aggregate-put-rows-2 c = search needs
 slice-aggregate-put-rows-3 : tie.Need-slice-aggregate-put-rows-3
 slice-aggregate-put-rows-3 c = search needs
 
+slice-aggregate-put-rows-4 : tie.Need-slice-aggregate-put-rows-4
+slice-aggregate-put-rows-4 c = search needs
+
 put-rows-requires : tie.Need-put-rows-requires
 put-rows-requires c κs = search needs
 
 slice-aggregate-sight-of : tie.Need-slice-aggregate-sight-of
 slice-aggregate-sight-of c = search needs
+
+slice-aggregate-sight-of-2 : tie.Need-slice-aggregate-sight-of-2
+slice-aggregate-sight-of-2 c = search needs
 
 sight-of-requires : tie.Need-sight-of-requires
 sight-of-requires c κs = search needs
@@ -40,13 +46,18 @@ told-by-requires c κs = search needs
 
 returns : tie.Need-returns
 returns c =
-    let s = c .before .before .before .before .before .before .before .before .before .before .before .before .before .before .before .before .before in
+    let back = c .before .before .before .before .before .before .before .before in
+    let far = back .before .before .before .before .before .before .before .before in
+    let s = far .before .before .before .before in
     let a = s .args in
-    let told = c .told-by .ensures _ _ (sets-length (now (a .recs)) (now (a .places)) (a .k) (s .pre .1))
-    (c .before .before .before .before .before .before .before .put-rows .ensures) (c .before .before .before .sight-of .ensures) in
+    let size = sets-length (now (a .recs)) (now (a .places)) (a .k) (s .pre .1) in
+    let rows = back .before .put-rows .ensures in
+    let sight = c .before .before .before .sight-of .ensures in
     record {
-      nameless = λ p law. told .nameless law (p .named);
-      conflicts = λ p law h. told .conflicts law (p .named) h;
+      nameless = λ p law.
+          c .told-by .ensures .1 _ _ size (rows p .0) (sight .1 (rows p .1) law) law .nameless (p .named);
+      conflicts = λ p law h.
+          c .told-by .ensures .1 _ _ size (rows p .0) (sight .1 (rows p .1) law) law .conflicts (p .named) h;
     }
 
 pub judge-spec : {M : Type 1} → statement M
@@ -58,8 +69,10 @@ judge-spec =
     slice-aggregate-put-rows
     slice-aggregate-put-rows-2
     slice-aggregate-put-rows-3
+    slice-aggregate-put-rows-4
     put-rows-requires
     slice-aggregate-sight-of
+    slice-aggregate-sight-of-2
     sight-of-requires
     slice-aggregate-told-by
     slice-aggregate-told-by-2

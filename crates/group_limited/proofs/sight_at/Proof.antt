@@ -8,7 +8,7 @@ use lib.Seq.{take-all}
 use denote.Ref.{now}
 use Rattle.edit_record.specs.Layout.{placeLength}
 use Rattle.edit_record.specs.RecordBytes.{decodeOf}
-use Rattle.group_limited.specs.LimitedForms.{setsIn, SightOf}
+use Rattle.group_limited.specs.LimitedForms.{setsIn, SightedTo, SightOf}
 use borrow.Author.Needs.{needs}
 use Rattle.group_limited.proofs.sight_at.Statement.{statement}
 use Rattle.group_limited.proofs.sight_at.Tie as tie
@@ -36,18 +36,28 @@ sight-of-requires-2 c κs = search needs
 
 returns : tie.Need-returns
 returns c =
-    let a = c .before .before .before .before .before .before .args in
+    let a = c .before .before .before .before .before .before .before .args in
     let rs = now (a .recs) in
     let at = a .p * placeLength in
-    subst (λ (l : List ℕ). SightOf (setsIn rs (now (a .places)) (a .k)) (decodeOf l) (c .sight-of .result))
-    (take-all (length rs - at) (drop at rs) (simp length-drop (omega arith))) (c .sight-of .ensures)
+    let ms = setsIn rs (now (a .places)) (a .k) in
+    let s = c .sight-of in (
+      s .ensures .0,
+      subst
+          (λ (l : List ℕ). SightedTo ms (decodeOf l) (now (a .sees)) (SightOf ms (decodeOf l) (s .result)))
+          (take-all (length rs - at) (drop at rs) (simp length-drop (omega arith))) (s .ensures .1),
+    )
 
 returns-2 : tie.Need-returns-2
 returns-2 c =
-    let a = c .before .before .before .before .before .before .args in
+    let a = c .before .before .before .before .before .before .before .args in
     let rs = now (a .recs) in
-    subst (λ (l : List ℕ). SightOf (setsIn rs (now (a .places)) (a .k)) (decodeOf l) (c .sight-of2 .result))
-    (sym (drop-of-length-le rs {i = a .p * placeLength} (omega arith))) (c .sight-of2 .ensures)
+    let ms = setsIn rs (now (a .places)) (a .k) in
+    let s = c .sight-of2 in (
+      s .ensures .0,
+      subst
+          (λ (l : List ℕ). SightedTo ms (decodeOf l) (now (a .sees)) (SightOf ms (decodeOf l) (s .result)))
+          (sym (drop-of-length-le rs {i = a .p * placeLength} (omega arith))) (s .ensures .1),
+    )
 
 pub sight-at-spec : {M : Type 1} → statement M
 sight-at-spec =

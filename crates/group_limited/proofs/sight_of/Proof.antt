@@ -1,5 +1,5 @@
 -- `group_limited::sight_of` meets its contract. Assumes nothing.
-use mathlib.Core.Path.{_≡_, ap}
+use mathlib.Core.Path.{ap}
 use Prim.Native.Nat.{ℕ}
 use lib.Dec.{eqb}
 use Rattle.edit_record.specs.Layout.{limitedKind}
@@ -19,15 +19,19 @@ byte-at-requires c κs = search needs
 
 returns : tie.Need-returns
 returns c =
-    let m = c .before .before .marks-of .ensures in
-    let l = c .before .list-of .ensures (ap (λ (x : Marks). x .seen) m) in
-    record {
-      plain = ap (λ (x : Marks). x .plain) m;
-      seen = ap (λ (x : Marks). x .seen) m;
-      named = l .0;
-      limited = ap (λ (x : ℕ). eqb x limitedKind) (c .byte-at .ensures);
-      strange = l .1;
-    }
+    let marks = c .before .before .marks-of .ensures in (
+      marks .0,
+      λ tell law.
+          let m = marks .1 tell law in
+          let l = c .before .list-of .ensures (ap (λ (x : Marks). x .seen) m) in
+          record {
+            plain = ap (λ (x : Marks). x .plain) m;
+            seen = ap (λ (x : Marks). x .seen) m;
+            named = l .0;
+            limited = ap (λ (x : ℕ). eqb x limitedKind) (c .byte-at .ensures);
+            strange = l .1;
+          },
+    )
 
 pub sight-of-spec : {M : Type 1} → statement M
 sight-of-spec = tie.close (tie.spec marks-of-requires list-of-requires byte-at-requires returns)

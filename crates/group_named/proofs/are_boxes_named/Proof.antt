@@ -29,11 +29,18 @@ slice-aggregate-are-named-each-4 c = search needs
 slice-aggregate-are-named-each-5 : tie.Need-slice-aggregate-are-named-each-5
 slice-aggregate-are-named-each-5 c = search needs
 
+slice-aggregate-are-named-each-6 : tie.Need-slice-aggregate-are-named-each-6
+slice-aggregate-are-named-each-6 c = search needs
+
 are-named-each-requires : tie.Need-are-named-each-requires
 are-named-each-requires c κs = search needs
 
 returns : tie.Need-returns
-returns c index targets law = c .before .before .before .before .are-named-each .ensures (c .before .before .before .before .before .before .before .before .before .before .before .chain-sets .ensures index targets) law
+returns c index targets law =
+    let named = c .before .before .before .before .before in
+    let made = named .before .before .before .before .before .before .before .before .chain-sets in
+    let chained = made .ensures index targets in
+    named .are-named-each .ensures chained law
 
 pub are-boxes-named-spec : {M : Type 1} → statement M
 are-boxes-named-spec =
@@ -46,5 +53,6 @@ are-boxes-named-spec =
     slice-aggregate-are-named-each-3
     slice-aggregate-are-named-each-4
     slice-aggregate-are-named-each-5
+    slice-aggregate-are-named-each-6
     are-named-each-requires
     returns)

@@ -28,7 +28,7 @@ kind-at-requires c κs = search needs
 returns : tie.Need-returns
 unfolding isNamedAt
 returns c chained law =
-    let a = c .before .before .before .before .before .before .before .before .args in
+    let a = c .before .before .before .before .before .before .before .before .before .args in
     let kind = recordAt (a .recs .now) (a .p) .kind in
     rw (ne-eqb kind createKind (λ q. c .if1 .taken (c .before .kind-at .ensures ∙ q)))
 
@@ -37,8 +37,10 @@ gather-sets-requires c κs = search needs
 
 is-any-limited-requires : tie.Need-is-any-limited-requires
 is-any-limited-requires c κs =
+    let back = c .before .before .before .before .before .before .before .before in
     let g = c .before .before .before .gather-sets in
-    omega (arith, g .ensures .0, g .kept .0, c .before .before .before .before .before .before .before .before .before .before .before .before .before .pre .3)
+    let s = back .before .before .before .before .before .before in
+    omega (arith, g .ensures .0, g .kept .0, s .pre .3)
 
 same-length : tie.Need-same-length
 same-length c = search needs
@@ -47,13 +49,14 @@ returns-2 : tie.Need-returns-2
 unfolding isNamedAt
 returns-2 c chained law =
     let g = c .before .before .before .before .before .gather-sets in
-    let s = c .before .before .before .before .before .before .before .before .before .before .before .before .before .before .before in
+    let y = c .before .before .before .before .before .before .before in
+    let s = y .before .before .before .before .before .before .before .before .before in
     let a = s .args in
     let rs = a .recs .now in
     let e = recordAt rs (a .p) in
     let ms = setsOn (e .site) (e .seq) (editsOf rs (a .n)) in
     let create : isCreate e ≡ true
-    = eq-eqb (e .kind) createKind (sym (c .before .before .before .before .before .before .before .before .kind-at .ensures) ∙ c .before .before .before .before .before .before .before .if1 .left) in
+    = eq-eqb (e .kind) createKind (sym (y .before .kind-at .ensures) ∙ y .if1 .left) in
     let same = gathered rs (a .p) (a .n) (g .result) (a .chain .now) (g .last .0) (s .pre .1) create chained
     (s .pre .2 (e .site) (e .seq)) (g .ensures .1) in
     let i = c .before .is-any-limited in
@@ -64,13 +67,15 @@ returns-2 c chained law =
 
 are-named-requires : tie.Need-are-named-requires
 are-named-requires c κs =
-    let g = c .before .before .before .before .before .before .before .before .before .gather-sets in
-    let s = c .before .before .before .before .before .before .before .before .before .before .before .before .before .before .before .before .before .before .before in (
+    let y = c .before .before .before .before .before .before .before .before .before .before in
+    let g = y .gather-sets in
+    let s = y .before .before .before .before .before .before .before .before .before .before .before in (
       g .ensures .0,
       omega (arith, g .ensures .0, g .kept .0, s .pre .3),
-      omega (arith, g .ensures .0, s .pre .6),
+      omega (arith, g .ensures .0, s .pre .7),
       omega (arith, g .ensures .0, s .pre .4),
       omega (arith, g .ensures .0, s .pre .5),
+      omega (arith, g .ensures .0, s .pre .6),
     )
 
 same-length-2 : tie.Need-same-length-2
@@ -85,17 +90,25 @@ same-length-4 c = search needs
 same-length-5 : tie.Need-same-length-5
 same-length-5 c = search needs
 
+same-length-6 : tie.Need-same-length-6
+same-length-6 c = search needs
+
 returns-3 : tie.Need-returns-3
 unfolding isNamedAt
 returns-3 c chained law =
-    let g = c .before .before .before .before .before .before .before .before .before .before .before .before .before .before .before .before .gather-sets in
-    let s = c .before .before .before .before .before .before .before .before .before .before .before .before .before .before .before .before .before .before .before .before .before .before .before .before .before .before in
+    let back = c .before .before .before .before .before .before .before .before in
+    let far = back .before .before .before .before .before .before .before .before in
+    let named = back .are-named in
+    let y = far .before .before .before in
+    let g = y .gather-sets in
+    let z = y .before .before in
+    let s = z .before .before .before .before .before .before .before .before .before in
     let a = s .args in
     let rs = a .recs .now in
     let e = recordAt rs (a .p) in
     let ms = setsOn (e .site) (e .seq) (editsOf rs (a .n)) in
     let create : isCreate e ≡ true
-    = eq-eqb (e .kind) createKind (sym (c .before .before .before .before .before .before .before .before .before .before .before .before .before .before .before .before .before .before .before .kind-at .ensures) ∙ c .before .before .before .before .before .before .before .before .before .before .before .before .before .before .before .before .before .before .if1 .left) in
+    = eq-eqb (e .kind) createKind (sym (z .before .kind-at .ensures) ∙ z .if1 .left) in
     let same = gathered rs (a .p) (a .n) (g .result) (a .chain .now) (g .last .0) (s .pre .1) create chained
     (s .pre .2 (e .site) (e .seq)) (g .ensures .1) in
     let size : length ms ≡ g .result
@@ -103,7 +116,7 @@ returns-3 c chained law =
     ∙ sets-length rs (g .last .0) (g .result) (omega (arith, g .ensures .0, g .kept .0, s .pre .3)) in
     let lawful = subst (λ (m : List Edit). Lawful (boxOn m) (g .result)) (sym same)
     (subst (Lawful (boxOn ms)) size (law (e .site) (e .seq))) in
-    rw create (c .before .before .before .before .before .before .are-named .ensures lawful ∙ ap namedInTurn same)
+    rw create (named .ensures lawful ∙ ap namedInTurn same)
 
 pub are-named-at-spec : {M : Type 1} → statement M
 are-named-at-spec =
@@ -120,4 +133,5 @@ are-named-at-spec =
     same-length-3
     same-length-4
     same-length-5
+    same-length-6
     returns-3)

@@ -37,14 +37,19 @@ same-length-4 c = search needs
 returns : tie.Need-returns
 unfolding identifierText
 returns c =
-    let s = c .before .before .before .before .before .before .before .before .before .before .before .before .before .before .before .before .before .before .before .before .before .before .before .before .before .before .before in
+    let s = c .before .before .before .before .before .before .before .before .before .before .before .before
+    .before .before .before .before .before .before .before .before .before .before .before .before .before
+    .before .before in
     let a = s .args in
-    let all = c .before .before .before .before .before .before .before .before .before .before .before .before .before .before .before .before .before .put-members in
+    let all = c .before .before .before .before .before .before .before .before .before .before .before
+    .before .before .before .before .before .before .put-members in
     let ids = identifierBy (take (a .d) (a .disputes .now)) (a .g) in
     let (front, none) = none-marked (all .last .0) (a .out .now) (all .result) (a .n)
-    (omega (arith, s .pre .1, s .pre .2, all .ensures .1, all .kept .0)) (omega (arith, s .pre .2)) ids (all .ensures .0)
+    (omega (arith, s .pre .1, s .pre .2, all .ensures .1, all .kept .0)) (omega (arith, s .pre .2)) ids
+    (all .ensures .0)
     (c .before .before .before .before .before .before .before .before .if1 .taken) in (
-      rw none (two (take (a .n) (a .out .now)) (space ∷ []) (minus ∷ []) (c .before .before .before .before .before .before .put-byte .ensures .0 ∙ rw front)
+      rw none (two (take (a .n) (a .out .now)) (space ∷ []) (minus ∷ []) (c .before .before .before .before
+          .before .before .put-byte .ensures .0 ∙ rw front)
           (c .before .before .put-byte2 .ensures .0)),
       omega arith,
       all .ensures .2,
@@ -67,7 +72,8 @@ same-length-8 c = search needs
 
 returns-2 : tie.Need-returns-2
 returns-2 c =
-    let s = c .before .before .before .before .before .before .before .before .before .before .before .before .before .before .before .before .before .before .before in
+    let s = c .before .before .before .before .before .before .before .before .before .before .before .before
+    .before .before .before .before .before .before .before in
     let a = s .args in
     let all = c .before .before .before .before .before .before .before .before .before .put-members in
     let ids = identifierBy (take (a .d) (a .disputes .now)) (a .g) in (

@@ -19,7 +19,8 @@ is-member-requires c κs = search needs
 returns : tie.Need-returns
 returns c =
     let s = c .before .before .before .before .before .before in
-    let out : isIn (s .args .g) (s .args .x) ≡ false = sym (c .before .is-member .ensures) ∙ not-true _ (c .if1 .taken) in
+    let out : isIn (s .args .g) (s .args .x) ≡ false = sym (c .before .is-member .ensures) ∙ not-true _
+    (c .if1 .taken) in
     (rw out (sym (append-nil _)), omega arith, s .pre .2)
 
 add-j : tie.Need-add-j
@@ -27,8 +28,20 @@ add-j c = search needs
 
 is-kept-requires : tie.Need-is-kept-requires
 is-kept-requires c κs =
-    let kept = c .before .before .before .before .before .before .before .before .pre .2 in
-    (omega (arith, c .before .before .before .before .before .before .before .before .pre .0, kept .lens-long), omega (arith, c .before .before .before .before .before .before .before .before .pre .0, kept .told-long))
+    let kept = c .before .before .before .before .before .before .before .before .pre .2 in (
+      omega (
+        arith,
+        c .before .before .before .before .before .before .before
+            .before .pre .0,
+        kept .lens-long,
+      ),
+      omega (
+        arith,
+        c .before .before .before .before .before .before
+            .before .before .pre .0,
+        kept .told-long,
+      ),
+    )
 
 put-piece-requires : tie.Need-put-piece-requires
 put-piece-requires c κs =
@@ -51,13 +64,17 @@ same-length-4 c = search needs
 
 returns-2 : tie.Need-returns-2
 returns-2 c =
-    let s = c .before .before .before .before .before .before .before .before .before .before .before .before .before .before .before .before in
+    let s = c .before .before .before .before .before .before .before .before .before .before .before .before
+    .before .before .before .before in
     let a = s .args in
     let kept = s .pre .2 in
     let j = keys + a .i in
     let low : j < pieces = omega (arith, s .pre .0) in
-    let in-it : isIn (a .g) (a .x) ≡ true = sym (c .before .before .before .before .before .before .before .before .before .before .before .is-member .ensures) ∙ not-false _ (c .before .before .before .before .before .before .before .before .before .before .if1 .left) in
-    let here = stands kept j (a .x) low (sym (c .before .before .before .before .before .before .before .is-kept .ensures) ∙ c .before .before .before .before .before .before .if2 .taken) in
+    let in-it : isIn (a .g) (a .x) ≡ true = sym (c .before .before .before .before .before .before .before
+    .before .before .before .before .is-member .ensures) ∙ not-false _ (c .before .before .before .before
+    .before .before .before .before .before .before .if1 .left) in
+    let here = stands kept j (a .x) low (sym (c .before .before .before .before .before .before
+    .before .is-kept .ensures) ∙ c .before .before .before .before .before .before .if2 .taken) in
     let put = c .before .before .put-piece in (
       put .ensures .0 ∙ rw (here, name-text (a .i) (a .x), in-it),
       omega (arith, put .ensures .1, kept .few j low, name-most (a .i)),
@@ -66,7 +83,8 @@ returns-2 c =
 
 put-anew-requires : tie.Need-put-anew-requires
 put-anew-requires c κs =
-    let s = c .before .before .before .before .before .before .before .before .before .before .before .before .before .before in
+    let s = c .before .before .before .before .before .before .before .before .before .before .before .before
+    .before .before in
     (omega (arith, s .pre .0), λ l. absurd (omega arith), s .pre .1, s .pre .2)
 
 same-length-5 : tie.Need-same-length-5
@@ -83,8 +101,12 @@ same-length-8 c = search needs
 
 returns-3 : tie.Need-returns-3
 returns-3 c =
-    let a = c .before .before .before .before .before .before .before .before .before .before .before .before .before .before .before .before .before .before .before .before .before .before .before .args in
-    let in-it : isIn (a .g) (a .x) ≡ true = sym (c .before .before .before .before .before .before .before .before .before .before .before .before .before .before .before .before .before .before .is-member .ensures) ∙ not-false _ (c .before .before .before .before .before .before .before .before .before .before .before .before .before .before .before .before .before .if1 .left) in
+    let a = c .before .before .before .before .before .before .before .before .before .before .before .before
+    .before .before .before .before .before .before .before .before .before .before .before .args in
+    let in-it : isIn (a .g) (a .x) ≡ true = sym (c .before .before .before .before .before .before .before
+    .before .before .before .before .before .before .before .before .before .before
+    .before .is-member .ensures) ∙ not-false _ (c .before .before .before .before .before .before .before
+    .before .before .before .before .before .before .before .before .before .before .if1 .left) in
     let put = c .before .before .before .before .before .before .before .before .put-anew in (
       put .ensures .0 ∙ rw (name-text (a .i) (a .x), in-it),
       omega (arith, put .ensures .1, name-most (a .i)),

@@ -17,8 +17,11 @@ returns c =
 
 is-kept-requires : tie.Need-is-kept-requires
 is-kept-requires c κs =
-    let kept = c .before .before .before .before .before .before .before .pre .2 in
-    (omega (arith, c .before .before .before .before .before .before .before .pre .0, kept .lens-long), omega (arith, c .before .before .before .before .before .before .before .pre .0, kept .told-long))
+    let kept = c .before .before .before .before .before .before .before .pre .2 in (
+      omega (arith, c .before .before .before .before .before .before .before .pre .0, kept .lens-long),
+      omega
+          (arith, c .before .before .before .before .before .before .before .pre .0, kept .told-long),
+    )
 
 put-piece-requires : tie.Need-put-piece-requires
 put-piece-requires c κs =
@@ -41,11 +44,13 @@ same-length-4 c = search needs
 
 returns-2 : tie.Need-returns-2
 returns-2 c =
-    let s = c .before .before .before .before .before .before .before .before .before .before .before .before .before .before .before in
+    let s = c .before .before .before .before .before .before .before .before .before .before .before .before
+    .before .before .before in
     let a = s .args in
     let kept = s .pre .2 in
     let low : a .key < pieces = omega (arith, s .pre .0) in
-    let here = stands kept (a .key) (a .s) low (sym (c .before .before .before .before .before .before .before .is-kept .ensures) ∙ c .before .before .before .before .before .before .if2 .taken) in
+    let here = stands kept (a .key) (a .s) low (sym (c .before .before .before .before .before .before
+    .before .is-kept .ensures) ∙ c .before .before .before .before .before .before .if2 .taken) in
     let put = c .before .before .put-piece in (
       put .ensures .0 ∙ rw (here, setting-text (a .key) (a .s) (s .pre .0)),
       omega (arith, put .ensures .1, kept .few (a .key) low, setting-most (a .key) (s .pre .0)),
@@ -54,8 +59,17 @@ returns-2 c =
 
 put-anew-requires : tie.Need-put-anew-requires
 put-anew-requires c κs =
-    let s = c .before .before .before .before .before .before .before .before .before .before .before .before .before in
-    (omega (arith, s .pre .0), λ l. omega (arith, c .before .before .before .before .before .before .before .before .if1 .left), s .pre .1, s .pre .2)
+    let s = c .before .before .before .before .before .before .before .before .before .before .before .before
+    .before in (
+      omega (arith, s .pre .0),
+      λ l. omega (
+        arith,
+        c .before .before .before .before .before .before .before
+            .before .if1 .left,
+      ),
+      s .pre .1,
+      s .pre .2,
+    )
 
 same-length-5 : tie.Need-same-length-5
 same-length-5 c = search needs
@@ -71,7 +85,8 @@ same-length-8 c = search needs
 
 returns-3 : tie.Need-returns-3
 returns-3 c =
-    let s = c .before .before .before .before .before .before .before .before .before .before .before .before .before .before .before .before .before .before .before .before .before .before in
+    let s = c .before .before .before .before .before .before .before .before .before .before .before .before
+    .before .before .before .before .before .before .before .before .before .before in
     let a = s .args in
     let put = c .before .before .before .before .before .before .before .before .put-anew in (
       put .ensures .0 ∙ rw (setting-text (a .key) (a .s) (s .pre .0)),

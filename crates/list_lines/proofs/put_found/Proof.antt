@@ -5,6 +5,7 @@ use native.Mathlib.Omega.{arith}
 use denote.Ref.{now}
 use lib.ListN.{length}
 use Prim.Native.Nat.{_≤_}
+use Rattle.edit_record.specs.Layout.{keys}
 use Rattle.group_step.specs.GroupRows.{mostSets, mostGroups}
 use Rattle.table_drawing.specs.Tables.{tablesOf}
 use Rattle.table_soundness.proofs.SoundFacts.{sound-at}
@@ -31,6 +32,9 @@ slice-aggregate-gather-3 c = search needs
 slice-aggregate-gather-4 : tie.Need-slice-aggregate-gather-4
 slice-aggregate-gather-4 c = search needs
 
+slice-aggregate-gather-5 : tie.Need-slice-aggregate-gather-5
+slice-aggregate-gather-5 c = search needs
+
 gather-requires : tie.Need-gather-requires
 gather-requires c κs = search needs
 
@@ -43,24 +47,28 @@ slice-aggregate-put-version-2 c = search needs
 slice-aggregate-put-version-3 : tie.Need-slice-aggregate-put-version-3
 slice-aggregate-put-version-3 c = search needs
 
+slice-aggregate-put-version-4 : tie.Need-slice-aggregate-put-version-4
+slice-aggregate-put-version-4 c = search needs
+
 put-version-requires : tie.Need-put-version-requires
 put-version-requires c κs =
-    let s8 = c .before .before .before .before .before .before .before .before in
-    let s16 = s8 .before .before .before .before .before .before .before .before in
-    let start = s16 .before .before .before in
+    let gathered = c .before .before .before .before .before .before .before .before .before in
+    let s8 = gathered .before .before .before .before .before .before .before .before in
+    let start = s8 .before .before .before .before .before in
     let a = start .args in
     let t = tablesOf (a .c) (now (a .records)) (now (a .objects)) (now (a .groups)) in
     let s = sound-at t (start .pre .0) in
-    let g = c .before .before .before .before .before .before .before .gather in
+    let g = gathered .gather in
     let wide : mostSets ≤ length (g .last .0) = omega (arith, g .kept .0) in
     let tall : mostSets ≤ length (g .last .1 .0) = omega (arith, g .kept .1 .0) in
-    let long : mostGroups ≤ length (g .last .1 .1 .0) = omega (arith, g .kept .1 .1 .0) in (
-      gathered-ready t s (a .o) (start .pre .1) _ _ _ _ (g .ensures) wide tall long,
+    let all : keys ≤ length (g .last .1 .1 .0) = omega (arith, g .kept .1 .1 .0) in
+    let long : mostGroups ≤ length (g .last .1 .1 .1 .0) = omega (arith, g .kept .1 .1 .1 .0) in (
+      gathered-ready t s (a .o) (start .pre .1) _ _ _ _ _ (g .ensures) wide tall all long,
       omega (
         arith,
         start .pre .2,
         g .ensures .few-groups,
-        gathered-count t s (a .o) (start .pre .1) _ _ _ _ (g .ensures) wide tall long,
+        gathered-count t s (a .o) (start .pre .1) _ _ _ _ _ (g .ensures) wide tall all long,
       ),
       start .pre .3,
     )
@@ -70,17 +78,18 @@ same-length c = search needs
 
 returns : tie.Need-returns
 returns c =
-    let s8 = c .before .before .before .before .before .before .before .before in
-    let s16 = s8 .before .before .before .before .before .before .before .before in
-    let start = s16 .before .before .before .before .before .before in
+    let gathered = c .before .before .before .before .before .before .before .before .before .before .before .before in
+    let s8 = gathered .before .before .before .before .before .before .before .before in
+    let start = s8 .before .before .before .before .before in
     let a = start .args in
     let t = tablesOf (a .c) (now (a .records)) (now (a .objects)) (now (a .groups)) in
     let s = sound-at t (start .pre .0) in
-    let g = s8 .before .before .gather in
+    let g = gathered .gather in
     let e = c .before .before .put-version .ensures in (
       e .0
-          ∙ gathered-line t s (a .o) (start .pre .1) _ _ _ _ (g .ensures) (omega (arith, g .kept .0))
-          (omega (arith, g .kept .1 .0)) (omega (arith, g .kept .1 .1 .0)) (a .v) (start .pre .2),
+          ∙ gathered-line t s (a .o) (start .pre .1) _ _ _ _ _ (g .ensures) (omega (arith, g .kept .0))
+          (omega (arith, g .kept .1 .0)) (omega (arith, g .kept .1 .1 .0)) (omega (arith, g .kept .1 .1 .1 .0)) (a .v)
+          (start .pre .2),
       e .1,
     )
 
@@ -94,10 +103,12 @@ put-found-spec =
     slice-aggregate-gather-2
     slice-aggregate-gather-3
     slice-aggregate-gather-4
+    slice-aggregate-gather-5
     gather-requires
     slice-aggregate-put-version
     slice-aggregate-put-version-2
     slice-aggregate-put-version-3
+    slice-aggregate-put-version-4
     put-version-requires
     same-length
     returns)

@@ -1,40 +1,41 @@
 -- `table_check::step_limited` meets its contract: after i Sets, their groups stand in front and their rows are put
 -- down. Assumes nothing.
 use mathlib.Core.Path.{_≡_, refl, sym, ap, _∙_}
-use Prim.Native.Nat.{_+_, _-_, _≤_}
+use Prim.Native.Nat.{_+_, _-_, _%_, _≤_}
 use native.Mathlib.Omega.{arith}
-use lib.ListN.{length, getD, take}
+use lib.ListN.{length, getD, take, length-set}
 use denote.Ref.{now}
 use Rattle.edit_causal.proofs.ConflictsAmongSets.{none-itself}
 use Rattle.edit_history.specs.EditsHeld.{recordAt}
 use Rattle.group_step.specs.GroupRows.{mostGroups}
-use Rattle.group_limited.specs.LimitedForms.{setsIn, RowsTell}
-use Rattle.group_limited.proofs.RowsInPlaces.{no-rows}
+use Rattle.group_limited.specs.LimitedForms.{setsIn, mostRecent, SeesTell, RowsTell}
+use Rattle.group_limited.proofs.RowsInPlaces.{no-rows, rows-more, none-sees, sees-more}
 use Rattle.table_check.specs.CheckForms.{groupsIn}
 use Rattle.table_check.proofs.RowWorkedOut.{groups-none, stepped, in-ascending, in-below, in-apart, in-more}
 use Rattle.table_check.proofs.RowWorkedOut.{settled-front}
-use Rattle.table_check.proofs.RowsTold.{told-small, rows-told}
-use Rattle.table_check.proofs.SetsInTurn.{told-are-all}
+use Rattle.table_check.proofs.SetsInTurn.{lawful-next, told-are-all, told-context}
 use borrow.Author.Needs.{needs}
 use Rattle.table_check.proofs.step_limited.Statement.{statement}
 use Rattle.table_check.proofs.step_limited.Tie as tie
 
 abbrev Inv-loop : tie.InvT-loop
-Inv-loop gs₀ plain₀ ctx₀ recs places names k n₀ i₀ gs plain ctx n i =
+Inv-loop gs₀ plain₀ ctx₀ sees₀ recs places names k n₀ i₀ gs plain ctx sees n i =
     (i ≤ k)
     × (length gs ≡ mostGroups)
     × (n ≤ mostGroups)
     × (take n gs ≡ groupsIn recs places i)
     × (length plain ≡ length plain₀)
     × (length ctx ≡ length ctx₀)
+    × (length sees ≡ length sees₀)
     × RowsTell (setsIn recs places i) plain ctx
+    × SeesTell (setsIn recs places i) sees
 
 abbrev μ-loop : tie.MeasureT-loop
-μ-loop gs₀ plain₀ ctx₀ recs places names k n₀ i₀ gs plain ctx n i = k - i
+μ-loop gs₀ plain₀ ctx₀ sees₀ recs places names k n₀ i₀ gs plain ctx sees n i = k - i
 
 loop-holds : tie.Need-loop-holds Inv-loop μ-loop
 loop-holds c =
-    let s = c .before .before .before .before .before .before in
+    let s = c .before .before .before .before .before .before .before in
     let a = s .args in (
       omega arith,
       s .pre .0,
@@ -42,7 +43,9 @@ loop-holds c =
       s .pre .1 ∙ sym (groups-none (now (a .recs)) (now (a .places))),
       refl,
       refl,
+      refl,
       no-rows (now (a .plain)) (now (a .ctx)),
+      none-sees (now (a .sees)),
     )
 
 mul-told-at : tie.Need-mul-told-at Inv-loop μ-loop
@@ -53,21 +56,23 @@ shared-slice-read-told-at c = search needs
 
 told-at-requires : tie.Need-told-at-requires Inv-loop μ-loop
 told-at-requires c κs =
-    let l = c .before .before .before .before .loop in
-    let s = c .before .before .before .before .before .before .before .before .before .before .before in
-    let more = c .before .before .before .loop-test .taken in (
+    let l = c .before .before .before .before .before .loop in
+    let s = c .before .before .before .before .before .before .before .before .before .before .before .before .before in
+    let more = c .before .before .before .before .loop-test .taken in (
+      omega (arith, s .pre .6, more),
       omega (arith, s .pre .5, more),
-      omega (arith, s .pre .4, more),
-      omega (arith, s .pre .7, more),
+      omega (arith, s .pre .8, more),
+      omega (arith, l .inv .6, s .pre .4, more),
       omega (arith, l .inv .4, s .pre .2, more),
       omega (arith, l .inv .5, s .pre .3, more),
-      λ j m. s .pre .8 j (omega (arith, more)),
+      λ j m. s .pre .9 j (omega (arith, more)),
     )
 
 step-apart-requires : tie.Need-step-apart-requires Inv-loop μ-loop
 step-apart-requires c κs =
-    let l = c .before .before .before .before .before .before .loop in
-    let a = c .before .before .before .before .before .before .before .before .before .before .before .before .before .args in (
+    let back = c .before .before .before .before .before .before .before .before in
+    let l = c .before .before .before .before .before .before .before .loop in
+    let a = back .before .before .before .before .before .before .before .args in (
       l .inv .1,
       l .inv .2,
       omega arith,
@@ -85,19 +90,23 @@ same-length-2 c = search needs
 same-length-3 : tie.Need-same-length-3 Inv-loop μ-loop
 same-length-3 c = search needs
 
+same-length-4 : tie.Need-same-length-4 Inv-loop μ-loop
+same-length-4 c = search needs
+
 returns : tie.Need-returns Inv-loop μ-loop
 returns c =
     let b = c .before .before .before .before .before in
-    let y = b .before .before .before .before in
+    let y = b .before .before .before .before .before in
     let l = y .before .loop in
-    let s = y .before .before .before .before .before .before .before .before in
+    let s = y .before .before .before .before .before .before .before .before .before in
     let a = s .args in
     let rs = now (a .recs) in
     let ps = now (a .places) in
-    let told = b .told-at .ensures (l .inv .6) in
     let e = recordAt rs (getD ps (l .i) 0) in
-    let w = s .pre .6 in
-    let all = told-are-all rs ps (a .k) (s .pre .4) (l .i) (omega arith) e refl w
+    let w = s .pre .7 in
+    let law = lawful-next rs ps (a .k) (s .pre .5) (l .i) (omega arith) e refl w in
+    let told = b .told-at .ensures .1 (l .inv .8) law (l .inv .7) in
+    let all = told-are-all rs ps (a .k) (s .pre .5) (l .i) (omega arith) e refl w
     (b .told-at .result) told in
     let next = stepped rs ps (l .i) (l .n) (l .gs) (omega arith)
     (none-itself _ (w .proper (l .i + 1) (omega arith))) (l .inv .3) e refl _ all in
@@ -116,22 +125,39 @@ returns c =
 put-told-requires : tie.Need-put-told-requires Inv-loop μ-loop
 put-told-requires c κs =
     let b = c .before .before .before .before .before .before .before in
-    let y = b .before .before .before .before in
+    let y = b .before .before .before .before .before in
     let l = y .before .loop in
-    let s = y .before .before .before .before .before .before .before .before in
+    let s = y .before .before .before .before .before .before .before .before .before in
     let a = s .args in (
-      omega (arith, s .pre .5, y .loop-test .taken),
+      omega (arith, s .pre .6, y .loop-test .taken),
       omega (arith, l .inv .4, s .pre .2, y .loop-test .taken),
       omega (arith, l .inv .5, s .pre .3, y .loop-test .taken),
-      told-small (now (a .recs)) (now (a .places)) (l .i) (omega (arith, s .pre .4, y .loop-test .taken)) _
-          (b .told-at .ensures (l .inv .6)),
+      b .told-at .ensures .0,
     )
+
+mul-sees : tie.Need-mul-sees Inv-loop μ-loop
+mul-sees c =
+    let back = c .before .before .before .before .before .before .before .before in
+    let far = back .before .before .before .before .before .before .before .before in
+    let y = far .before in
+    let s = y .before .before .before .before .before .before .before .before .before in
+    record { fits = omega (arith, y .loop-test .taken, s .pre .6) }
+
+slice-write-sees : tie.Need-slice-write-sees Inv-loop μ-loop
+slice-write-sees c =
+    let back = c .before .before .before .before .before .before .before .before in
+    let far = back .before .before .before .before .before .before .before .before in
+    let y = far .before in
+    let s = y .before .before .before .before .before .before .before .before .before in
+    omega (arith, y .before .loop .inv .6, s .pre .4, y .loop-test .taken)
 
 add-i : tie.Need-add-i Inv-loop μ-loop
 add-i c =
-    let b = c .before .before .before .before .before .before .before .before .before .before .before .before in
-    let y = b .before .before .before .before in
-    omega (arith, y .loop-test .taken, y .before .before .before .before .before .before .before .before .pre .5)
+    let back = c .before .before .before .before .before .before .before .before in
+    let b = back .before .before .before .before in
+    let y = b .before .before .before .before .before in
+    let s = y .before .before .before .before .before .before .before .before .before in
+    omega (arith, y .loop-test .taken, s .pre .6)
 
 loop-less : tie.Need-loop-less Inv-loop μ-loop
 loop-less c = search needs
@@ -142,16 +168,18 @@ loop-again c =
     let f = c .before .before .before .before .before .before .before .if1 in
     let r = c .before .before .before .before .before .before .before .before .before .before .step-apart in
     let b = c .before .before .before .before .before .before .before .before .before .before .before .before in
-    let y = b .before .before .before .before in
+    let t = b .told-at .result in
+    let y = b .before .before .before .before .before in
     let l = y .before .loop in
-    let s = y .before .before .before .before .before .before .before .before in
+    let s = y .before .before .before .before .before .before .before .before .before in
     let a = s .args in
     let rs = now (a .recs) in
     let ps = now (a .places) in
-    let told = b .told-at .ensures (l .inv .6) in
     let e = recordAt rs (getD ps (l .i) 0) in
-    let w = s .pre .6 in
-    let all = told-are-all rs ps (a .k) (s .pre .4) (l .i) (omega arith) e refl w
+    let w = s .pre .7 in
+    let law = lawful-next rs ps (a .k) (s .pre .5) (l .i) (omega arith) e refl w in
+    let told = b .told-at .ensures .1 (l .inv .8) law (l .inv .7) in
+    let all = told-are-all rs ps (a .k) (s .pre .5) (l .i) (omega arith) e refl w
     (b .told-at .result) told in
     let next = stepped rs ps (l .i) (l .n) (l .gs) (omega arith)
     (none-itself _ (w .proper (l .i + 1) (omega arith))) (l .inv .3) e refl _ all in (
@@ -161,12 +189,13 @@ loop-again c =
       settled-front _ (l .gs) (r .last .0) (r .result) (r .ensures .1) (r .ensures .0) (omega (arith, f .left)) ∙ next,
       p .kept .0 ∙ l .inv .4,
       p .kept .1 .0 ∙ l .inv .5,
-      rows-told rs ps (l .i) (omega arith) (b .told-at .result) told (l .plain) (l .ctx) (p .last .0)
-          (p .last .1 .0) (l .inv .6) (p .ensures),
+      length-set (l .sees) (l .i % mostRecent) (t .seen) ∙ l .inv .6,
+      rows-more rs ps (l .i) (omega arith) (t .row) (t .context) (l .plain) (l .ctx) (p .last .0) (p .last .1 .0)
+          (l .inv .7) (told .row)
+          (told-context rs ps (a .k) (s .pre .5) (l .i) (omega arith) e refl w t told) (p .ensures),
+      sees-more rs ps (l .i) (omega arith) (l .sees) (t .seen) (l .inv .8) (told .seen)
+          (omega (arith, l .inv .6, s .pre .4)),
     )
-
-same-length-4 : tie.Need-same-length-4 Inv-loop μ-loop
-same-length-4 c = search needs
 
 same-length-5 : tie.Need-same-length-5 Inv-loop μ-loop
 same-length-5 c = search needs
@@ -174,10 +203,16 @@ same-length-5 c = search needs
 same-length-6 : tie.Need-same-length-6 Inv-loop μ-loop
 same-length-6 c = search needs
 
+same-length-7 : tie.Need-same-length-7 Inv-loop μ-loop
+same-length-7 c = search needs
+
+same-length-8 : tie.Need-same-length-8 Inv-loop μ-loop
+same-length-8 c = search needs
+
 returns-2 : tie.Need-returns-2 Inv-loop μ-loop
 returns-2 c =
     let l = c .before .loop in
-    let k : l .i ≡ c .before .before .before .before .before .before .before .before .args .k = omega arith in
+    let k : l .i ≡ c .before .before .before .before .before .before .before .before .before .args .k = omega arith in
     record { few = λ h. rw (← k) (l .inv .3); many = λ h. absurd (omega (arith, l .inv .2)) }
 
 pub step-limited-spec : {M : Type 1} → statement M
@@ -194,12 +229,16 @@ step-limited-spec =
     same-length
     same-length-2
     same-length-3
+    same-length-4
     returns
     put-told-requires
+    mul-sees
+    slice-write-sees
     add-i
     loop-less
     loop-again
-    same-length-4
     same-length-5
     same-length-6
+    same-length-7
+    same-length-8
     returns-2)

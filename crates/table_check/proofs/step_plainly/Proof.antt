@@ -10,27 +10,28 @@ use Rattle.edit_record.specs.Layout.{keys}
 use Rattle.group_step.specs.GroupRows.{mostGroups, mostSets}
 use Rattle.table_sets.specs.KeyForms.{LinkedTo}
 use Rattle.table_sets.proofs.MarksByKey.{linked-none}
-use Rattle.table_check.specs.CheckForms.{groupsIn}
-use Rattle.table_check.proofs.RowWorkedOut.{groups-none, stepped, in-ascending, in-below, in-apart, in-more}
-use Rattle.table_check.proofs.RowWorkedOut.{settled-front}
+use Rattle.table_check.specs.CheckForms.{groupsIn, joinedWith}
+use Rattle.table_check.proofs.RowWorkedOut.{groups-none, stepped-on, in-ascending, in-below, in-apart}
+use Rattle.table_check.proofs.RowWorkedOut.{in-more}
+use Rattle.table_check.proofs.JoinedLater.{joined-none}
 use Rattle.table_check.proofs.SetsInTurn.{plain-are-all}
 use borrow.Author.Needs.{needs}
 use Rattle.table_check.proofs.step_plainly.Statement.{statement}
 use Rattle.table_check.proofs.step_plainly.Tie as tie
 
 abbrev Inv-loop : tie.InvT-loop
-Inv-loop gs₀ recs places k latest₀ earlier₀ tolds₀ n₀ i₀ gs latest earlier tolds n i =
+Inv-loop gs₀ recs places k latest₀ earlier₀ tolds₀ n₀ common₀ i₀ gs latest earlier tolds n common i =
     (i ≤ k)
     × (length gs ≡ mostGroups)
     × (n ≤ mostGroups)
-    × (take n gs ≡ groupsIn recs places i)
+    × (joinedWith common (take n gs) ≡ groupsIn recs places i)
     × (length latest ≡ keys)
     × (length earlier ≡ mostSets)
     × (length tolds ≡ mostSets)
     × LinkedTo recs places i latest earlier tolds
 
 abbrev μ-loop : tie.MeasureT-loop
-μ-loop gs₀ recs places k latest₀ earlier₀ tolds₀ n₀ i₀ gs latest earlier tolds n i = k - i
+μ-loop gs₀ recs places k latest₀ earlier₀ tolds₀ n₀ common₀ i₀ gs latest earlier tolds n common i = k - i
 
 loop-holds : tie.Need-loop-holds Inv-loop μ-loop
 loop-holds c =
@@ -39,7 +40,7 @@ loop-holds c =
       omega arith,
       s .pre .0,
       omega arith,
-      s .pre .1 ∙ sym (groups-none (now (a .recs)) (now (a .places))),
+      joined-none _ ∙ s .pre .1 ∙ sym (groups-none (now (a .recs)) (now (a .places))),
       refl,
       refl,
       refl,
@@ -68,8 +69,8 @@ take-set-requires c κs =
       λ j m. s .pre .6 (l .i) j (omega arith) m,
     )
 
-step-apart-requires : tie.Need-step-apart-requires Inv-loop μ-loop
-step-apart-requires c κs =
+step-later-requires : tie.Need-step-later-requires Inv-loop μ-loop
+step-later-requires c κs =
     let s = c .before .before .before .before .before .before .before .before .before .before .before .before .before in
     let a = s .args in
     let l = c .before .before .before .before .before .before .before .before .before .loop in (
@@ -90,12 +91,12 @@ returns c =
     let s = b .before .before .before .before .before .before .before .before .before in
     let a = s .args in
     let l = b .before .before .before .before .before .loop in
-    let r = c .before .before .before .step-apart in
+    let r = c .before .before .before .step-later in
     let m = b .take-set in
     let rs = now (a .recs) in
     let ps = now (a .places) in
     let e = recordAt rs (getD ps (l .i) 0) in
-    let next = stepped rs ps (l .i) (l .n) (l .gs) (omega arith)
+    let next = stepped-on rs ps (l .i) (joinedWith (l .common) (take (l .n) (l .gs))) (omega arith)
     (none-itself _ (s .pre .4 .proper (l .i + 1) (omega arith))) (l .inv .3) e refl (m .result)
     (m .ensures .0 ∙ plain-are-all rs ps (a .k) (s .pre .2) (l .i) (omega arith) e refl (s .pre .5)) in
     record {
@@ -121,32 +122,38 @@ loop-again c =
     let s = b .before .before .before .before .before .before .before .before .before in
     let a = s .args in
     let l = b .before .before .before .before .before .loop in
-    let r = c .before .before .before .step-apart in
+    let r = c .before .before .before .step-later in
     let m = b .take-set in
     let rs = now (a .recs) in
     let ps = now (a .places) in
     let e = recordAt rs (getD ps (l .i) 0) in
-    let next = stepped rs ps (l .i) (l .n) (l .gs) (omega arith)
+    let next = stepped-on rs ps (l .i) (joinedWith (l .common) (take (l .n) (l .gs))) (omega arith)
     (none-itself _ (s .pre .4 .proper (l .i + 1) (omega arith))) (l .inv .3) e refl (m .result)
     (m .ensures .0 ∙ plain-are-all rs ps (a .k) (s .pre .2) (l .i) (omega arith) e refl (s .pre .5)) in (
       omega arith,
       r .kept .0 ∙ l .inv .1,
       omega arith,
-      settled-front _ (l .gs) (r .last .0) (r .result) (r .ensures .1) (r .ensures .0) (omega arith) ∙ next,
+      r .ensures .1 (omega arith) ∙ next,
       m .kept .0 ∙ l .inv .4,
       m .kept .1 .0 ∙ l .inv .5,
       m .kept .1 .1 .0 ∙ l .inv .6,
       m .ensures .1,
     )
 
+join-all-requires : tie.Need-join-all-requires Inv-loop μ-loop
+join-all-requires c κs = search needs
+
 same-length-2 : tie.Need-same-length-2 Inv-loop μ-loop
 same-length-2 c = search needs
 
 returns-2 : tie.Need-returns-2 Inv-loop μ-loop
 returns-2 c =
-    let l = c .before .loop in
-    let k : l .i ≡ c .before .before .before .before .before .args .k = omega arith in
-    record { few = λ h. rw (← k) (l .inv .3); many = λ h. absurd (omega (arith, l .inv .2)) }
+    let l = c .before .before .before .before .before .loop in
+    let k : l .i ≡ c .before .before .before .before .before .before .before .before .before .args .k = omega arith in
+    record {
+      few = λ h. c .before .before .join-all .ensures .1 ∙ rw (← k) (l .inv .3);
+      many = λ h. absurd (omega (arith, l .inv .2));
+    }
 
 pub step-plainly-spec : {M : Type 1} → statement M
 step-plainly-spec =
@@ -159,11 +166,12 @@ step-plainly-spec =
     slice-aggregate-take-set-2
     slice-aggregate-take-set-3
     take-set-requires
-    step-apart-requires
+    step-later-requires
     same-length
     returns
     add-i
     loop-less
     loop-again
+    join-all-requires
     same-length-2
     returns-2)

@@ -52,24 +52,30 @@ slice-aggregate-step-limited-2 c = search needs
 slice-aggregate-step-limited-3 : tie.Need-slice-aggregate-step-limited-3
 slice-aggregate-step-limited-3 c = search needs
 
+slice-aggregate-step-limited-4 : tie.Need-slice-aggregate-step-limited-4
+slice-aggregate-step-limited-4 c = search needs
+
 step-limited-requires : tie.Need-step-limited-requires
 step-limited-requires c κs =
-    let s = c .before .before .before .before .before .before .before .before .before .before .before .before in (
+    let back = c .before .before .before .before .before .before .before .before in
+    let s = back .before .before .before .before .before in (
       simp length-set (s .pre .2),
       take-suc-set (now (s .args .gs)) 0 0 (omega (arith, s .pre .2)),
+      search needs,
       search needs,
       search needs,
       s .pre .0,
       s .pre .1,
       s .pre .3,
       search needs,
-      c .before .before .before .before .before .put-names .ensures,
+      c .before .before .before .before .before .before .put-names .ensures,
     )
 
 same-length-2 : tie.Need-same-length-2
 same-length-2 c =
-    let r = c .before .before .before .before in
-    let s = c .before .before .before .before .before .before .before .before .before .before .before .before .before .before .before .before .before in
+    let r = c .before .before .before .before .before in
+    let z = r .before .before .before .before .before .before .before .before in
+    let s = z .before .before .before .before .before .before in
     r .step-limited .kept .0 ∙ length-set (now (s .args .gs)) 0 _
 
 returns-2 : tie.Need-returns-2
@@ -89,6 +95,7 @@ work-out-spec =
     slice-aggregate-step-limited
     slice-aggregate-step-limited-2
     slice-aggregate-step-limited-3
+    slice-aggregate-step-limited-4
     step-limited-requires
     same-length-2
     returns-2)

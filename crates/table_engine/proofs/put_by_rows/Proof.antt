@@ -20,6 +20,9 @@ slice-aggregate-put-rows-2 c = search needs
 slice-aggregate-put-rows-3 : tie.Need-slice-aggregate-put-rows-3
 slice-aggregate-put-rows-3 c = search needs
 
+slice-aggregate-put-rows-4 : tie.Need-slice-aggregate-put-rows-4
+slice-aggregate-put-rows-4 c = search needs
+
 put-rows-requires : tie.Need-put-rows-requires
 put-rows-requires c κs = search needs
 
@@ -38,11 +41,11 @@ same-length c = search needs
 returns : tie.Need-returns
 returns c =
     let m = c .before .before .put-conflicts in
-    let r = c .before .before .before .before .before .before .before .before .put-rows in
-    let s = c .before .before .before .before .before .before .before .before .before .before .before .before .before .before .before .before .before .before in
+    let r = c .before .before .before .before .before .before .before .before .before in
+    let s = r .before .before .before .before .before .before .before .before .before .before .before in
     let a = s .args in
-    masked (now (a .recs)) (now (a .places)) (a .k) (s .pre .0) (s .pre .3) _ _ (m .last .0) (r .ensures)
-    (m .ensures)
+    masked (now (a .recs)) (now (a .places)) (a .k) (s .pre .0) (s .pre .3) _ _ (m .last .0)
+    (r .put-rows .ensures (s .pre .3) .0) (m .ensures)
 
 pub put-by-rows-spec : {M : Type 1} → statement M
 put-by-rows-spec =
@@ -53,6 +56,7 @@ put-by-rows-spec =
     slice-aggregate-put-rows
     slice-aggregate-put-rows-2
     slice-aggregate-put-rows-3
+    slice-aggregate-put-rows-4
     put-rows-requires
     slice-aggregate-put-conflicts
     slice-aggregate-put-conflicts-2

@@ -16,7 +16,7 @@ use Rattle.edit_form.specs.OldForm.{startOf, storedIn}
 use Rattle.edit_form.proofs.Stretches.{lent-is, next-start, start-inside, next-inside, lent-there}
 use Rattle.edit_history.specs.SurveyForms.{Counted}
 use Rattle.edit_history.proofs.ByCounts.{counted-none, counted-few, counted-more}
-use Rattle.table_replay.specs.Replay.{editsIn}
+use Rattle.table_given.specs.Replay.{editsIn}
 use Rattle.table_replay.proofs.RoomForAll.{edits-in-length}
 use Rattle.table_replay.proofs.count_stretch.Statement.{statement}
 use Rattle.table_replay.proofs.count_stretch.Tie as tie

@@ -6,7 +6,7 @@ use borrow.Author.Needs.{needs}
 use Rattle.edit_form.specs.OldForm.{storedIn}
 use Rattle.table_drawing.specs.Tables.{tablesOf}
 use Rattle.table_index.proofs.OneRecordMore.{index-starts}
-use Rattle.table_replay.proofs.ReplayGoes.{opened, opened-parts}
+use Rattle.table_given.proofs.ReplayGoes.{opened, opened-parts}
 use Rattle.table_replay.proofs.RoomForAll.{counts-in-all, room-for-all}
 use Rattle.table_replay.proofs.replay.Statement.{statement}
 use Rattle.table_replay.proofs.replay.Tie as tie

@@ -16,7 +16,7 @@ use Rattle.table_arrival.specs.ArrivalForms.{threeBy}
 use Rattle.table_soundness.proofs.SoundFacts.{sound-at}
 use Rattle.table_arrival.proofs.CodeInHand.{surveyable, early-refused, holds}
 use Rattle.table_arrival.proofs.SixByCounters.{none-of-three}
-use Rattle.table_replay.proofs.IndexGoesAlong.{counted-on, room-on, holds-on, index-on, numbered-on}
+use Rattle.table_plain.proofs.IndexGoesAlong.{counted-on, room-on, holds-on, index-on, numbered-on}
 use Rattle.table_replay.proofs.take_next.Statement.{statement}
 use Rattle.table_replay.proofs.take_next.Tie as tie
 

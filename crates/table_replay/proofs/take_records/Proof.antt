@@ -21,10 +21,10 @@ use Rattle.edit_walk.specs.WalkForms.{Spaced}
 use Rattle.edit_walk.proofs.RoomInIndex.{spaced-same}
 use Rattle.table_index.specs.IndexForms.{IndexOf, countersOf}
 use Rattle.table_arrival.specs.Arrival.{acceptanceOf}
-use Rattle.table_replay.specs.Replay.{editsIn}
-use Rattle.table_replay.specs.ReplayForms.{Takes, Leaves}
-use Rattle.table_replay.proofs.ReplayGoes.{Going, RightlyLong, going-start, going-faithful, going-sound}
-use Rattle.table_replay.proofs.ReplayGoes.{going-ends, going-long, next-long}
+use Rattle.table_given.specs.Replay.{editsIn}
+use Rattle.table_plain.specs.TakingForms.{Takes, Leaves}
+use Rattle.table_given.proofs.ReplayGoes.{Going, RightlyLong, going-start, going-faithful, going-sound}
+use Rattle.table_given.proofs.ReplayGoes.{going-ends, going-long, next-long}
 use Rattle.table_replay.proofs.RoomForAll.{next-room}
 use Rattle.table_replay.proofs.ShortOrLong.{short-took, long-takes, long-leaves}
 use Rattle.table_replay.proofs.ShortOrLong.{going-next, parts-after}

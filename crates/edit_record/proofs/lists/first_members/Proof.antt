@@ -1,4 +1,5 @@
--- `edit_record::lists::first_members` meets its contract: after i turns the first i members are written. Assumes nothing.
+-- `edit_record::lists::first_members` meets its contract: after i turns the first i members are written. Assumes
+-- nothing.
 use mathlib.Core.Path.{_≡_, sym, ap, _∙_}
 use Prim.Native.Nat.{_*_, _≤_, _-_}
 use native.Mathlib.Numerals.{add-one}

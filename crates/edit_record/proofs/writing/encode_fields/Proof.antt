@@ -1,5 +1,5 @@
--- `edit_record::writing::encode_fields` meets its contract: each part of the record stands behind those before it. Assumes
--- nothing.
+-- `edit_record::writing::encode_fields` meets its contract: each part of the record stands behind those before it.
+-- Assumes nothing.
 use Rattle.edit_record.proofs.Encoding.{parts-in-turn}
 use borrow.Author.Needs.{needs}
 use Rattle.edit_record.proofs.writing.encode_fields.Statement.{statement}

@@ -1,5 +1,5 @@
--- `edit_record::writing::with_list` meets its contract: the bytes of the count and of the first i members stand. Assumes
--- nothing.
+-- `edit_record::writing::with_list` meets its contract: the bytes of the count and of the first i members stand.
+-- Assumes nothing.
 use mathlib.Core.Path.{_≡_, sym, ap, _∙_}
 use mathlib.Core.List.{List, _++_, append-nil}
 use Prim.Native.Nat.{ℕ, _+_, _*_, _≤_, _<_, _-_}

@@ -24,7 +24,8 @@ is-target-held-requires c κs = search needs
 
 returns-2 : tie.Need-returns-2
 returns-2 c h =
-    let u = sym (c .before .before .before .before .before .is-body-unfit .ensures h) ∙ c .before .before .before .before .if1 .left in
+    let z = c .before .before .before .before in
+    let u = sym (z .before .is-body-unfit .ensures h) ∙ z .if1 .left in
     let t = sym (c .before .before .is-aimed-kind .ensures) ∙ c .before .if2 .taken in
     rw (u, t, c .is-target-held .ensures) (not-not _)
 

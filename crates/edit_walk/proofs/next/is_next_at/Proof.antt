@@ -1,20 +1,15 @@
 -- `edit_walk::next::is_next_at` meets its contract: what it looks at is one of the records before. Assumes nothing.
-use mathlib.Core.Path.{_≡_, refl}
-use mathlib.Core.List.{List}
-use Prim.Native.Nat.{ℕ, _*_, _-_}
+use mathlib.Core.Path.{refl}
+use Prim.Native.Nat.{_*_}
 use native.Mathlib.Omega.{arith}
-use lib.Seq.{take-all}
-use lib.ListN.{length, take, drop, length-drop}
+use lib.ListN.{length-drop}
 use denote.Ref.{now}
 use borrow.Author.Needs.{needs}
 use Rattle.math_lists.proofs.Booleans.{clash}
 use Rattle.edit_record.specs.Layout.{placeLength}
+use Rattle.edit_walk.proofs.NextDecides.{from-place}
 use Rattle.edit_walk.proofs.next.is_next_at.Statement.{statement}
 use Rattle.edit_walk.proofs.next.is_next_at.Tie as tie
-
--- what is lent is all of the table from the place on
-from-place : (rs : List ℕ) (from : ℕ) → take (length rs - from) (drop from rs) ≡ drop from rs
-from-place rs from = take-all (length rs - from) (drop from rs) (simp length-drop (omega arith))
 
 returns : tie.Need-returns
 returns c h = clash h refl

@@ -25,7 +25,8 @@ returns c =
     let e = decodeOf (now (a .rec)) in
     let (before, grown) = c .before .before .is-next-at .ensures (c .before .if1 .taken) in
     let (_, next) = c .before .before .before .likely-before .ensures before in
-    next-tells (a .sites) (s .pre .3) e (c .before .before .before .likely-before .result) before grown next (c .is-fit-and-aimed .ensures)
+    next-tells (a .sites) (s .pre .3) e (c .before .before .before .likely-before .result) before grown next
+    (c .is-fit-and-aimed .ensures)
 
 is-passing-requires : tie.Need-is-passing-requires
 is-passing-requires c κs = search needs

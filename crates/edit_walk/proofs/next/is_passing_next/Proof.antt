@@ -1,15 +1,10 @@
--- `edit_walk::next::is_passing_next` meets its contract: where the record follows one before it, 1 and 5
--- decide. Assumes nothing.
-use mathlib.Core.Path.{_≡_}
-use mathlib.Core.List.{List}
-use Prim.Native.Nat.{ℕ, _*_, _-_}
-use native.Mathlib.Omega.{arith}
-use lib.Seq.{take-all}
-use lib.ListN.{length, take, drop, length-drop}
+-- `edit_walk::next::is_passing_next` meets its contract: where the record follows one before it, 1 and 5 decide.
+-- Assumes nothing.
+use Prim.Native.Nat.{_*_}
 use denote.Ref.{now}
 use Rattle.edit_record.specs.Layout.{placeLength}
 use Rattle.edit_history.specs.EditsHeld.{recordAt}
-use Rattle.edit_walk.proofs.NextDecides.{next-tells}
+use Rattle.edit_walk.proofs.NextDecides.{from-place, next-tells}
 use borrow.Author.Needs.{needs}
 use Rattle.edit_walk.proofs.next.is_passing_next.Statement.{statement}
 use Rattle.edit_walk.proofs.next.is_passing_next.Tie as tie
@@ -29,8 +24,8 @@ part-rec-end c = search needs
 likely-before-requires : tie.Need-likely-before-requires
 likely-before-requires c κs = search needs
 
-is-next-at-requires : tie.Need-is-next-at-requires
-is-next-at-requires c κs = search needs
+is-next-in-requires : tie.Need-is-next-in-requires
+is-next-in-requires c κs = search needs
 
 shared-slice-read-if2 : tie.Need-shared-slice-read-if2
 shared-slice-read-if2 c = search needs
@@ -43,12 +38,12 @@ returns c =
     let s = c .before .before .before .before .before .before .before .before .before .before in
     let a = s .args in
     let rs = now (a .recs) in
-    let at = a .p * placeLength in
-    let rest : _≡_ {A = List ℕ} (take (length rs - at) (drop at rs)) (drop at rs)
-    = take-all (length rs - at) (drop at rs) (simp length-drop (omega arith)) in
-    let (before, grown) = rw rest at (c .before .before .before .before .is-next-at .ensures (c .before .before .before .if1 .taken)) in
-    let (_, next) = rw rest at (c .before .before .before .before .before .likely-before .ensures before) in
-    next-tells (a .sites) (s .pre .3) (recordAt rs (a .p)) (c .before .before .before .before .before .likely-before .result) before grown next
+    let rest = from-place rs (a .p * placeLength) in
+    let x = c .before .before .before .before in
+    let (before, grown) = x .is-next-in .ensures (c .before .before .before .if1 .taken) in
+    let likely = x .before .likely-before in
+    let (_, next) = rw rest at (likely .ensures before) in
+    next-tells (a .sites) (s .pre .3) (recordAt rs (a .p)) (likely .result) before grown next
     (rw rest at (c .is-set-fit-and-aimed .ensures))
 
 is-fit-and-aimed-requires : tie.Need-is-fit-and-aimed-requires
@@ -59,12 +54,12 @@ returns-2 c =
     let s = c .before .before .before .before .before .before .before .before .before .before in
     let a = s .args in
     let rs = now (a .recs) in
-    let at = a .p * placeLength in
-    let rest : _≡_ {A = List ℕ} (take (length rs - at) (drop at rs)) (drop at rs)
-    = take-all (length rs - at) (drop at rs) (simp length-drop (omega arith)) in
-    let (before, grown) = rw rest at (c .before .before .before .before .is-next-at .ensures (c .before .before .before .if1 .taken)) in
-    let (_, next) = rw rest at (c .before .before .before .before .before .likely-before .ensures before) in
-    next-tells (a .sites) (s .pre .3) (recordAt rs (a .p)) (c .before .before .before .before .before .likely-before .result) before grown next
+    let rest = from-place rs (a .p * placeLength) in
+    let x = c .before .before .before .before in
+    let (before, grown) = x .is-next-in .ensures (c .before .before .before .if1 .taken) in
+    let likely = x .before .likely-before in
+    let (_, next) = rw rest at (likely .ensures before) in
+    next-tells (a .sites) (s .pre .3) (recordAt rs (a .p)) (likely .result) before grown next
     (rw rest at (c .is-fit-and-aimed .ensures))
 
 is-passing-at-requires : tie.Need-is-passing-at-requires
@@ -82,7 +77,7 @@ is-passing-next-spec =
     part-rec-start
     part-rec-end
     likely-before-requires
-    is-next-at-requires
+    is-next-in-requires
     shared-slice-read-if2
     is-set-fit-and-aimed-requires
     returns

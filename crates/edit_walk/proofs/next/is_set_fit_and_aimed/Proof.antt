@@ -23,7 +23,8 @@ is-target-held-requires c κs = search needs
 returns-2 : tie.Need-returns-2
 returns-2 c h =
     let u = sym (c .before .before .is-set-unfit .ensures h) ∙ c .before .if1 .left in
-    let t : isAimed (decodeOf (now (c .before .before .before .before .before .before .before .args .rec))) ≡ true = rw (c .before .before .before .before .before .before .before .pre .1) refl in
+    let z = c .before .before .before .before .before .before .before in
+    let t : isAimed (decodeOf (now (z .args .rec))) ≡ true = rw (z .pre .1) refl in
     rw (u, t, c .is-target-held .ensures) (not-not _)
 
 pub is-set-fit-and-aimed-spec : {M : Type 1} → statement M

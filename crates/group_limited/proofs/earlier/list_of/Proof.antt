@@ -32,7 +32,8 @@ returns c h =
 listed-among-requires : tie.Need-listed-among-requires
 listed-among-requires c κs =
     let s = c .before .before .before .before .before .before in
-    let yes = ap (λ (x : ℕ). eqb x limitedKind) (sym (c .before .byte-at .ensures)) ∙ eq-eqb _ limitedKind (c .if1 .left) in
+    let yes = ap (λ (x : ℕ). eqb x limitedKind) (sym (c .before .byte-at .ensures)) ∙ eq-eqb _ limitedKind
+    (c .if1 .left) in
     (s .pre .0, s .pre .2, yes)
 
 returns-2 : tie.Need-returns-2
@@ -44,7 +45,8 @@ returns-2 c h =
     let named : (i : ℕ) → i < a .k → getD ns i 0 ≡ nameOf (recordAt (now (a .recs)) (getD (now (a .places)) i 0))
     = λ i m. s .pre .3 i m .whole in
     let yes : isLimited e ≡ true =
-    ap (λ (x : ℕ). eqb x limitedKind) (sym (c .before .before .byte-at .ensures)) ∙ eq-eqb _ limitedKind (c .before .if1 .left) in
+    ap (λ (x : ℕ). eqb x limitedKind) (sym (c .before .before .byte-at .ensures)) ∙ eq-eqb _ limitedKind (c
+    .before .if1 .left) in
     let l = c .listed-among .ensures in (
       l .0 ∙ marks-named (now (a .recs)) (now (a .places)) (a .k) (s .pre .1) e ns named yes,
       λ y. l .1

@@ -85,7 +85,8 @@ returns c =
     let ns = now (a .names) in
     let e = decodeOf (now (a .rec)) in
     let done : l .i ≡ n .result = omega arith in
-    let count : c .before .before .before .four-at .result ≡ e .count = c .before .before .before .four-at .ensures ∙ count-there (now (a .rec)) (s .pre .2) in
+    let count : c .before .before .before .four-at .result ≡ e .count = c .before .before
+    .before .four-at .ensures ∙ count-there (now (a .rec)) (s .pre .2) in
     let all : take (l .i) (e .members) ≡ take (e .count) (e .members) =
     ap (λ (j : ℕ). take j (e .members)) done
     ∙ n .ensures .1 (e .members) (members-length (now (a .rec)))

@@ -1,134 +1,89 @@
--- `group_limited::earlier::marks_of` meets its contract: after i places, the marks are those of the Sets in them.
+-- `group_limited::earlier::marks_of` meets its contract: those that were seen, and of the others those that conflict.
 -- Assumes nothing.
-use mathlib.Core.Path.{_≡_, sym}
-use Prim.Native.Nat.{_-_, _≤_, _<_}
+use mathlib.Core.Path.{_≡_, sym, ap₂, subst, _∙_}
+use mathlib.Core.Bool.{_&&_}
+use Prim.Native.Nat.{ℕ, _-_, _^_, _≤_, _<_}
 use native.Mathlib.Omega.{arith}
-use lib.ListN.{getD}
+use lib.Bits.{bitAnd}
+use lib.ListN.{length, getD}
+use lib.Pow.{pow-mono}
 use denote.Ref.{now}
+use Rattle.math_maximal.specs.Groups.{bit}
+use Rattle.edit_record.specs.declared.Edit.{Edit}
 use Rattle.edit_record.specs.RecordBytes.{decodeOf}
-use Rattle.edit_causal.specs.Causal.{comesBefore}
-use Rattle.edit_causal.specs.ConflictForms.{plainMarks}
-use Rattle.edit_causal.proofs.PlainMarks.{none-marked}
-use Rattle.edit_history.specs.EditsHeld.{recordAt}
-use Rattle.group_limited.specs.LimitedForms.{setsIn, seenMarks}
-use Rattle.group_limited.proofs.MarksOfSets.{none-seen, plain-below, seen-below, plain-more, seen-more}
+use Rattle.edit_causal.specs.Conflict.{doConflict}
+use Rattle.edit_history.proofs.EditsInPlaces.{sets-length, set-place}
+use Rattle.group_limited.specs.LimitedForms.{setsIn, NameOf, NamesOf}
+use Rattle.group_limited.proofs.SeenThrough.{plain-of-others}
 use borrow.Author.Needs.{needs}
 use Rattle.group_limited.proofs.earlier.marks_of.Statement.{statement}
 use Rattle.group_limited.proofs.earlier.marks_of.Tie as tie
 
-abbrev Inv-loop : tie.InvT-loop
-Inv-loop recs places names k rec v own plain₀ seen₀ i₀ plain seen i =
-    (i ≤ k)
-    × (plain ≡ plainMarks (decodeOf rec) (setsIn recs places i))
-    × (seen ≡ seenMarks (decodeOf rec) (setsIn recs places i))
-
-abbrev μ-loop : tie.MeasureT-loop
-μ-loop recs places names k rec v own plain₀ seen₀ i₀ plain seen i = k - i
-
-vector-in-requires : tie.Need-vector-in-requires Inv-loop μ-loop
+vector-in-requires : tie.Need-vector-in-requires
 vector-in-requires c κs = search needs
 
-name-of-requires : tie.Need-name-of-requires Inv-loop μ-loop
+name-of-requires : tie.Need-name-of-requires
 name-of-requires c κs = search needs
 
-loop-holds : tie.Need-loop-holds Inv-loop μ-loop
-loop-holds c =
-    let e = decodeOf (now (c .before .before .before .before .before .before .args .rec)) in
-    (omega arith, sym (none-marked e), none-seen e)
+slice-aggregate-seen-of : tie.Need-slice-aggregate-seen-of
+slice-aggregate-seen-of c = search needs
 
-mul-is-seen : tie.Need-mul-is-seen Inv-loop μ-loop
-mul-is-seen c = search needs
+seen-of-requires : tie.Need-seen-of-requires
+seen-of-requires c κs = search needs
 
-shared-slice-read-is-seen : tie.Need-shared-slice-read-is-seen Inv-loop μ-loop
-shared-slice-read-is-seen c = search needs
+first-requires : tie.Need-first-requires
+first-requires c κs = search needs
 
-slice-aggregate-is-seen : tie.Need-slice-aggregate-is-seen Inv-loop μ-loop
-slice-aggregate-is-seen c = search needs
+without-requires : tie.Need-without-requires
+without-requires c κs = search needs
 
-is-seen-requires : tie.Need-is-seen-requires Inv-loop μ-loop
-is-seen-requires c κs = search needs
+plain-of-requires : tie.Need-plain-of-requires
+plain-of-requires c κs =
+    let s = c .before .before .before .before .before .before .before .before .before .before .before in
+    let most : 2 ^ s .args .k ≤ 2 ^ length (now (s .args .places)) = pow-mono (s .pre .1) in
+    rw (c .without .ensures) (omega (arith, c .before .first .ensures .0, most))
 
-mul-is-conflict-unless : tie.Need-mul-is-conflict-unless Inv-loop μ-loop
-mul-is-conflict-unless c = search needs
-
-shared-slice-read-is-conflict-unless :
-    tie.Need-shared-slice-read-is-conflict-unless Inv-loop μ-loop
-shared-slice-read-is-conflict-unless c = search needs
-
-is-conflict-unless-requires : tie.Need-is-conflict-unless-requires Inv-loop μ-loop
-is-conflict-unless-requires c κs = search needs
-
-marked-if-requires : tie.Need-marked-if-requires Inv-loop μ-loop
-marked-if-requires c κs =
-    let s = c .before .before .before .before .before .before .before .before .before .before .before .before .before in
+returns : tie.Need-returns
+returns c =
+    let s = c .before .before .before .before .before .before .before .before .before .before .before .before in
     let a = s .args in
-    let l = c .before .before .before .before .before .before .loop in (
-      rw (l .inv .1) (plain-below (decodeOf (now (a .rec))) (now (a .recs)) (now (a .places)) (l .i)
-          (omega (arith, s .pre .1))),
-      λ y. omega (arith, s .pre .0),
-    )
-
-marked-if-requires-2 : tie.Need-marked-if-requires-2 Inv-loop μ-loop
-marked-if-requires-2 c κs =
-    let s = c .before .before .before .before .before .before .before .before .before .before .before .before .before .before in
-    let a = s .args in
-    let l = c .before .before .before .before .before .before .before .loop in (
-      rw (l .inv .2) (seen-below (decodeOf (now (a .rec))) (now (a .recs)) (now (a .places)) (l .i)
-          (omega (arith, s .pre .1))),
-      λ y. omega (arith, s .pre .0),
-    )
-
-add-i : tie.Need-add-i Inv-loop μ-loop
-add-i c = search needs
-
-loop-less : tie.Need-loop-less Inv-loop μ-loop
-loop-less c = search needs
-
-loop-again : tie.Need-loop-again Inv-loop μ-loop
-loop-again c =
-    let s = c .before .before .before .before .before .before .before .before .before .before .before .before .before .before .before in
-    let a = s .args in
-    let l = c .before .before .before .before .before .before .before .before .loop in
-    let e = decodeOf (now (a .rec)) in
     let rs = now (a .recs) in
     let ps = now (a .places) in
-    let more : l .i < a .k = c .before .before .before .before .before .before .before .loop-test .taken in
-    let own = recordAt rs (getD ps (l .i) 0) in
-    let seen : c .before .before .before .before .is-seen .result ≡ comesBefore own e
-    = c .before .before .before .before .is-seen .ensures own e (s .pre .3 (l .i) more) (c .before .before .before .before .before .before .before .before .before .name-of .ensures)
-    (sym (c .before .before .before .before .before .before .before .before .before .before .vector-in .ensures)) in (
-      omega (arith, more),
-      rw (c .before .marked-if .ensures, l .inv .1, c .before .before .is-conflict-unless .ensures seen)
-          (sym (plain-more e rs ps (l .i) (omega (arith, s .pre .1)))),
-      rw (c .marked-if2 .ensures, l .inv .2, seen) (sym (seen-more e rs ps (l .i) (omega (arith, s .pre .1)))),
+    let e = decodeOf (now (a .rec)) in
+    let ms = setsIn rs ps (a .k) in
+    let fits : a .k ≤ length ps = s .pre .1 in
+    let size : length ms ≡ a .k = sets-length rs ps (a .k) fits in
+    let all = c .before .before .first in
+    let others = c .before .without in
+    let plain = c .plain-of in
+    let part : plain .result ≤ all .result - bitAnd (all .result) (c .before .before .before .seen-of .result)
+    = rw (others .ensures) at (plain .ensures .0) in
+    let names : NamesOf (now (a .names)) ms
+    = λ i l. let m : i < a .k = omega (arith, size) in
+    subst (NameOf (getD (now (a .names)) i 0)) (sym (set-place rs ps (a .k) fits i m)) (s .pre .4 i m) in (
+      omega (arith, part, all .ensures .0),
+      λ tell law.
+          let seen = c .before .before .before .seen-of .ensures ms e size names
+          (c .before .before .before .before .before .name-of .ensures)
+          (sym (c .before .before .before .before .before .before .vector-in .ensures)) tell law in
+          ap₂ (λ (p q : ℕ). record { plain = p; seen = q })
+          (plain-of-others ms e (all .result) _ (plain .result) (rw size (all .ensures .0))
+          (λ j l. all .ensures .1 j (omega (arith, size))) seen part
+          (λ j l. plain .ensures .1 j
+          ∙ ap₂ (λ (x : ℕ) (y : Edit). bit x j && doConflict y e) (others .ensures)
+          (sym (set-place rs ps (a .k) fits j (omega (arith, size))))))
+          seen,
     )
-
-returns : tie.Need-returns Inv-loop μ-loop
-returns c =
-    let l = c .before .loop in
-    let a = c .before .before .before .before .before .before .before .before .args in
-    let done : l .i ≡ a .k = omega arith in
-    rw (← done, l .inv .1, l .inv .2)
 
 pub marks-of-spec : {M : Type 1} → statement M
 marks-of-spec =
     tie.close
     (tie.spec
-    Inv-loop
-    μ-loop
     vector-in-requires
     name-of-requires
-    loop-holds
-    mul-is-seen
-    shared-slice-read-is-seen
-    slice-aggregate-is-seen
-    is-seen-requires
-    mul-is-conflict-unless
-    shared-slice-read-is-conflict-unless
-    is-conflict-unless-requires
-    marked-if-requires
-    marked-if-requires-2
-    add-i
-    loop-less
-    loop-again
+    slice-aggregate-seen-of
+    seen-of-requires
+    first-requires
+    without-requires
+    plain-of-requires
     returns)

@@ -50,7 +50,8 @@ loop-again c =
       omega arith,
       simp length-set (l .inv .1),
       λ j m. elim (ℕ-discrete j (l .i)) [
-        | yes e ↦ rw (e, getD-set-same (l .names) (l .i) _ 0 (omega (arith, l .inv .1, s .pre .0))) (c .name-at .ensures)
+        | yes e ↦ rw (e, getD-set-same (l .names) (l .i) _ 0 (omega (arith, l .inv .1, s .pre .0)))
+            (c .name-at .ensures)
         | no d ↦ rw (getD-set-other (l .names) (l .i) j _ 0 d) (l .inv .2 j (omega (arith, d)))
       ],
     )

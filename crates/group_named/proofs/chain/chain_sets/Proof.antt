@@ -40,8 +40,15 @@ sub-q c = search needs
 link-record-requires : tie.Need-link-record-requires Inv-loop μ-loop
 link-record-requires c κs =
     let s = c .before .before .before .before .before .before in
-    let l = c .before .before .loop in
-    (omega (arith, c .before .loop-test .taken, l .inv .1, s .pre .1), omega (arith, c .before .loop-test .taken, s .pre .0))
+    let l = c .before .before .loop in (
+      omega (arith, c .before .loop-test .taken, l .inv .1, s .pre .1),
+      omega (
+        arith,
+        c
+            .before .loop-test .taken,
+        s .pre .0,
+      ),
+    )
 
 loop-less : tie.Need-loop-less Inv-loop μ-loop
 loop-less c = search needs

@@ -49,7 +49,8 @@ unfolding linkedWith
 returns c =
     let a = c .before .before .before .before .before .before .before .before .before .before .before .args in
     let t = c .before .before .before .before .before .before .target-place in
-    let yes = asked (now (a .recs)) (now (a .places)) (a .q) _ _ _ (c .before .before .before .before .before .before .before .kind-at .ensures) (t .ensures)
+    let yes = asked (now (a .recs)) (now (a .places)) (a .q) _ _ _ (c .before .before .before .before .before
+    .before .before .kind-at .ensures) (t .ensures)
     (c .before .before .before .before .before .is-set-kind .ensures) ∙ c .before .before .before .before .if1 .taken in
     rw yes (c .before .before .link .ensures ∙ ap (λ (p : ℕ). put (now (a .chain)) p (a .q)) (t .ensures))
 
@@ -57,7 +58,8 @@ returns-2 : tie.Need-returns-2
 unfolding linkedWith
 returns-2 c =
     let a = c .before .before .before .before .before .before .before .args in
-    let no = asked (now (a .recs)) (now (a .places)) (a .q) _ _ _ (c .before .before .before .kind-at .ensures) (c .before .before .target-place .ensures)
+    let no = asked (now (a .recs)) (now (a .places)) (a .q) _ _ _ (c .before .before .before .kind-at .ensures)
+    (c .before .before .target-place .ensures)
     (c .before .is-set-kind .ensures) ∙ c .if1 .left in
     rw no
 

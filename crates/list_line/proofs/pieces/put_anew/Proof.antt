@@ -10,7 +10,8 @@ renew-requires c κs = search needs
 
 put-piece-requires : tie.Need-put-piece-requires
 put-piece-requires c κs =
-    let s = c .before .before .before .before .before .before .before .before .before .before .before .before .before .before .before .before .before in
+    let s = c .before .before .before .before .before .before .before .before .before .before .before .before
+    .before .before .before .before .before in
     let kept = c .before .before .before .before .before .before .before .before .before .renew .ensures .0 in
     (s .pre .0, kept .texts-long, kept .lens-long, kept .few (s .args .j) (s .pre .0), s .pre .2)
 
@@ -28,8 +29,10 @@ same-length-4 c = search needs
 
 returns : tie.Need-returns
 returns c =
-    let s = c .before .before .before .before .before .before .before .before .before .before .before .before .before .before .before .before .before .before .before .before in
-    let made = c .before .before .before .before .before .before .before .before .before .before .before .before .renew in
+    let s = c .before .before .before .before .before .before .before .before .before .before .before .before
+    .before .before .before .before .before .before .before .before in
+    let made = c .before .before .before .before .before .before .before .before .before .before .before
+    .before .renew in
     let put = c .before .before .put-piece in (
       put .ensures .0 ∙ rw (made .ensures .1),
       omega (arith, put .ensures .1, made .ensures .0 .few (s .args .j) (s .pre .0)),

@@ -24,7 +24,8 @@ use Rattle.list_print.proofs.all_lines.put_objects.Statement.{statement
 use Rattle.list_print.proofs.all_lines.put_objects.Tie as tie
 
 abbrev Inv-loop : tie.InvT-loop
-Inv-loop out₀ line₀ n c records objects groups chain m order texts₀ lens₀ told₀ disputes₀ stamps₀ versions₀ w₀ i₀ out line texts lens told disputes stamps versions w i =
+Inv-loop out₀ line₀ n c records objects groups chain m order texts₀ lens₀ told₀ disputes₀ stamps₀ versions₀ w₀ i₀
+    out line texts lens told disputes stamps versions w i =
     (i ≤ m)
     × (length out ≡ length out₀)
     × (length line ≡ length line₀)
@@ -36,7 +37,8 @@ Inv-loop out₀ line₀ n c records objects groups chain m order texts₀ lens�
     (i * (mostGroups * lineLength)) out w
 
 abbrev μ-loop : tie.MeasureT-loop
-μ-loop out₀ line₀ n c records objects groups chain m order texts₀ lens₀ told₀ disputes₀ stamps₀ versions₀ w₀ i₀ out line texts lens told disputes stamps versions w i =
+μ-loop out₀ line₀ n c records objects groups chain m order texts₀ lens₀ told₀ disputes₀ stamps₀ versions₀ w₀ i₀ out
+    line texts lens told disputes stamps versions w i =
     m - i
 
 cast-m : tie.Need-cast-m Inv-loop μ-loop
@@ -108,7 +110,8 @@ slice-aggregate-put-object-6 c = search needs
 
 put-object-requires : tie.Need-put-object-requires Inv-loop μ-loop
 put-object-requires c κs =
-    let start = c .before .before .before .before .before .before .before .before .before .before .before .before .before .before .before .before .before .before .before .before .before in
+    let start = c .before .before .before .before .before .before .before .before .before .before .before
+    .before .before .before .before .before .before .before .before .before .before in
     let l = c .before .before .before .before .before .before .before .before .before .loop in
     let a = start .args in
     let t = tablesOf (a .c) (now (a .records)) (now (a .objects)) (now (a .groups)) in
@@ -116,7 +119,8 @@ put-object-requires c κs =
     let more = c .before .before .before .before .before .before .before .before .loop-test .taken in (
       start .pre .0,
       start .pre .1,
-      sorted-low t f _ (c .before .before .before .before .before .before .before .before .before .before .before .sort-objects .ensures ∙ in-order t f) (l .i) (omega (arith, more)),
+      sorted-low t f _ (c .before .before .before .before .before .before .before .before .before .before
+          .before .sort-objects .ensures ∙ in-order t f) (l .i) (omega (arith, more)),
       omega (arith, more, f .few-objects, start .pre .2, l .inv .7 .end, l .inv .7 .few),
       omega (arith, start .pre .3, l .inv .2),
       l .inv .6,
@@ -133,12 +137,16 @@ loop-less c = omega arith
 
 loop-again : tie.Need-loop-again Inv-loop μ-loop
 loop-again c =
-    let start = c .before .before .before .before .before .before .before .before .before .before .before .before .before .before .before .before .before .before .before .before .before .before .before .before .before .before .before .before .before .before .before .before in
+    let start = c .before .before .before .before .before .before .before .before .before .before .before
+    .before .before .before .before .before .before .before .before .before .before .before .before .before
+    .before .before .before .before .before .before .before .before in
     let a = start .args in
     let t = tablesOf (a .c) (now (a .records)) (now (a .objects)) (now (a .groups)) in
     let p = c .before .before .before .before .before .before .before .before .before .before .put-object in
-    let l = c .before .before .before .before .before .before .before .before .before .before .before .before .before .before .before .before .before .before .before .before .loop in
-    let more = c .before .before .before .before .before .before .before .before .before .before .before .before .before .before .before .before .before .before .before .loop-test .taken in
+    let l = c .before .before .before .before .before .before .before .before .before .before .before .before
+    .before .before .before .before .before .before .before .before .loop in
+    let more = c .before .before .before .before .before .before .before .before .before .before .before
+    .before .before .before .before .before .before .before .before .loop-test .taken in
     let few = sound-at t (start .pre .0) .few-objects in
     let work = p .kept .1 .1 .1 .1 .1 in (
       omega (arith, more),
@@ -149,7 +157,14 @@ loop-again c =
       work .1 .1 .0 ∙ l .inv .5,
       p .ensures .1,
       piece-behind (λ o. joined (linesFor t o)) (mostGroups * lineLength) (now (a .out)) _ (a .n) (l .i)
-          (omega (arith, few, more, c .before .before .before .before .before .before .before .before .before .before .before .before .before .before .before .before .before .before .before .before .before .before .sort-objects .kept .0)) (l .inv .7) (p .ensures .0),
+          (omega (
+            arith,
+            few,
+            more,
+            c .before .before .before .before .before .before .before .before .before
+                .before .before .before .before .before .before .before .before .before .before .before .before
+                .before .sort-objects .kept .0,
+          )) (l .inv .7) (p .ensures .0),
     )
 
 same-length : tie.Need-same-length Inv-loop μ-loop
@@ -160,7 +175,8 @@ same-length-2 c = c .before .loop .inv .2
 
 returns : tie.Need-returns Inv-loop μ-loop
 returns c =
-    let start = c .before .before .before .before .before .before .before .before .before .before .before .before .before in
+    let start = c .before .before .before .before .before .before .before .before .before .before .before
+    .before .before in
     let a = start .args in
     let t = tablesOf (a .c) (now (a .records)) (now (a .objects)) (now (a .groups)) in
     let l = c .before .loop in

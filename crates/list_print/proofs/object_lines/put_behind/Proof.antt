@@ -1,4 +1,5 @@
--- `list_print::object_lines::put_behind` meets its contract: the bytes are copied where they have room. Assumes nothing.
+-- `list_print::object_lines::put_behind` meets its contract: the bytes are copied where they have room. Assumes
+-- nothing.
 use mathlib.Core.Path.{sym, _∙_}
 use Prim.Native.Nat.{_+_, _≤_}
 use native.Mathlib.Omega.{arith}

@@ -1,97 +1,93 @@
 -- `list_version::values::stamp_at` meets its contract: the counts of a vector add up to less than 2 ^ 20. Assumes
 -- nothing.
-use mathlib.Core.Path.{_≡_, refl, sym, subst, _∙_}
+use mathlib.Core.Path.{_≡_, refl, subst, _∙_}
 use mathlib.Core.List.{List}
 use Prim.Native.Nat.{ℕ, _*_, _-_, _≤_}
 use native.Mathlib.Omega.{arith}
 use borrow.Author.Tests.{lt-ltb, le-ltb}
 use lib.ListN.{getD}
-use mir.Syntax.{w16}
+use mir.Syntax.{w8, w16}
 use mir.Val.{Fits}
-use Rattle.edit_record.specs.Layout.{mostSites, keys, twoBytes}
+use Rattle.edit_record.specs.Layout.{mostSites, keys, twoBytes, siteAt}
 use Rattle.edit_causal.specs.TotalOrder.{vectorSum}
 use Rattle.edit_history.specs.EditsHeld.{recordAt}
-use Rattle.edit_history.proofs.FieldsInPlace.{site-in-place, key-in-place}
-use Rattle.list_version.proofs.ValueInPlace.{value-in-place}
 use Rattle.list_version.proofs.ValuesByStamps.{sum-low, stamp-is}
 use borrow.Author.Needs.{needs}
 use Rattle.list_version.proofs.values.stamp_at.Statement.{statement}
 use Rattle.list_version.proofs.values.stamp_at.Tie as tie
 
-mul-at : tie.Need-mul-at
-mul-at c = search needs
+copy-at-requires : tie.Need-copy-at-requires
+copy-at-requires c κs = search needs
 
-vector-at-requires : tie.Need-vector-at-requires
-vector-at-requires c κs = search needs
+slice-aggregate-vector-of : tie.Need-slice-aggregate-vector-of
+slice-aggregate-vector-of c = search needs
+
+vector-of-requires : tie.Need-vector-of-requires
+vector-of-requires c κs = search needs
 
 vector-sum-requires : tie.Need-vector-sum-requires
 vector-sum-requires c κs = search needs
 
-add-byte-at : tie.Need-add-byte-at
-add-byte-at c = search needs
-
-byte-at-requires : tie.Need-byte-at-requires
-byte-at-requires c κs = search needs
-
-add-byte-at-2 : tie.Need-add-byte-at-2
-add-byte-at-2 c = search needs
-
-byte-at-requires-2 : tie.Need-byte-at-requires-2
-byte-at-requires-2 c κs = search needs
-
-add-four-at : tie.Need-add-four-at
-add-four-at c = search needs
+slice-aggregate-four-at : tie.Need-slice-aggregate-four-at
+slice-aggregate-four-at c = search needs
 
 four-at-requires : tie.Need-four-at-requires
 four-at-requires c κs = search needs
 
+array-read-site : tie.Need-array-read-site
+array-read-site c = search needs
+
+array-read-key : tie.Need-array-read-key
+array-read-key c = search needs
+
 returns : tie.Need-returns
 returns c =
-    let a = c .before .before .before .before .before .before .before .args in
-    let rs = a .recs .now in
-    let v = c .before .before .before .before .before .vector-at .result in
-    let vector = c .before .before .before .before .before .vector-at .ensures in
+    let vector = c .before .before .before .before in
+    let copied = vector .before .before in
+    let a = copied .before .before .args in
+    let e = recordAt (a .recs .now) (a .p) in
+    let fields = copied .copy-at .ensures in
+    let v = vector .vector-of .result in
+    let same = vector .vector-of .ensures ∙ fields .vector in
     let low : vectorSum v ≤ mostSites * (twoBytes - 1)
     = sum-low v (λ i. let h : Fits w16 (getD v i 0) = search needs in omega arith) in
-    let key = c .before .before .byte-at2 .ensures ∙ sym (key-in-place rs (a .p)) in
-    let site = c .before .before .before .byte-at .ensures ∙ sym (site-in-place rs (a .p)) in
-    let value = c .before .four-at .ensures ∙ sym (value-in-place rs (a .p)) in (
-      rw (le-ltb (recordAt rs (a .p) .key) keys (omega (arith, key))) refl,
+    let narrow : Fits w8 (getD (copied .copy-at .result) siteAt 0) = search needs in (
+      rw (le-ltb (e .key) keys (omega (arith, fields .key))) refl,
       (
-        subst (λ (l : List ℕ). vectorSum l ≤ mostSites * (twoBytes - 1)) vector low,
-        omega (arith, site),
-        omega (arith, value),
+        subst (λ (l : List ℕ). vectorSum l ≤ mostSites * (twoBytes - 1)) same low,
+        omega (arith, fields .site, narrow),
+        omega (arith, fields .value, c .before .four-at .ensures),
       ),
     )
 
 stamped-requires : tie.Need-stamped-requires
 stamped-requires c κs =
-    let v = c .before .before .before .before .before .vector-at .result in
+    let v = c .before .before .before .before .vector-of .result in
     let low : vectorSum v ≤ mostSites * (twoBytes - 1)
     = sum-low v (λ i. let h : Fits w16 (getD v i 0) = search needs in omega arith) in
-    (omega arith, omega (arith, low, c .before .before .before .before .vector-sum .ensures))
+    (omega arith, omega (arith, low, c .before .before .before .vector-sum .ensures))
 
 returns-2 : tie.Need-returns-2
 returns-2 c =
-    let s8 = c .before .before .before .before .before .before .before .before in
-    let a = s8 .args in
-    let rs = a .recs .now in
-    let e = recordAt rs (a .p) in
-    let v = c .before .before .before .before .before .before .vector-at .result in
-    let vector = c .before .before .before .before .before .before .vector-at .ensures in
+    let added = c .before .before .before .before in
+    let vector = added .before in
+    let copied = vector .before .before in
+    let a = copied .before .before .args in
+    let e = recordAt (a .recs .now) (a .p) in
+    let fields = copied .copy-at .ensures in
+    let v = vector .vector-of .result in
+    let same = vector .vector-of .ensures ∙ fields .vector in
     let low : vectorSum v ≤ mostSites * (twoBytes - 1)
     = sum-low v (λ i. let h : Fits w16 (getD v i 0) = search needs in omega arith) in
-    let key = c .before .before .before .byte-at2 .ensures ∙ sym (key-in-place rs (a .p)) in
-    let site = c .before .before .before .before .byte-at .ensures ∙ sym (site-in-place rs (a .p)) in
-    let value = c .before .before .four-at .ensures ∙ sym (value-in-place rs (a .p)) in
-    let added = c .before .before .before .before .before .vector-sum in
-    let sum : added .result ≡ vectorSum (e .vector)
-    = subst (λ (l : List ℕ). added .result ≡ vectorSum l) vector (added .ensures) in (
-      rw (lt-ltb (e .key) keys (omega (arith, key)))
-          (c .stamped .ensures ∙ stamp-is e _ _ _ _ key sum site value),
+    let narrow : Fits w8 (getD (copied .copy-at .result) siteAt 0) = search needs in
+    let value = c .before .before .four-at .ensures ∙ fields .value in
+    let sum : added .vector-sum .result ≡ vectorSum (e .vector)
+    = subst (λ (l : List ℕ). added .vector-sum .result ≡ vectorSum l) same (added .vector-sum .ensures) in (
+      rw (lt-ltb (e .key) keys (omega (arith, fields .key)))
+          (c .stamped .ensures ∙ stamp-is e _ _ _ _ (fields .key) sum (fields .site) value),
       (
-        subst (λ (l : List ℕ). vectorSum l ≤ mostSites * (twoBytes - 1)) vector low,
-        omega (arith, site),
+        subst (λ (l : List ℕ). vectorSum l ≤ mostSites * (twoBytes - 1)) same low,
+        omega (arith, fields .site, narrow),
         omega (arith, value),
       ),
     )
@@ -100,15 +96,14 @@ pub stamp-at-spec : {M : Type 1} → statement M
 stamp-at-spec =
     tie.close
     (tie.spec
-    mul-at
-    vector-at-requires
+    copy-at-requires
+    slice-aggregate-vector-of
+    vector-of-requires
     vector-sum-requires
-    add-byte-at
-    byte-at-requires
-    add-byte-at-2
-    byte-at-requires-2
-    add-four-at
+    slice-aggregate-four-at
     four-at-requires
+    array-read-site
+    array-read-key
     returns
     stamped-requires
     returns-2)

@@ -19,15 +19,17 @@ use Rattle.table_index.proofs.LookByIndex.{turn-of, target-of, create-r
 use Rattle.table_index.proofs.plain.look.Statement.{statement}
 use Rattle.table_index.proofs.plain.look.Tie as tie
 
-abbrev start-of : tie.After-is-passing-after → tie.Start
-start-of c = c .before .before .before .before .before .before .before .before .before .before
+abbrev start-of : tie.After-is-passing-with → tie.Start
+start-of c =
+    let c3 = c .before .before .before in
+    c3 .before .before .before .before .before .before .before .before
 
 abbrev e-of : tie.Start → Edit
 e-of s = decodeOf (now (s .args .rec))
 
 -- the edit passes
 passed :
-    (c : tie.After-is-passing-after) → c .is-passing-after .result ≡ true →
+    (c : tie.After-is-passing-with) → c .is-passing-with .result ≡ true →
     (let s = start-of c in passes (s .args .sites) (editsOf (now (s .args .recs)) (s .args .n)) (e-of s) ≡ true)
 passed c ok =
     let s = start-of c in
@@ -36,7 +38,7 @@ passed c ok =
     sym
     (news-decide (a .sites) (h .few-sites) (now (a .recs)) (a .n) (h .pass) (now (a .places)) (s .pre .2 .indexed)
     (now (a .held)) (s .pre .4) (h .held) (e-of s))
-    ∙ sym (c .is-passing-after .ensures)
+    ∙ sym (c .is-passing-with .ensures)
     ∙ ok
 
 shared-slice-read-kind : tie.Need-shared-slice-read-kind
@@ -48,8 +50,11 @@ no-set-requires c κs = search needs
 returns : tie.Need-returns
 returns c ok = clash ok (c .no-set .ensures)
 
-is-passing-after-requires : tie.Need-is-passing-after-requires
-is-passing-after-requires c κs = search needs
+is-all-seen-requires : tie.Need-is-all-seen-requires
+is-all-seen-requires c κs = search needs
+
+is-passing-with-requires : tie.Need-is-passing-with-requires
+is-passing-with-requires c κs = search needs
 
 no-set-requires-2 : tie.Need-no-set-requires-2
 no-set-requires-2 c κs = search needs
@@ -63,7 +68,7 @@ look-at-set-requires c κs =
     let s = start-of c2 in
     let a = s .args in
     let e = e-of s in
-    let ok = not-false (c2 .is-passing-after .result) (c .before .if2 .left) in
+    let ok = not-false (c2 .is-passing-with .result) (c .before .if2 .left) in
     let set : isSet e ≡ true = or-left (eqb (e .kind) setKind) (isLimited e) (eq-eqb (e .kind) setKind
     (c .if3 .taken)) in (
       (
@@ -71,7 +76,8 @@ look-at-set-requires c κs =
         s .pre .0,
         refl,
         turn-of (a .sites) (now (a .held)) (now (a .recs)) (now (a .places)) e
-            (sym (c2 .is-passing-after .ensures) ∙ ok),
+            (sym (c2 .is-passing-with .ensures) ∙ ok),
+        c2 .before .is-all-seen .ensures,
       ),
       s .pre .1,
       s .pre .2,
@@ -88,8 +94,8 @@ returns-3 c ok =
     let set : isSet e ≡ true
     = or-left (eqb (e .kind) setKind) (isLimited e) (eq-eqb (e .kind) setKind (c .before .if3 .taken)) in
     record {
-      plain = ne-eqb (e .kind) limitedKind (c3 .before .if1 .left);
-      pass = passed c3 (not-false (c3 .is-passing-after .result) (c .before .before .if2 .left));
+      plain = ne-eqb (e .kind) limitedKind (c3 .before .before .if1 .left);
+      pass = passed c3 (not-false (c3 .is-passing-with .result) (c .before .before .if2 .left));
       create-room = λ k. clash k (set-not-create e set);
       set = λ k. c .look-at-set .ensures ok;
     }
@@ -102,10 +108,10 @@ returns-4 c ok =
     let c3 = c .before .before .before in
     let s = start-of c3 in
     let e = e-of s in
-    let plain : isLimited e ≡ false = ne-eqb (e .kind) limitedKind (c3 .before .if1 .left) in
+    let plain : isLimited e ≡ false = ne-eqb (e .kind) limitedKind (c3 .before .before .if1 .left) in
     record {
       plain = plain;
-      pass = passed c3 (not-false (c3 .is-passing-after .result) (c .before .before .if2 .left));
+      pass = passed c3 (not-false (c3 .is-passing-with .result) (c .before .before .if2 .left));
       create-room = create-room-of e (s .args .m) (sym (c .no-set3 .ensures) ∙ ok);
       set = λ k. clash k (or-off (eqb (e .kind) setKind) (isLimited e) (ne-eqb (e .kind) setKind (c
           .before .if3 .left)) plain);
@@ -118,7 +124,8 @@ look-spec =
     shared-slice-read-kind
     no-set-requires
     returns
-    is-passing-after-requires
+    is-all-seen-requires
+    is-passing-with-requires
     no-set-requires-2
     returns-2
     look-at-set-requires

@@ -68,17 +68,17 @@ no-set-requires c κs = search needs
 returns : tie.Need-returns
 returns c ok = clash ok (c .no-set .ensures)
 
-marks-along-requires : tie.Need-marks-along-requires
-marks-along-requires c κs =
+marks-unless-requires : tie.Need-marks-unless-requires
+marks-unless-requires c κs =
     let c4 = c .before .before .before .before in
     let s = start-of c4 in
     let a = s .args in
-    let (d, h, count, turn) = s .pre .0 in
+    let (d, h, count, turn, sees) = s .pre .0 in
     let x = s .pre .2 in
     let t = target d (now (a .recs)) h (a .n) count (now (a .places)) (now (a .numbers)) (now (a .counts))
     (now (a .chains)) x (e-of s) (s .pre .5) in
     rw (place-is c4) (
-      (d, h, count, record { in-turn = turn; place = t .low; target = t .target }),
+      (d, h, count, record { in-turn = turn; place = t .low; target = t .target }, sees),
       s .pre .1,
       x .chained,
       x .numbers-long,
@@ -94,14 +94,14 @@ returns-2 c ok =
     let c5 = c3 .before .before in
     let s = start-of c5 in
     let a = s .args in
-    let (d, h, count, turn) = s .pre .0 in
+    let (d, h, count, turn, sees) = s .pre .0 in
     let is = place-is c5 in
     found-of d (now (a .recs)) h (a .n) count (now (a .places)) (now (a .numbers)) (now (a .counts))
     (now (a .chains)) (s .pre .2) (e-of s) (s .pre .5) _
     (c3 .before .byte-at .ensures ∙ ap (λ (i : ℕ). getD (now (a .numbers)) i 0) is)
     (c3 .at16 .ensures)
     (sym (c2 .byte-at2 .ensures) ∙ c .before .if1 .left)
-    (c .marks-along .ensures ∙ ap (λ (i : ℕ). marksOn (now (a .recs)) (a .n) i (e-of s)) is)
+    (c .marks-unless .ensures ∙ ap (λ (i : ℕ). marksOn (now (a .recs)) (a .n) i (e-of s)) is)
     (ltb-true (c3 .at16 .result) _ ok)
 
 pub look-at-set-spec : {M : Type 1} → statement M
@@ -120,5 +120,5 @@ look-at-set-spec =
     byte-at-requires-2
     no-set-requires
     returns
-    marks-along-requires
+    marks-unless-requires
     returns-2)

@@ -15,20 +15,20 @@ use Rattle.table_sets.proofs.by_key.disputed_in.Statement.{statement}
 use Rattle.table_sets.proofs.by_key.disputed_in.Tie as tie
 
 abbrev Inv-loop : tie.InvT-loop
-Inv-loop recs places t latest₀ earlier₀ tolds₀ all₀ i₀ latest earlier tolds all i =
+Inv-loop tolds₀ recs places t latest₀ earlier₀ all₀ i₀ tolds latest earlier all i =
     (i ≤ t)
     × (length latest ≡ keys)
     × (length earlier ≡ mostSets)
-    × (length tolds ≡ mostSets)
+    × (length tolds ≡ length tolds₀)
     × LinkedTo recs places i latest earlier tolds
     × MarkedTo recs places i all
 
 abbrev μ-loop : tie.MeasureT-loop
-μ-loop recs places t latest₀ earlier₀ tolds₀ all₀ i₀ latest earlier tolds all i = t - i
+μ-loop tolds₀ recs places t latest₀ earlier₀ all₀ i₀ tolds latest earlier all i = t - i
 
 loop-holds : tie.Need-loop-holds Inv-loop μ-loop
 loop-holds c =
-    let a = c .before .before .args in (
+    let a = c .before .before .before .args in (
       search needs,
       refl,
       refl,
@@ -43,20 +43,18 @@ slice-aggregate-take-set c = search needs
 slice-aggregate-take-set-2 : tie.Need-slice-aggregate-take-set-2 Inv-loop μ-loop
 slice-aggregate-take-set-2 c = search needs
 
-slice-aggregate-take-set-3 : tie.Need-slice-aggregate-take-set-3 Inv-loop μ-loop
-slice-aggregate-take-set-3 c = search needs
-
 take-set-requires : tie.Need-take-set-requires Inv-loop μ-loop
 take-set-requires c κs =
-    let start = c .before .before .before .before .before .before .before in
-    let l = c .before .before .before .before .loop in (
-      omega (arith, start .pre .1),
-      omega (arith, start .pre .0),
+    let looped = c .before .before .before .before in
+    let p = looped .before .before .before .before .pre in
+    let l = looped .loop in (
+      omega (arith, p .1),
+      omega (arith, p .0),
       omega (arith, l .inv .1),
-      omega (arith, start .pre .1, l .inv .2),
-      omega (arith, start .pre .1, l .inv .3),
+      omega (arith, p .1, l .inv .2),
+      omega (arith, p .2, l .inv .3),
       l .inv .4,
-      λ j m. start .pre .2 (l .i) j (omega arith) m,
+      λ j m. p .3 (l .i) j (omega arith) m,
     )
 
 shl-all : tie.Need-shl-all Inv-loop μ-loop
@@ -70,29 +68,35 @@ loop-less c = search needs
 
 loop-again : tie.Need-loop-again Inv-loop μ-loop
 loop-again c =
-    let start = c .before .before .before .before .before .before .before .before .before .before .before .before in
+    let taken = c .before .before .before .before .before in
+    let looped = taken .before .before .before .before .before in
+    let start = looped .before .before .before .before in
     let a = start .args in
-    let l = c .before .before .before .before .before .before .before .before .before .loop in
-    let s = c .before .before .before .before .take-set in
+    let p = start .pre in
+    let l = looped .loop in
+    let s = taken .take-set in
     let rs = a .recs .now in
     let ps = a .places .now in
-    let fits : l .i < length ps = omega (arith, start .pre .0) in (
+    let fits : l .i < length ps = omega (arith, p .0) in (
       omega arith,
       s .kept .0 ∙ l .inv .1,
       s .kept .1 .0 ∙ l .inv .2,
       s .kept .1 .1 .0 ∙ l .inv .3,
       s .ensures .1,
       ⊎-elim
-          (λ v. rw (v .1, shifted-one (l .i) (omega (arith, start .pre .1)))
+          (λ v. rw (v .1, shifted-one (l .i) (omega (arith, p .1)))
           (marked-more rs ps (l .i) (s .result) (l .all) fits (l .inv .5) (s .ensures .0) (v .0 .taken)))
           (λ v. rw (v .1) (marked-same rs ps (l .i) (s .result) (l .all) fits (l .inv .5) (s .ensures .0) (v .0 .left)))
           (c .if1 .came),
     )
 
+same-length : tie.Need-same-length Inv-loop μ-loop
+same-length c = search needs
+
 returns : tie.Need-returns Inv-loop μ-loop
 returns c =
     let l = c .before .loop in
-    let a = c .before .before .before .before .args in
+    let a = c .before .before .before .before .before .args in
     let done : l .i ≡ a .t = omega arith in
     subst (λ (i : ℕ). DisputedBy (a .recs .now) (a .places .now) i (l .all)) done (l .inv .5 .marked)
 
@@ -105,10 +109,10 @@ disputed-in-spec =
     loop-holds
     slice-aggregate-take-set
     slice-aggregate-take-set-2
-    slice-aggregate-take-set-3
     take-set-requires
     shl-all
     add-i
     loop-less
     loop-again
+    same-length
     returns)

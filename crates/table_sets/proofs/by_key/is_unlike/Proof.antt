@@ -15,13 +15,13 @@ cast-site c = search needs
 cast-seq : tie.Need-cast-seq
 cast-seq c = search needs
 
-has-seen-requires : tie.Need-has-seen-requires
-has-seen-requires c κs = search needs
+own-entry-requires : tie.Need-own-entry-requires
+own-entry-requires c κs = search needs
 
 returns : tie.Need-returns
-returns c a b x y vector =
-    rw (c .has-seen .ensures, x .site, x .seq, x .value, y .value, vector)
+returns c a b x y f =
+    rw (c .own-entry .ensures, f .vector, x .site, x .seq, x .value, y .value)
 
 pub is-unlike-spec : {M : Type 1} → statement M
 is-unlike-spec =
-    tie.close (tie.spec mul-site div-site cast-site cast-seq has-seen-requires returns)
+    tie.close (tie.spec mul-site div-site cast-site cast-seq own-entry-requires returns)

@@ -15,25 +15,25 @@ use Rattle.table_sets.proofs.by_key.marks_along.Statement.{statement}
 use Rattle.table_sets.proofs.by_key.marks_along.Tie as tie
 
 abbrev Inv-loop : tie.InvT-loop
-Inv-loop recs places earlier tolds i from y v marks₀ c₀ marks c =
+Inv-loop recs places earlier tolds i from y rec marks₀ c₀ marks c =
     (c ≤ i)
     × (0 < c → chainOf (setAt recs places (c - 1)) ≡ chainOf (setAt recs places i))
     × (marks + mask c (λ j. doConflict (setAt recs places j) (setAt recs places i))
     ≡ mask i (λ j. doConflict (setAt recs places j) (setAt recs places i)))
 
 abbrev μ-loop : tie.MeasureT-loop
-μ-loop recs places earlier tolds i from y v marks₀ c₀ marks c = c
+μ-loop recs places earlier tolds i from y rec marks₀ c₀ marks c = c
 
 loop-holds : tie.Need-loop-holds Inv-loop μ-loop
 loop-holds c =
-    let start = c .before .before .before .before in
+    let start = c .before .before .before .before .before in
     let a = start .args in
     let p = start .pre in (
       p .4 .low,
       p .4 .here,
       omega (
         arith,
-        passed-by (a .recs .now) (a .places .now) (a .i) (p .0) (p .7) (a .i) (a .from) (omega arith) (p .4),
+        passed-by (a .recs .now) (a .places .now) (a .i) (p .0) (p .8) (a .i) (a .from) (omega arith) (p .4),
       ),
     )
 
@@ -54,7 +54,7 @@ shl-marks c = search needs
 
 add-marks : tie.Need-add-marks Inv-loop μ-loop
 add-marks c =
-    let start = c .before .before .before .before .before .before .before .before .before in
+    let start = c .before .before .before .before .before .before .before .before .before .before in
     let a = start .args in
     let p = start .pre in
     let rs = a .recs .now in
@@ -63,7 +63,7 @@ add-marks c =
     let told = p .3 .told (l .c - 1) (omega arith) in
     let asked = c .before .is-unlike .ensures (setAt rs ps (l .c - 1)) (setAt rs ps (a .i)) told (p .5) (p .6) in
     let fit : l .marks + 2 ^ (l .c - 1) < 2 ^ 64
-    = marks-fit rs ps (a .i) (p .0) (p .7) (l .c) (l .marks) (omega arith) (l .inv .0) (l .inv .1 (omega arith))
+    = marks-fit rs ps (a .i) (p .0) (p .8) (l .c) (l .marks) (omega arith) (l .inv .0) (l .inv .1 (omega arith))
     (l .inv .2) true (sym (c .if1 .taken) ∙ asked) in
     omega (arith, fit, shifted-one (l .c - 1) (omega arith))
 
@@ -72,17 +72,17 @@ shared-slice-read-c c = search needs
 
 cast-c : tie.Need-cast-c Inv-loop μ-loop
 cast-c c =
-    omega (arith, c .shared-slice-known6 .given (c .before .before .before .before .before .loop .c - 1))
+    omega (arith, c .shared-slice-known7 .given (c .before .before .before .before .before .loop .c - 1))
 
 loop-less : tie.Need-loop-less Inv-loop μ-loop
 loop-less c =
-    let start = c .before .before .before .before .before .before .before .before .before .before in
+    let start = c .before .before .before .before .before .before .before .before .before .before .before in
     let l = c .before .before .before .before .before .loop in
     omega (arith, start .pre .3 .before (l .c - 1) (omega arith) .low)
 
 loop-again : tie.Need-loop-again Inv-loop μ-loop
 loop-again c =
-    let start = c .before .before .before .before .before .before .before .before .before .before in
+    let start = c .before .before .before .before .before .before .before .before .before .before .before in
     let a = start .args in
     let p = start .pre in
     let rs = a .recs .now in
@@ -95,7 +95,7 @@ loop-again c =
     let here = l .inv .1 (omega arith) in
     let asked = c .before .before .is-unlike .ensures (setAt rs ps j) (setAt rs ps (a .i)) told (p .5) (p .6) in
     let conflicts : ℕ → Bool = λ k. doConflict (setAt rs ps k) (setAt rs ps (a .i)) in
-    let back = one-back rs ps (a .i) (p .0) (p .7) (l .c) (l .marks) (omega arith) (l .inv .0) here (l .inv .2) in (
+    let back = one-back rs ps (a .i) (p .0) (p .8) (l .c) (l .marks) (omega arith) (l .inv .0) here (l .inv .2) in (
       omega (arith, last .low),
       λ z. last .here z ∙ here,
       ⊎-elim
@@ -110,7 +110,7 @@ loop-again c =
 
 returns : tie.Need-returns Inv-loop μ-loop
 returns c =
-    let a = c .before .before .before .before .before .before .args in
+    let a = c .before .before .before .before .before .before .before .args in
     let l = c .before .loop in
     none-left (λ j. doConflict (setAt (a .recs .now) (a .places .now) j) (setAt (a .recs .now) (a .places .now) (a .i)))
     (l .c) (a .i) (l .marks) (omega arith) (l .inv .2)

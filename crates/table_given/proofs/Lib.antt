@@ -1,0 +1,3 @@
+pub mod ReplayFaithful
+pub mod ReplayGoes
+pub mod OwnRecords

@@ -1,0 +1,2 @@
+pub mod IndexGoesAlong
+pub mod PlainGoes

@@ -1,0 +1,215 @@
+// The short way of a record that is not limited: what is asked of it is asked in one look, and what it changes is
+// written where it stands. A record that it does not take goes the long way, which says why.
+use edit_record::AT_KEY;
+use edit_record::AT_KIND;
+use edit_record::AT_SEQ;
+use edit_record::AT_SITE;
+use edit_record::CREATE;
+use edit_record::RECORD;
+use edit_record::SET;
+use edit_record::Seq;
+use edit_record::Site;
+use group_step::GROUPS;
+use table_drawing::ENTRY;
+use table_index::Looked;
+ghost use mathlib.Core.Path.{_≡_};
+ghost use mathlib.Core.Bool.{true, false, cond};
+ghost use Prim.Native.Nat.{ℕ, _+_, _-_, _*_, _^_, _≤_, _<_};
+ghost use lib.ListN.{length, getD, set, take, drop, replicate};
+ghost use Rattle.math_lists.specs.SortedLists.{elem, Ascending};
+ghost use Rattle.math_maximal.specs.Step.{step};
+ghost use Rattle.edit_record.specs.RecordBytes.{decodeOf};
+ghost use Rattle.edit_record.specs.Layout.{setKind};
+ghost use Rattle.edit_history.specs.EditsHeld.{mostRecords};
+ghost use Rattle.edit_history.specs.SurveyForms.{bump};
+ghost use Rattle.group_step.specs.GroupRows.{mostObjects, mostSets, mostGroups, row, putRow, settled};
+ghost use Rattle.group_step.specs.StepForms.{Apart};
+ghost use Rattle.table_drawing.specs.Tables.{tablesOf, objectsLength};
+ghost use Rattle.table_index.specs.IndexForms.{countersOf, linkedIn};
+ghost use Rattle.table_arrival.specs.Arrival.{putRecord, putCounts, putEntry};
+ghost use Rattle.table_plain.specs.TakingForms.{TakesPlain, LeavesPlain, spotOf, Enters};
+ghost use Rattle.table_plain.specs.TakingForms.{steppedBy, Steps, rowsBy};
+
+// Whether a record was taken, how many objects there are then, and the sum.
+pub struct Took {
+    pub ok: bool,
+    pub objects: u16,
+    pub sum: u32,
+}
+
+// Puts the record into place n, counts it, and puts its place into the index.
+fn enter(held: &mut [u16], records: &mut [u8], n: usize, places: &mut [u16], rec: [u8; RECORD])
+    requires { ⌜ Enters (now held) (now records) n (now places) rec ⌝ }
+    ensures { λ r. ⌜ (now (held .exit) ≡ bump (now (held .entry)) (decodeOf rec .site))
+        × (now (records .exit) ≡ putRecord (now (records .entry)) n rec)
+        × (now (places .exit) ≡ set (now (places .entry)) (spotOf (now (places .entry)) rec) n) ⌝ }
+{
+    let s = rec[AT_SITE];
+    let q = edit_record::pair_at(&rec, AT_SEQ);
+    let own = s as usize;
+    held[own] = held[own] + 1;
+    let at = edit_walk::slot_of(places, Site(s), Seq(q));
+    places[at] = n as u16;
+    table_arrival::put_plain(records, n, rec);
+}
+
+// Puts the entry of a new object m, whose Create has place n, and its number into the index.
+fn put_create(n: usize, m: u16, objects: &mut [u16], numbers: &mut [u8])
+    requires { ⌜ (n < mostRecords)
+        × (m < mostObjects)
+        × (length (now objects) ≡ objectsLength)
+        × (length (now numbers) ≡ mostRecords) ⌝ }
+    ensures { λ r. ⌜ (now (objects .exit) ≡ putEntry (now (objects .entry)) m n 0 1)
+        × (now (numbers .exit) ≡ set (now (numbers .entry)) n m) ⌝ }
+{
+    table_arrival::put_object(objects, m as usize, n as u16);
+    numbers[n] = m as u8;
+}
+
+// The step on the row of object o, in which no group is part of a larger one and 0 stands behind them.
+fn step_in(groups: &mut [u64], o: usize, n: usize, m: u64, k: usize) -> usize
+    requires { ⌜ (length (now groups) ≡ mostObjects * mostGroups)
+        × (o < mostObjects)
+        × (n ≤ mostGroups)
+        × (k < mostSets)
+        × Ascending (take n (row o (now groups)))
+        × ((x : ℕ) → elem x (take n (row o (now groups))) ≡ true → x < 2 ^ k)
+        × Apart (take n (row o (now groups)))
+        × (drop n (row o (now groups)) ≡ replicate (mostGroups - n) 0) ⌝ }
+    ensures { λ r. ⌜ (r ≡ length (step m k (take n (row o (now (groups .entry))))))
+        × (now (groups .exit)
+        ≡ putRow o (now (groups .entry))
+        (settled (step m k (take n (row o (now (groups .entry))))) (row o (now (groups .entry))))) ⌝ }
+{
+    if m == 0 {
+        group_step::gain_at(groups, o, n, k);
+        return n;
+    }
+    group_step::step_apart_at(groups, o, n, m, k)
+}
+
+// Puts a Set in place n of which a was found into its object's groups, entry and chain; says whether there is room for
+// the groups. Where there is none, nothing is changed.
+fn store_set(
+    n: usize,
+    objects: &mut [u16],
+    groups: &mut [u64],
+    numbers: &mut [u8],
+    counts: &mut [u16],
+    chains: &mut [u8],
+    key: u8,
+    a: Looked,
+) -> bool
+    requires { ⌜ (n < mostRecords)
+        × Steps (now objects) (now groups) (now numbers) (now counts) (now chains) key a ⌝ }
+    ensures { λ r. ⌜ (now (groups .exit) ≡ rowsBy (now (objects .entry)) (now (groups .entry)) a)
+        × (r ≡ true →
+        (length (steppedBy (now (objects .entry)) (now (groups .entry)) a) ≤ mostGroups)
+        × (now (objects .exit)
+        ≡ putCounts (now (objects .entry)) (a .object) (a .sets + 1)
+        (length (steppedBy (now (objects .entry)) (now (groups .entry)) a)))
+        × (now (numbers .exit) ≡ set (now (numbers .entry)) n (getD (now (counts .entry)) (a .object) 0))
+        × (now (counts .exit)
+        ≡ set (now (counts .entry)) (a .object) (getD (now (counts .entry)) (a .object) 0 + 1))
+        × (now (chains .exit) ≡ linkedIn (now (chains .entry)) n (a .object) setKind key))
+        × (r ≡ false →
+        (mostGroups < length (steppedBy (now (objects .entry)) (now (groups .entry)) a))
+        × (now (objects .exit) ≡ now (objects .entry))
+        × (now (numbers .exit) ≡ now (numbers .entry))
+        × (now (counts .exit) ≡ now (counts .entry))
+        × (now (chains .exit) ≡ now (chains .entry))) ⌝ }
+{
+    let o = a.object;
+    let k = a.sets;
+    let g = objects[o * ENTRY + 2];
+    let w = step_in(groups, o, g as usize, a.conflicts, k);
+    if GROUPS < w {
+        return false;
+    }
+    table_arrival::put_counts(objects, o, k as u16 + 1, w as u16);
+    table_index::add_set(n, o, SET, key, numbers, counts, chains);
+    true
+}
+
+// Takes a record, unless it is limited, it or another Set of its object, or is refused: then nothing is changed. There
+// are n records, m objects and so many edits of each site, and this sum; the index has room for the record.
+pub fn take_plain(
+    sites: u8,
+    n: usize,
+    m: u16,
+    sum: u32,
+    held: &mut [u16],
+    records: &mut [u8],
+    objects: &mut [u16],
+    groups: &mut [u64],
+    places: &mut [u16],
+    numbers: &mut [u8],
+    counts: &mut [u16],
+    chains: &mut [u8],
+    rec: [u8; RECORD],
+) -> Took
+    requires { ⌜ TakesPlain
+        (tablesOf (countersOf sites n m (now held) sum) (now records) (now objects) (now groups))
+        (now places) (now numbers) (now counts) (now chains) rec ⌝ }
+    ensures { λ r. ⌜ LeavesPlain
+        (tablesOf (countersOf sites n m (now (held .entry)) sum) (now (records .entry)) (now (objects .entry))
+        (now (groups .entry)))
+        rec (r .ok)
+        (tablesOf (countersOf sites (n + cond (r .ok) 1 0) (r .objects) (now (held .exit)) (r .sum))
+        (now (records .exit)) (now (objects .exit)) (now (groups .exit)))
+        (now (places .entry)) (now (numbers .entry)) (now (counts .entry)) (now (chains .entry))
+        (now (places .exit)) (now (numbers .exit)) (now (counts .exit)) (now (chains .exit)) ⌝ }
+{
+    let a = table_index::plain::look(
+        sites,
+        held,
+        records,
+        n,
+        m,
+        places,
+        numbers,
+        counts,
+        chains,
+        &rec,
+    );
+    if !a.ok {
+        return Took {
+            ok: false,
+            objects: m,
+            sum,
+        };
+    }
+    let kind = rec[AT_KIND];
+    let after = edit_sum::added(sum, edit_sum::sum_record(&rec));
+    if kind == SET {
+        let key = rec[AT_KEY];
+        if !store_set(n, objects, groups, numbers, counts, chains, key, a) {
+            return Took {
+                ok: false,
+                objects: m,
+                sum,
+            };
+        }
+        enter(held, records, n, places, rec);
+        return Took {
+            ok: true,
+            objects: m,
+            sum: after,
+        };
+    }
+    if kind == CREATE {
+        put_create(n, m, objects, numbers);
+        enter(held, records, n, places, rec);
+        return Took {
+            ok: true,
+            objects: m + 1,
+            sum: after,
+        };
+    }
+    enter(held, records, n, places, rec);
+    Took {
+        ok: true,
+        objects: m,
+        sum: after,
+    }
+}
