@@ -8,15 +8,8 @@ ghost use Prim.Native.Nat.{ℕ, _+_, _^_, _≤_, _<_};
 ghost use lib.ListN.{length};
 ghost use Rattle.math_maximal.specs.Groups.{bit};
 ghost use Rattle.group_step.specs.GroupRows.{mostGroups, mostSets, settled};
-ghost use Rattle.group_engine.specs.SearchForms.{
-  Conflicts,
-  byMasks,
-  Partial,
-  Waiting,
-  Stuck,
-  FoundSoFar,
-  countTold,
-};
+ghost use Rattle.group_engine.specs.SearchForms.{Conflicts, byMasks, Partial, Waiting, Stuck, FoundSoFar};
+ghost use Rattle.group_engine.specs.SearchForms.{countTold};
 
 // The last member of m.
 fn highest(m: u64) -> usize
