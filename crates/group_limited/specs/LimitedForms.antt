@@ -133,10 +133,11 @@ pub record JudgedOf (ms : List Edit) (e : Edit) (j : Judged) : Type 0 where
       Proper ms → Lawful (boxOn (ms ++ (e ∷ []))) (suc (length ms)) → j .nameless ≡ false →
       j .conflicts ≡ conflictsWith e ms
 
--- the same, but that the conflicts are asked for only where `found` holds
+-- the same, but that the conflicts are asked for only where `found` holds, and 16 of a limited Set too
 pub record JudgedWhere (found : Bool) (ms : List Edit) (e : Edit) (j : Judged) : Type 0 where
   pub nameless :
-      Proper ms → Lawful (boxOn (ms ++ (e ∷ []))) (suc (length ms)) → j .nameless ≡ namelessAmong ms e
+      (isLimited e ≡ true → found ≡ true) → Proper ms → Lawful (boxOn (ms ++ (e ∷ []))) (suc (length ms)) →
+      j .nameless ≡ namelessAmong ms e
   pub conflicts :
       found ≡ true → Proper ms → Lawful (boxOn (ms ++ (e ∷ []))) (suc (length ms)) → j .nameless ≡ false →
       j .conflicts ≡ conflictsWith e ms

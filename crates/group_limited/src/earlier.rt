@@ -24,6 +24,7 @@ ghost use Prim.Native.Nat.{ℕ, _^_, _≤_, _<_};
 ghost use lib.ListN.{length, take, getD};
 ghost use Rattle.math_lists.specs.NumbersBelow.{mask};
 ghost use Rattle.math_lists.specs.SortedLists.{any, elem};
+ghost use Rattle.edit_record.specs.declared.Edit.{Edit};
 ghost use Rattle.edit_record.specs.Layout.{mostMembers};
 ghost use Rattle.edit_record.specs.RecordBytes.{decodeOf};
 ghost use Rattle.edit_record.specs.Answer1.{isLimited};
@@ -38,6 +39,7 @@ ghost use Rattle.group_limited.specs.LimitedForms.{
   namedMarks,
   marksOn,
   NameOf,
+  NamesOf,
   NamesIn,
   SightedTo,
   sumOfName,
@@ -46,7 +48,7 @@ ghost use Rattle.group_limited.specs.LimitedForms.{
 };
 
 // The vector of the edit of rec.
-fn vector_in(rec: &[u8]) -> [u16; SITES]
+pub fn vector_in(rec: &[u8]) -> [u16; SITES]
     ensures { λ r. ⌜ r ≡ decodeOf (now (rec .entry)) .vector ⌝ }
 {
     if RECORD <= rec.len() {
@@ -57,7 +59,7 @@ fn vector_in(rec: &[u8]) -> [u16; SITES]
 }
 
 // The name of the edit of rec.
-fn name_of(rec: &[u8]) -> u32
+pub fn name_of(rec: &[u8]) -> u32
     ensures { λ r. ⌜ NameOf r (decodeOf (now (rec .entry))) ⌝ }
 {
     let site = edit_record::byte_at(rec, AT_SITE);
@@ -217,26 +219,16 @@ fn listed_among(names: &[u32], k: usize, seen: u64, rec: &[u8]) -> Listed
     Listed { named, strange }
 }
 
-// Which of the Sets in the k first places that of rec lists, where these are their names and its author had seen the
-// members of `seen`. A Set that is not limited lists none.
-pub fn list_of(
-    recs: &[u8],
-    places: &[u16],
-    names: &[u32],
-    k: usize,
-    seen: u64,
-    rec: &[u8],
-) -> Listed
-    requires { ⌜ (k ≤ mostSets)
-        × (k ≤ length (now places))
-        × (k ≤ length (now names))
-        × NamesIn (now recs) (now places) k (now names) ⌝ }
+// Which of the k Sets with these names that of rec lists, where its author had seen the members of `seen`. A Set that is
+// not limited lists none.
+pub fn list_of(names: &[u32], k: usize, seen: u64, rec: &[u8]) -> Listed
+    requires { ⌜ (k ≤ mostSets) × (k ≤ length (now names)) ⌝ }
     ensures { λ r.
-        ⌜ (seen ≡ seenMarks (decodeOf (now (rec .entry))) (setsIn (now (recs .entry)) (now (places .entry)) k) →
-        (r .named ≡ namedMarks (decodeOf (now (rec .entry))) (setsIn (now (recs .entry)) (now (places .entry)) k))
+        ⌜ ((ms : List Edit) → length ms ≡ k → NamesOf (now (names .entry)) ms →
+        seen ≡ seenMarks (decodeOf (now (rec .entry))) ms →
+        (r .named ≡ namedMarks (decodeOf (now (rec .entry))) ms)
         × (isLimited (decodeOf (now (rec .entry))) ≡ true → r .strange
-        ≡ any (isStrange (setsIn (now (recs .entry)) (now (places .entry)) k) (decodeOf (now (rec .entry))))
-        (listedBy (decodeOf (now (rec .entry)))))) ⌝ }
+        ≡ any (isStrange ms (decodeOf (now (rec .entry)))) (listedBy (decodeOf (now (rec .entry)))))) ⌝ }
 {
     if edit_record::byte_at(rec, AT_KIND) != LIMITED {
         return Listed {

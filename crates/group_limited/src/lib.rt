@@ -3,7 +3,7 @@
 // are taken one after another, each by the rows that tell of those before it: bit j of `plain[i]` says that Sets i and
 // j conflict by document 01's rule, and `ctx[i]` is the context of Set i.
 pub mod earlier;
-mod seen;
+pub mod seen;
 
 use earlier::list_of;
 use earlier::marks_of;
@@ -110,7 +110,7 @@ fn sight_of(recs: &[u8], places: &[u16], names: &[u32], sees: &[u64], k: usize, 
         (SightOf (setsIn (now (recs .entry)) (now (places .entry)) k) (decodeOf (now (rec .entry))) r) ⌝ }
 {
     let m = marks_of(recs, places, names, sees, k, rec);
-    let l = list_of(recs, places, names, k, m.seen, rec);
+    let l = list_of(names, k, m.seen, rec);
     Sight {
         plain: m.plain,
         seen: m.seen,
@@ -121,7 +121,7 @@ fn sight_of(recs: &[u8], places: &[u16], names: &[u32], sees: &[u64], k: usize, 
 }
 
 // The same for the Set in place p.
-fn sight_at(recs: &[u8], places: &[u16], names: &[u32], sees: &[u64], k: usize, p: u16) -> Sight
+pub fn sight_at(recs: &[u8], places: &[u16], names: &[u32], sees: &[u64], k: usize, p: u16) -> Sight
     requires { ⌜ (k ≤ mostSets)
         × (k ≤ length (now places))
         × (k ≤ length (now names))
@@ -141,7 +141,7 @@ fn sight_at(recs: &[u8], places: &[u16], names: &[u32], sees: &[u64], k: usize, 
 
 // What is left of what the author of a Set had seen, by its sight of those before it, whose rows these are: its
 // context, if it names a version.
-fn left_by(plain: &[u64], ctx: &[u64], s: Sight) -> u64
+pub fn left_by(plain: &[u64], ctx: &[u64], s: Sight) -> u64
     ensures { λ r.
         ⌜ ((ms : List Edit) (e : Edit) → length ms ≤ mostSets → RowsTell ms (now (plain .entry)) (now (ctx .entry)) →
         SightOf ms e s → r ≡ whatIsLeft (boxOn (ms ++ (e ∷ []))) (length ms)) ⌝ }
@@ -162,7 +162,7 @@ fn is_nameless(plain: &[u64], s: Sight, own: u64) -> bool
 }
 
 // What is told of a Set after the n first, whose rows these are, by its sight of them.
-fn told_by(plain: &[u64], ctx: &[u64], n: usize, s: Sight) -> Told
+pub fn told_by(plain: &[u64], ctx: &[u64], n: usize, s: Sight) -> Told
     requires { ⌜ (n ≤ mostSets) × (n ≤ length (now plain)) × (n ≤ length (now ctx)) ⌝ }
     ensures { λ r. ⌜ (r .row ≡ s .plain)
         × ((ms : List Edit) (e : Edit) → length ms ≡ n → RowsTell ms (now (plain .entry)) (now (ctx .entry)) →

@@ -289,7 +289,7 @@ fn take_layer(c: Counters, records: &mut [u8], rec: &[u8], s: Site) -> Counters
 
 // What is judged of an arriving record with its survey v, where the first n records are held. Where no Set of its
 // object is limited, and it is not, document 01's conflicts are all that there are; else the places of those Sets are
-// looked for.
+// looked for. One whose object is not held is not judged.
 pub fn judge(recs: &[u8], n: usize, rec: &[u8], v: Surveyed) -> Judged
     requires { ⌜ (n ≤ mostRecords)
         × (length (setsOn (decodeOf (now rec) .tsite) (decodeOf (now rec) .tseq) (editsOf (now recs) n)) ≤ mostSets)
@@ -299,7 +299,8 @@ pub fn judge(recs: &[u8], n: usize, rec: &[u8], v: Surveyed) -> Judged
         (editsOf (now (recs .entry)) n))
         (decodeOf (now (rec .entry))) r ⌝ }
 {
-    if !((edit_record::byte_at(rec, AT_KIND) == LIMITED) | v.limited) {
+    let limited = edit_record::byte_at(rec, AT_KIND) == LIMITED;
+    if !(v.found & (limited | v.limited)) {
         return Judged {
             nameless: false,
             conflicts: v.plain,

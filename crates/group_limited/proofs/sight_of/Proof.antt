@@ -2,8 +2,11 @@
 use mathlib.Core.Path.{ap}
 use Prim.Native.Nat.{ℕ}
 use lib.Dec.{eqb}
+use denote.Ref.{now}
 use Rattle.edit_record.specs.Layout.{limitedKind}
+use Rattle.edit_history.proofs.EditsInPlaces.{sets-length}
 use Rattle.group_limited.specs.declared.Marks.{Marks}
+use Rattle.group_limited.proofs.NamesOfSets.{names-there}
 use borrow.Author.Needs.{needs}
 use Rattle.group_limited.proofs.sight_of.Statement.{statement}
 use Rattle.group_limited.proofs.sight_of.Tie as tie
@@ -19,11 +22,17 @@ byte-at-requires c κs = search needs
 
 returns : tie.Need-returns
 returns c =
+    let s = c .before .before .before .before .before .before .before .before in
+    let a = s .args in
+    let rs = now (a .recs) in
+    let ps = now (a .places) in
+    let size = sets-length rs ps (a .k) (s .pre .1) in
     let marks = c .before .before .marks-of .ensures in (
       marks .0,
       λ tell law.
           let m = marks .1 tell law in
-          let l = c .before .list-of .ensures (ap (λ (x : Marks). x .seen) m) in
+          let l = c .before .list-of .ensures _ size (names-there rs ps (a .k) (s .pre .1) (now (a .names)) (s .pre .4))
+          (ap (λ (x : Marks). x .seen) m) in
           record {
             plain = ap (λ (x : Marks). x .plain) m;
             seen = ap (λ (x : Marks). x .seen) m;

@@ -19,10 +19,10 @@ byte-at-requires c κs = search needs
 
 returns : tie.Need-returns
 returns c =
-    let s = c .before .before .before .before .before in
+    let s = c .before .before .before .before .before .before in
     let a = s .args in
     judged-plainly (editsOf (now (a .recs)) (a .n)) (decodeOf (now (a .rec))) (a .v) (s .pre .2)
-    (rw (c .before .before .byte-at .ensures) at (c .if1 .taken))
+    (rw (c .before .before .before .byte-at .ensures) at (c .if1 .taken))
 
 decode-requires : tie.Need-decode-requires
 decode-requires c κs = search needs
@@ -32,7 +32,7 @@ slice-aggregate-put-places c = search needs
 
 put-places-requires : tie.Need-put-places-requires
 put-places-requires c κs =
-    let s = c .before .before .before .before .before .before .before in
+    let s = c .before .before .before .before .before .before .before .before in
     (s .pre .0, rw (c .before .decode .ensures) (s .pre .1))
 
 slice-aggregate-judge : tie.Need-slice-aggregate-judge
@@ -41,14 +41,14 @@ slice-aggregate-judge c = search needs
 judge-requires : tie.Need-judge-requires
 judge-requires c κs =
     let p = c .before .before .put-places in
-    let s = c .before .before .before .before .before .before .before .before .before .before in
+    let s = c .before .before .before .before .before .before .before .before .before .before .before in
     let few : p .result ≤ mostSets
     = rw (p .ensures .1, c .before .before .before .before .decode .ensures) (s .pre .1) in
     (few, search (needs, few))
 
 returns-2 : tie.Need-returns-2
 returns-2 c =
-    let s = c .before .before .before .before .before .before .before .before .before .before .before in
+    let s = c .before .before .before .before .before .before .before .before .before .before .before .before in
     let a = s .args in
     let es = editsOf (now (a .recs)) (a .n) in
     let e = c .before .before .before .before .before .decode in
@@ -59,7 +59,7 @@ returns-2 c =
     (c .judge .ensures) in
     let judged = subst (λ (x : Edit). JudgedOf (setsOn (x .tsite) (x .tseq) es) own (c .judge .result)) (e .ensures)
     of in
-    record { nameless = judged .nameless; conflicts = λ found. judged .conflicts }
+    record { nameless = λ asked. judged .nameless; conflicts = λ found. judged .conflicts }
 
 pub judge-spec : {M : Type 1} → statement M
 judge-spec =

@@ -9,12 +9,13 @@ use lib.ListN.{length, take, drop, replicate}
 use denote.Ref.{now}
 use Rattle.table_arrival.proofs.Faithful.{faithful-apart}
 use borrow.Author.Needs.{needs}
+use Rattle.edit_record.specs.declared.Edit.{Edit}
 use Rattle.edit_record.specs.Layout.{mostSites}
 use Rattle.edit_record.specs.RecordBytes.{decodeOf}
 use Rattle.edit_record.specs.Answer1.{isLimited}
 use Rattle.edit_form.specs.OldForm.{longFrom, startOf, storedIn}
 use Rattle.edit_form.proofs.Stretches.{lent-is, next-start, start-inside, next-inside, lent-there}
-use Rattle.edit_history.specs.EditsHeld.{mostRecords, countFrom}
+use Rattle.edit_history.specs.EditsHeld.{mostRecords, editsOf, countFrom}
 use Rattle.table_drawing.specs.Tables.{Tables, tablesOf, heldBy}
 use Rattle.table_drawing.specs.AnswerNumbers.{outcomeOf, numberOf}
 use Rattle.edit_walk.specs.WalkForms.{Spaced}
@@ -22,12 +23,14 @@ use Rattle.edit_walk.proofs.RoomInIndex.{spaced-same}
 use Rattle.table_index.specs.IndexForms.{IndexOf, countersOf}
 use Rattle.table_arrival.specs.Arrival.{acceptanceOf}
 use Rattle.table_given.specs.Replay.{editsIn}
+use Rattle.table_kept.specs.BoxForms.{KeptFor}
 use Rattle.table_plain.specs.TakingForms.{Takes, Leaves}
+use Rattle.table_given.proofs.OwnRecords.{holds, held-edits}
 use Rattle.table_given.proofs.ReplayGoes.{Going, RightlyLong, going-start, going-faithful, going-sound}
 use Rattle.table_given.proofs.ReplayGoes.{going-ends, going-long, next-long}
 use Rattle.table_replay.proofs.RoomForAll.{next-room}
-use Rattle.table_replay.proofs.ShortOrLong.{short-took, long-takes, long-leaves}
-use Rattle.table_replay.proofs.ShortOrLong.{going-next, parts-after}
+use Rattle.table_replay.proofs.ShortOrLong.{short-took, short-kept, long-takes, long-leaves}
+use Rattle.table_replay.proofs.ShortOrLong.{going-next, parts-after, kept-next, kept-after}
 use Rattle.table_replay.proofs.take_records.Statement.{statement}
 use Rattle.table_replay.proofs.take_records.Tie as tie
 
@@ -36,37 +39,43 @@ abbrev counted-in : ℕ → List ℕ → ℕ → ℕ → ℕ
 counted-in form recs n s = countFrom s (editsIn (storedIn form recs) n)
 
 abbrev Inv-loop : tie.InvT-loop
-Inv-loop sites records₀ objects₀ groups₀ places₀ numbers₀ counts₀ chains₀ recs form n held₀ m₀ sum₀ at₀ i₀ records
-    objects groups places numbers counts chains held m sum at i =
+Inv-loop sites records₀ objects₀ groups₀ places₀ numbers₀ counts₀ chains₀ rows₀ names₀ recs form n held₀ m₀ sum₀ at₀ i₀ records
+    objects groups places numbers counts chains rows names held m sum at i =
     (i ≤ n)
     × (at ≡ startOf form recs i)
     × Going sites (storedIn form recs) i (tablesOf (countersOf sites i m held sum) records objects groups)
     × IndexOf records i places numbers counts chains
     × Spaced (counted-in form recs n) places
+    × KeptFor (editsIn (storedIn form recs) i) names rows
 
 abbrev μ-loop : tie.MeasureT-loop
-μ-loop sites records₀ objects₀ groups₀ places₀ numbers₀ counts₀ chains₀ recs form n held₀ m₀ sum₀ at₀ i₀ records
-    objects groups places numbers counts chains held m sum at i =
+μ-loop sites records₀ objects₀ groups₀ places₀ numbers₀ counts₀ chains₀ rows₀ names₀ recs form n held₀ m₀ sum₀ at₀ i₀ records
+    objects groups places numbers counts chains rows names held m sum at i =
     n - i
 
 -- ---- where things stand
 
 abbrev start-of : tie.At-loop Inv-loop μ-loop → tie.Start Inv-loop μ-loop
-start-of b = b .before .before .before .before .before .before .before .before .before
+start-of b = b .before .before .before .before .before .before .before .before .before .before .before
 
 abbrev round-of : tie.After-take-plain Inv-loop μ-loop → tie.In-loop Inv-loop μ-loop
 round-of p = p .before .before .before .before .before .before .before .before .before .before .before .before
 
 abbrev short-of : tie.After-take-one Inv-loop μ-loop → tie.After-take-plain Inv-loop μ-loop
 short-of m =
-    let m8 = m .before .before .before .before .before .before .before .before in
-    m8 .before .before .before .before .before .before .before .before .before .before .before .before
+    let m10 = m .before .before .before .before .before .before .before .before .before .before in
+    m10 .before .before .before .before .before .before .before .before .before .before .before .before
     .before .before .before .before
 
 abbrev call-of : tie.After-number Inv-loop μ-loop → tie.After-take-one Inv-loop μ-loop
 call-of d =
-    let d8 = d .before .before .before .before .before .before .before .before in
-    d8 .before .before .before .before .before .before .before .before
+    let d10 = d .before .before .before .before .before .before .before .before .before .before in
+    d10 .before .before .before .before .before .before .before .before .before .before
+
+-- it was left to the long way
+abbrev left-of :
+    (m : tie.After-take-one Inv-loop μ-loop) → short-of m .take-plain .result .ok ≡ false
+left-of m = m .before .before .before .before .before .before .before .before .before .before .if1 .left
 
 -- the stretch, its form and its records, and the tables at the start and where the loop stands
 abbrev recs-of : tie.At-loop Inv-loop μ-loop → List ℕ
@@ -187,8 +196,21 @@ as-before :
     × (k .last .1 .1 .1 .1 .1 .1 .1 .1 .1 .0 ≡ l .numbers)
     × (k .last .1 .1 .1 .1 .1 .1 .1 .1 .1 .1 .0 ≡ l .counts)
     × (k .last .1 .1 .1 .1 .1 .1 .1 .1 .1 .1 .1 .0 ≡ l .chains))
-as-before m = short-of m .take-plain .ensures .index (m .before .before .before .before .before .before
-    .before .before .if1 .left)
+as-before m = short-of m .take-plain .ensures .index (left-of m)
+
+-- and the same edits are held
+held-at :
+    (p : tie.After-take-plain Inv-loop μ-loop) → p .take-plain .result .ok ≡ false →
+    (let b = round-of p .before in
+    editsOf (p .take-plain .last .1 .1 .1 .1 .1 .0) (b .loop .i) ≡ editsIn (given-of b) (b .loop .i))
+held-at p left =
+    let b = round-of p .before in
+    let s = start-of b in
+    let l = b .loop in
+    ap heldBy (short-kept (s .args .sites) (l .i) (tables-of b) _ _ _ _ _ _ _ _ _ _ _ _ _ _ _ _ (p .take-plain .ensures)
+    left)
+    ∙ held-edits (s .args .sites) (given-of b) (l .i) (tables-of b)
+    (holds (s .args .sites) (given-of b) (s .pre .3) (l .i) (tables-of b) (l .inv .2))
 
 -- what the long way leaves
 long-left :
@@ -206,8 +228,7 @@ long-left m =
     let s = start-of b in
     let l = b .loop in
     long-leaves (s .args .sites) (l .i) (tables-of b) _ _ _ _ _ _ _ _ _ _ _ _ _ _ _ _ (p .take-plain .ensures)
-    (m .before .before .before .before .before .before .before
-    .before .if1 .left) (given-of b (l .i)) _ _ _ _ _ _ (rw (taken-is b) at (m .take-one .ensures))
+    (left-of m) (given-of b (l .i)) _ _ _ _ _ _ (rw (taken-is b) at (m .take-one .ensures .0))
 
 long-outcome :
     (m : tie.After-take-one Inv-loop μ-loop) →
@@ -221,10 +242,10 @@ long-outcome m = long-left m .outcome
 -- ---- the needs
 
 loop-holds : tie.Need-loop-holds Inv-loop μ-loop
-unfolding startOf
+unfolding startOf editsIn
 loop-holds c =
-    let s = c .before .before .before .before .before .before .before .before in
-    (omega arith, refl, started s, s .pre .1, s .pre .2)
+    let s = c .before .before .before .before .before .before .before .before .before .before in
+    (omega arith, refl, started s, s .pre .1, s .pre .2, s .pre .6)
 
 sub-rest : tie.Need-sub-rest Inv-loop μ-loop
 sub-rest c = inside c
@@ -313,10 +334,11 @@ loop-again c =
       lv .index refl,
       spaced-same (counted-in (form-of b) (recs-of b) (s .args .n)) _ _ (lv .starts refl) (lv .index refl .places-long)
           (l .inv .4),
+      kept-next (given-of b) (l .i) (l .names) (l .rows) (l .inv .5),
     )
 
-cast-t46 : tie.Need-cast-t46 Inv-loop μ-loop
-cast-t46 c =
+cast-t48 : tie.Need-cast-t48 Inv-loop μ-loop
+cast-t48 c =
     let r = round-of (c .before .before .before .before .before .before .before .before .before .before
     .before .before .before .before .before .before) in
     let few : r .before .loop .i < mostRecords = omega (arith, r .loop-test .taken, start-of (r .before) .pre .4) in
@@ -324,16 +346,18 @@ cast-t46 c =
 
 take-one-requires : tie.Need-take-one-requires Inv-loop μ-loop
 take-one-requires c κs =
-    let p = c .before .before .before .before .before .before .before .before .before .before .before
-    .before .before .before .before .before .before .before .before .before .before .before .before in
+    let c9 = c .before .before .before .before .before .before .before .before .before in
+    let p = c9 .before .before .before .before .before .before .before .before .before .before .before .before
+    .before .before .before .before in
     let r = round-of p in
     let b = r .before in
     let s = start-of b in
     let l = b .loop in (
       rw (taken-is b)
           (long-takes (s .args .sites) (l .i) (tables-of b) _ _ _ _ _ _ _ _ _ _ _ _ _ _ _ _ (p .take-plain .ensures)
-          (c .before .before .before .before .before .before .before .if1 .left) (given-of b (l .i)) (takes r)),
+          (c9 .if1 .left) (given-of b (l .i)) (takes r)),
       lent-there (form-of b) (recs-of b) (l .i) (l .at) (l .inv .1) (s .args .n) (r .loop-test .taken) (s .pre .5),
+      subst (λ (es : List Edit). KeptFor es (l .names) (l .rows)) (sym (held-at p (c9 .if1 .left))) (l .inv .5),
     )
 
 number-requires : tie.Need-number-requires Inv-loop μ-loop
@@ -390,6 +414,22 @@ same-length-7 c =
     ∙ b .loop .inv .3 .chained .chains-long
     ∙ sym (start-of b .pre .1 .chained .chains-long)
 
+same-length-8 : tie.Need-same-length-8 Inv-loop μ-loop
+same-length-8 c =
+    let m = call-of (c .before) in
+    let b = round-of (short-of m) .before in
+    m .take-one .kept .1 .1 .1 .1 .1 .1 .1 .1 .0
+    ∙ b .loop .inv .5 .rows-long
+    ∙ sym (start-of b .pre .6 .rows-long)
+
+same-length-9 : tie.Need-same-length-9 Inv-loop μ-loop
+same-length-9 c =
+    let m = call-of (c .before) in
+    let b = round-of (short-of m) .before in
+    m .take-one .kept .1 .1 .1 .1 .1 .1 .1 .1 .1 .0
+    ∙ b .loop .inv .5 .names-long
+    ∙ sym (start-of b .pre .6 .names-long)
+
 returns : tie.Need-returns Inv-loop μ-loop
 returns c =
     let m = call-of (c .before) in
@@ -439,32 +479,39 @@ loop-again-2 c =
           (lv .index z),
       spaced-same (counted-in (form-of b) (recs-of b) (s .args .n)) _ _ (lv .starts z) (lv .index z .places-long)
           (l .inv .4),
+      kept-after (given-of b) (l .i) _ _ _ _ (held-at p (left-of m)) (ap decodeOf (taken-is b)) (k .ensures .1),
     )
 
-cast-t63 : tie.Need-cast-t63 Inv-loop μ-loop
-cast-t63 c = search needs
-
-same-length-8 : tie.Need-same-length-8 Inv-loop μ-loop
-same-length-8 c = loop-long (c .before) .0
-
-same-length-9 : tie.Need-same-length-9 Inv-loop μ-loop
-same-length-9 c = loop-long (c .before) .1
+cast-t69 : tie.Need-cast-t69 Inv-loop μ-loop
+cast-t69 c = search needs
 
 same-length-10 : tie.Need-same-length-10 Inv-loop μ-loop
-same-length-10 c = loop-long (c .before) .2
+same-length-10 c = loop-long (c .before) .0
 
 same-length-11 : tie.Need-same-length-11 Inv-loop μ-loop
-same-length-11 c = c .before .loop .inv .3 .places-long ∙ sym (start-of (c .before) .pre .1 .places-long)
+same-length-11 c = loop-long (c .before) .1
 
 same-length-12 : tie.Need-same-length-12 Inv-loop μ-loop
-same-length-12 c = c .before .loop .inv .3 .numbers-long ∙ sym (start-of (c .before) .pre .1 .numbers-long)
+same-length-12 c = loop-long (c .before) .2
 
 same-length-13 : tie.Need-same-length-13 Inv-loop μ-loop
-same-length-13 c = c .before .loop .inv .3 .counts-long ∙ sym (start-of (c .before) .pre .1 .counts-long)
+same-length-13 c = c .before .loop .inv .3 .places-long ∙ sym (start-of (c .before) .pre .1 .places-long)
 
 same-length-14 : tie.Need-same-length-14 Inv-loop μ-loop
-same-length-14 c =
+same-length-14 c = c .before .loop .inv .3 .numbers-long ∙ sym (start-of (c .before) .pre .1 .numbers-long)
+
+same-length-15 : tie.Need-same-length-15 Inv-loop μ-loop
+same-length-15 c = c .before .loop .inv .3 .counts-long ∙ sym (start-of (c .before) .pre .1 .counts-long)
+
+same-length-16 : tie.Need-same-length-16 Inv-loop μ-loop
+same-length-16 c =
     c .before .loop .inv .3 .chained .chains-long ∙ sym (start-of (c .before) .pre .1 .chained .chains-long)
+
+same-length-17 : tie.Need-same-length-17 Inv-loop μ-loop
+same-length-17 c = c .before .loop .inv .5 .rows-long ∙ sym (start-of (c .before) .pre .6 .rows-long)
+
+same-length-18 : tie.Need-same-length-18 Inv-loop μ-loop
+same-length-18 c = c .before .loop .inv .5 .names-long ∙ sym (start-of (c .before) .pre .6 .names-long)
 
 returns-2 : tie.Need-returns-2 Inv-loop μ-loop
 returns-2 c =
@@ -490,7 +537,7 @@ take-records-spec =
     add-i
     loop-less
     loop-again
-    cast-t46
+    cast-t48
     take-one-requires
     number-requires
     same-length
@@ -500,16 +547,20 @@ take-records-spec =
     same-length-5
     same-length-6
     same-length-7
+    same-length-8
+    same-length-9
     returns
     add-i-2
     loop-less-2
     loop-again-2
-    cast-t63
-    same-length-8
-    same-length-9
+    cast-t69
     same-length-10
     same-length-11
     same-length-12
     same-length-13
     same-length-14
+    same-length-15
+    same-length-16
+    same-length-17
+    same-length-18
     returns-2)
