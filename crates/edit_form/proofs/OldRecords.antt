@@ -10,7 +10,7 @@ use native.Mathlib.Omega.{arith}
 use lib.Dec.{eqb, leb, lit<}
 use borrow.Author.Tests.{eqb-true}
 use lib.ListN.{length, getD, take, drop, replicate, length-append, length-drop, List·getD-append}
-use lib.Seq.{length-take-le, take-all, take-take, drop-at, drop-append-le, drop-drop, getD-take, getD-drop}
+use lib.Seq.{length-take-le, take-all, take-take, drop-at, drop-append-le, drop-drop, getD-drop}
 use lib.Seq.{getD-append-add}
 use Rattle.math_lists.specs.NumbersBelow.{some}
 use Rattle.math_lists.proofs.NumbersBelow.{some-same}
@@ -120,12 +120,11 @@ front-long form rest long =
 -- unless it is limited, they are all of it
 pub front-plain :
     (form : ℕ) (rest : List ℕ) → lengthFrom form rest ≤ length rest →
-    eqb (getD (take recordLength (longFrom form rest)) kindAt 0) limitedKind ≡ false →
+    eqb (getD (longFrom form rest) kindAt 0) limitedKind ≡ false →
     take recordLength (longFrom form rest) ≡ longFrom form rest
 front-plain form rest l plain =
     let b = longFrom form rest in
-    let is : spanOf b ≡ recordLength = span-plain b (rw (getD-take recordLength b kindAt 0 (lit< tt)) at plain) in
-    take-all recordLength b (omega (arith, long-from-whole form rest l, is))
+    take-all recordLength b (omega (arith, long-from-whole form rest l, span-plain b plain))
 
 -- ---- counts
 

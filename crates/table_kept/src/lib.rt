@@ -63,14 +63,7 @@ fn put_anew(rows: &mut [u64], names: &mut [u32], recs: &[u8], n: usize, s: Site,
 }
 
 // Sees to it that the names and the rows tell of the k Sets, among the first n records, of the box that rec targets.
-fn make_ready(
-    rows: &mut [u64],
-    names: &mut [u32],
-    recs: &[u8],
-    n: usize,
-    rec: &[u8],
-    k: usize,
-)
+fn make_ready(rows: &mut [u64], names: &mut [u32], recs: &[u8], n: usize, rec: &[u8], k: usize)
     requires { ⌜ (n ≤ mostRecords)
         × (length (setsOn (decodeOf (now rec) .tsite) (decodeOf (now rec) .tseq) (editsOf (now recs) n)) ≤ mostSets)
         × (k ≡ length (setsOn (decodeOf (now rec) .tsite) (decodeOf (now rec) .tseq) (editsOf (now recs) n)))

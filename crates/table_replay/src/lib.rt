@@ -205,6 +205,8 @@ fn take_records(
         let rest = &recs[at..];
         at = at + edit_form::length_from(rest, form);
         let front = edit_form::front_from(rest, form);
+        let stored = front;
+        let stands = edit_form::long_in(rest, form, &front);
         let t = table_plain::take_plain(
             sites,
             i,
@@ -218,7 +220,8 @@ fn take_records(
             numbers,
             counts,
             chains,
-            front,
+            stored,
+            stands,
         );
         m = t.objects;
         sum = t.sum;

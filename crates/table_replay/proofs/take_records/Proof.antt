@@ -5,15 +5,18 @@ use mathlib.Core.List.{List, [], _∷_, _++_}
 use Prim.Native.Nat.{ℕ, _+_, _-_, _≤_, _<_}
 use native.Mathlib.Numerals.{add-one}
 use native.Mathlib.Omega.{arith}
+use lib.Dec.{lit<}
 use lib.ListN.{length, take, drop, replicate}
+use lib.Seq.{getD-take}
 use denote.Ref.{now}
 use Rattle.table_arrival.proofs.Faithful.{faithful-apart}
 use borrow.Author.Needs.{needs}
 use Rattle.edit_record.specs.declared.Edit.{Edit}
-use Rattle.edit_record.specs.Layout.{mostSites}
+use Rattle.edit_record.specs.Layout.{mostSites, kindAt, recordLength}
 use Rattle.edit_record.specs.RecordBytes.{decodeOf}
 use Rattle.edit_record.specs.Answer1.{isLimited}
-use Rattle.edit_form.specs.OldForm.{longFrom, startOf, storedIn}
+use Rattle.edit_form.specs.OldForm.{lengthFrom, longFrom, startOf, storedIn}
+use Rattle.edit_form.proofs.OldRecords.{front-plain}
 use Rattle.edit_form.proofs.Stretches.{lent-is, next-start, start-inside, next-inside, lent-there}
 use Rattle.edit_history.specs.EditsHeld.{mostRecords, editsOf, countFrom}
 use Rattle.table_drawing.specs.Tables.{Tables, tablesOf, heldBy}
@@ -24,7 +27,7 @@ use Rattle.table_index.specs.IndexForms.{IndexOf, countersOf}
 use Rattle.table_arrival.specs.Arrival.{acceptanceOf}
 use Rattle.table_given.specs.Replay.{editsIn}
 use Rattle.table_kept.specs.BoxForms.{KeptFor}
-use Rattle.table_plain.specs.TakingForms.{Takes, Leaves}
+use Rattle.table_plain.specs.TakingForms.{Takes, Leaves, StandsAs}
 use Rattle.table_given.proofs.OwnRecords.{holds, held-edits}
 use Rattle.table_given.proofs.ReplayGoes.{Going, RightlyLong, going-start, going-faithful, going-sound}
 use Rattle.table_given.proofs.ReplayGoes.{going-ends, going-long, next-long}
@@ -59,7 +62,7 @@ abbrev start-of : tie.At-loop Inv-loop μ-loop → tie.Start Inv-loop μ-loop
 start-of b = b .before .before .before .before .before .before .before .before .before .before .before
 
 abbrev round-of : tie.After-take-plain Inv-loop μ-loop → tie.In-loop Inv-loop μ-loop
-round-of p = p .before .before .before .before .before .before .before .before .before .before .before .before
+round-of p = p .before .before .before .before .before .before .before .before .before .before .before .before .before .before
 
 abbrev short-of : tie.After-take-one Inv-loop μ-loop → tie.After-take-plain Inv-loop μ-loop
 short-of m =
@@ -118,6 +121,22 @@ taken-is :
     longFrom (form-of b) (take (length (recs-of b) - b .loop .at) (drop (b .loop .at) (recs-of b)))
     ≡ given-of b (b .loop .i)
 taken-is b = lent-is (form-of b) (recs-of b) (b .loop .i) (b .loop .at) (b .loop .inv .1) _ refl
+
+-- what is left of the stretch from it on, in which it stands whole
+abbrev rest-of : tie.In-loop Inv-loop μ-loop → List ℕ
+rest-of r =
+    let b = r .before in
+    take (length (recs-of b) - b .loop .at) (drop (b .loop .at) (recs-of b))
+
+abbrev long-of : tie.In-loop Inv-loop μ-loop → List ℕ
+long-of r = longFrom (form-of (r .before)) (rest-of r)
+
+lent-long : (r : tie.In-loop Inv-loop μ-loop) → lengthFrom (form-of (r .before)) (rest-of r) ≤ length (rest-of r)
+lent-long r =
+    let b = r .before in
+    let l = b .loop in
+    let s = start-of b in
+    lent-there (form-of b) (recs-of b) (l .i) (l .at) (l .inv .1) (s .args .n) (r .loop-test .taken) (s .pre .5)
 
 -- ---- the lengths stay
 
@@ -184,7 +203,25 @@ front-is :
     (c : tie.After-front-from Inv-loop μ-loop) → isLimited (decodeOf (c .front-from .result)) ≡ false →
     (let b = c .before .before .before .before in
     c .front-from .result ≡ given-of b (b .loop .i))
-front-is c plain = c .front-from .ensures .1 plain ∙ taken-is (c .before .before .before .before)
+front-is c plain =
+    let r = c .before .before .before in
+    let is = c .front-from .ensures in
+    let own = rw (getD-take recordLength (long-of r) kindAt 0 (lit< tt)) at (rw is at plain) in
+    is ∙ front-plain (form-of (r .before)) (rest-of r) (lent-long r) own ∙ taken-is (r .before)
+
+-- and is told the same where it stands
+stands-as :
+    (c : tie.After-long-in Inv-loop μ-loop) →
+    StandsAs (now (c .long-in .result)) (c .before .before .front-from .result)
+stands-as c =
+    let f = c .before .before in
+    let r = f .before .before .before in
+    let told = c .long-in .ensures .1 in (
+      c .long-in .ensures .0,
+      λ plain. told
+          ∙ ap decodeOf (sym (f .front-from .ensures ∙ front-plain (form-of (r .before)) (rest-of r) (lent-long r)
+          (ap (λ (e : Edit). isLimited e) (sym told) ∙ plain))),
+    )
 
 -- where it goes the long way, the index is as it was
 as-before :
@@ -271,33 +308,38 @@ add-at c =
     omega (arith, next, s .good)
 
 front-from-requires : tie.Need-front-from-requires Inv-loop μ-loop
-front-from-requires c κs =
-    let r = c .before .before in
-    let b = r .before in
-    let l = b .loop in
-    let s = start-of b in
-    lent-there (form-of b) (recs-of b) (l .i) (l .at) (l .inv .1) (s .args .n) (r .loop-test .taken) (s .pre .5)
+front-from-requires c κs = lent-long (c .before .before)
+
+slice-aggregate-long-in : tie.Need-slice-aggregate-long-in Inv-loop μ-loop
+slice-aggregate-long-in c = search needs
+
+long-in-requires : tie.Need-long-in-requires Inv-loop μ-loop
+long-in-requires c κs = (lent-long (c .before .before .before .before), c .before .front-from .ensures)
 
 slice-aggregate-take-plain : tie.Need-slice-aggregate-take-plain Inv-loop μ-loop
-slice-aggregate-take-plain c = sym (wide-at (c .before .before .before .before .before))
+slice-aggregate-take-plain c = sym (wide-at (c .before .before .before .before .before .before .before))
 
 take-plain-requires : tie.Need-take-plain-requires Inv-loop μ-loop
 take-plain-requires c κs =
-    let r = c .before .before .before .before .before .before .before .before .before .before .before in
+    let q = c .before .before .before .before .before .before .before .before in
+    let f = q .before .before in
+    let r = f .before .before .before in
     let b = r .before in
-    let x = takes r in
-    record {
-      isSound = x .isSound;
-      wide = x .wide;
-      index = x .index;
-      apart = x .apart;
-      few = omega (arith, r .loop-test .taken, start-of b .pre .4);
-      room =
-          λ plain. subst
-          (λ (y : List ℕ). Spaced (λ s. countFrom s (heldBy (tables-of b) ++ (decodeOf y ∷ []))) (b .loop .places))
-          (sym (front-is (c .before .before .before .before .before .before .before .before) plain))
-          (x .room);
-    }
+    let x = takes r in (
+      record {
+        isSound = x .isSound;
+        wide = x .wide;
+        index = x .index;
+        apart = x .apart;
+        few = omega (arith, r .loop-test .taken, start-of b .pre .4);
+        room =
+            λ plain. subst
+            (λ (y : List ℕ). Spaced (λ s. countFrom s (heldBy (tables-of b) ++ (decodeOf y ∷ []))) (b .loop .places))
+            (sym (front-is f plain))
+            (x .room);
+      },
+      stands-as q,
+    )
 
 add-i : tie.Need-add-i Inv-loop μ-loop
 add-i c =
@@ -320,11 +362,10 @@ loop-again c =
     let b = r .before in
     let s = start-of b in
     let l = b .loop in
-    let w = p .before .before .before .before .before .before .before .before .before .before in
+    let w = p .before .before .before .before .before .before .before .before .before .before .before .before in
     let lv = short-took (s .args .sites) (l .i) (tables-of b) _ _ _ _ _ _ _ _ _ _ _ _ _ _ _ _ (p .take-plain .ensures)
     (c .if1 .taken) in
-    let is = front-is (p .before .before .before .before .before .before .before .before
-    .before) (p .take-plain .ensures .plain (c .if1 .taken)) in (
+    let is = front-is (p .before .before .before .before .before .before .before .before .before .before .before) (p .take-plain .ensures .plain (c .if1 .taken)) in (
       omega (arith, r .loop-test .taken),
       rw (add-one (l .i))
           (next-start (form-of b) (recs-of b) (l .i) (l .at) (l .inv .1) (w .length-from .result)
@@ -337,8 +378,8 @@ loop-again c =
       kept-next (given-of b) (l .i) (l .names) (l .rows) (l .inv .5),
     )
 
-cast-t48 : tie.Need-cast-t48 Inv-loop μ-loop
-cast-t48 c =
+cast-t53 : tie.Need-cast-t53 Inv-loop μ-loop
+cast-t53 c =
     let r = round-of (c .before .before .before .before .before .before .before .before .before .before
     .before .before .before .before .before .before) in
     let few : r .before .loop .i < mostRecords = omega (arith, r .loop-test .taken, start-of (r .before) .pre .4) in
@@ -356,7 +397,7 @@ take-one-requires c κs =
       rw (taken-is b)
           (long-takes (s .args .sites) (l .i) (tables-of b) _ _ _ _ _ _ _ _ _ _ _ _ _ _ _ _ (p .take-plain .ensures)
           (c9 .if1 .left) (given-of b (l .i)) (takes r)),
-      lent-there (form-of b) (recs-of b) (l .i) (l .at) (l .inv .1) (s .args .n) (r .loop-test .taken) (s .pre .5),
+      lent-long r,
       subst (λ (es : List Edit). KeptFor es (l .names) (l .rows)) (sym (held-at p (c9 .if1 .left))) (l .inv .5),
     )
 
@@ -461,7 +502,7 @@ loop-again-2 c =
     let b = r .before in
     let s = start-of b in
     let l = b .loop in
-    let w = p .before .before .before .before .before .before .before .before .before .before in
+    let w = p .before .before .before .before .before .before .before .before .before .before .before .before in
     let z : numberOf (m .take-one .result .answer) ≡ 0 = sym (d .number .ensures) ∙ c .before .if2 .left in
     let lv = long-left m in
     let ok = rw z at (long-outcome m) in
@@ -482,8 +523,8 @@ loop-again-2 c =
       kept-after (given-of b) (l .i) _ _ _ _ (held-at p (left-of m)) (ap decodeOf (taken-is b)) (k .ensures .1),
     )
 
-cast-t69 : tie.Need-cast-t69 Inv-loop μ-loop
-cast-t69 c = search needs
+cast-t74 : tie.Need-cast-t74 Inv-loop μ-loop
+cast-t74 c = search needs
 
 same-length-10 : tie.Need-same-length-10 Inv-loop μ-loop
 same-length-10 c = loop-long (c .before) .0
@@ -532,12 +573,14 @@ take-records-spec =
     length-from-requires
     add-at
     front-from-requires
+    slice-aggregate-long-in
+    long-in-requires
     slice-aggregate-take-plain
     take-plain-requires
     add-i
     loop-less
     loop-again
-    cast-t48
+    cast-t53
     take-one-requires
     number-requires
     same-length
@@ -553,7 +596,7 @@ take-records-spec =
     add-i-2
     loop-less-2
     loop-again-2
-    cast-t69
+    cast-t74
     same-length-10
     same-length-11
     same-length-12
