@@ -1,6 +1,8 @@
 // What is judged of an arriving edit where records are taken one after another: the rows of the last box that had a
 // limited Set are kept, with the names of its Sets, so that the next Set of that box finds them as it needs them. For
 // another box they are worked out anew.
+pub mod chained;
+
 use edit_history::Surveyed;
 use edit_record::AT_KIND;
 use edit_record::AT_TARGET;
