@@ -1,9 +1,10 @@
 -- The places of the Sets on a Create, put down along their chains: one link back puts down one more, and where all are
--- put down they stand at the front, in their order. Assumes nothing.
-use mathlib.Core.Path.{_≡_, refl, sym, ap, _∙_}
+-- put down they stand at the front, in their order. The index has such chains of the box that an edit targets. Assumes
+-- nothing.
+use mathlib.Core.Path.{_≡_, refl, sym, ap, subst, _∙_}
 use mathlib.Core.Logic.{inl, inr}
 use mathlib.Core.Bool.{Bool, true, false, cond}
-use mathlib.Core.List.{List, [], _∷_, _++_}
+use mathlib.Core.List.{List, [], _∷_, _++_, map}
 use Prim.Native.Nat.{ℕ, zero, suc, _+_, _≤_, _<_}
 use native.Mathlib.Omega.{arith}
 use native.Mathlib.Decide.{ℕ-discrete, decLt}
@@ -12,13 +13,20 @@ use lib.ListN.{length, getD, set, take, length-set, length-append}
 use lib.Seq.{getD-set-same, getD-set-other, take-suc}
 use borrow.Author.Tests.{eqb-true, eq-eqb}
 use Rattle.math_lists.specs.NumbersBelow.{keep}
+use Rattle.math_lists.specs.SortedLists.{any}
 use Rattle.math_lists.proofs.Booleans.{clash, decide, both, and-on, off}
 use Rattle.math_lists.proofs.LastBelow.{last}
-use Rattle.edit_history.specs.EditsHeld.{recordAt}
+use Rattle.edit_record.specs.declared.Edit.{Edit}
+use Rattle.edit_history.specs.EditsHeld.{recordAt, editsOf, isTarget, setsOn}
+use Rattle.edit_history.proofs.EditsHeld.{target-parts}
+use Rattle.edit_history.proofs.RecordsPassed.{set-after, formed-at}
+use Rattle.edit_walk.specs.WalkForms.{placeOf}
 use Rattle.group_step.specs.GroupRows.{mostSets}
-use Rattle.table_index.specs.IndexForms.{isOn, placesOn, isKeyed, latestOn, linkAt}
-use Rattle.table_index.proofs.PlacesOfSets.{places-added, places-stay, places-grow}
-use Rattle.table_kept.specs.ChainForms.{ChainsOn, rankOf, PutFrom}
+use Rattle.table_drawing.specs.declared.Counters.{Counters}
+use Rattle.table_index.specs.IndexForms.{isOn, placesOn, isKeyed, latestOn, IndexOf, Holds}
+use Rattle.table_index.proofs.PlacesOfSets.{places-added, places-stay, places-grow, places-length}
+use Rattle.table_index.proofs.SurveyByIndex.{aimed}
+use Rattle.table_kept.specs.ChainForms.{ChainsOn, rankOf, PutFrom, IndexedIn}
 
 module _ (rs : List ℕ) (q : ℕ) where
   rank-next : (x : ℕ) → isOn rs q x ≡ true → rankOf rs q (suc x) ≡ suc (rankOf rs q x)
@@ -163,3 +171,50 @@ module _ (rs : List ℕ) (q : ℕ) where
   -- its number is within what there is room for
   pub rank-fits : (n p : ℕ) → p < n → isOn rs q p ≡ true → length (placesOn rs n q) ≤ mostSets → rankOf rs q p < mostSets
   rank-fits n p l on narrow = omega (arith, rank-less p n on l, narrow)
+
+-- ---- the chains of the box that an edit targets
+
+pub target-chains :
+    (rs : List ℕ) (n : ℕ) (ps ns hs : List ℕ) → IndexedIn rs n ps ns hs → (e : Edit) →
+    any (isTarget e) (editsOf rs n) ≡ true →
+    let q = placeOf ps (e .tsite .0) (e .tseq .0) in
+    ChainsOn rs n ns hs q × (map (recordAt rs) (placesOn rs n q) ≡ setsOn (e .tsite) (e .tseq) (editsOf rs n))
+target-chains rs n ps ns hs x e held =
+    let c = x .counters in
+    let h = x .holds in
+    subst
+    (λ (k : ℕ). IndexOf rs k ps ns (x .counts) hs → any (isTarget e) (editsOf rs k) ≡ true →
+    ChainsOn rs k ns hs (placeOf ps (e .tsite .0) (e .tseq .0))
+    × (map (recordAt rs) (placesOn rs k (placeOf ps (e .tsite .0) (e .tseq .0)))
+    ≡ setsOn (e .tsite) (e .tseq) (editsOf rs k)))
+    (x .all) (counted-chains rs c h ps ns (x .counts) hs e) (x .index) held
+  where
+    counted-chains :
+        (rs : List ℕ) (c : Counters) (h : Holds c rs) (ps ns cs hs : List ℕ) (e : Edit) →
+        IndexOf rs (c .records) ps ns cs hs → any (isTarget e) (editsOf rs (c .records)) ≡ true →
+        ChainsOn rs (c .records) ns hs (placeOf ps (e .tsite .0) (e .tseq .0))
+        × (map (recordAt rs) (placesOn rs (c .records) (placeOf ps (e .tsite .0) (e .tseq .0)))
+        ≡ setsOn (e .tsite) (e .tseq) (editsOf rs (c .records)))
+    counted-chains rs c h ps ns cs hs e ix held =
+        let q = placeOf ps (e .tsite .0) (e .tseq .0) in
+        let t = aimed c rs h ps ns cs hs ix e held in (
+          record {
+            low = t .low;
+            few = h .few-records;
+            create = target-parts e (recordAt rs q) (t .target) .create;
+            chained = ix .chained;
+            number = t .number;
+            first =
+                off (isOn rs q 0) (λ on. omega (
+                  arith,
+                  set-after (c .sites) rs (c .records) (h .pass) q 0 (t .low) (omega (arith, t .low)) on,
+                ));
+            known = λ z l on. formed-at (c .sites) rs (c .records) (h .pass) z l .key;
+            narrow = omega (
+              arith,
+              places-length rs q (c .records),
+              h .few-sets (recordAt rs q .site) (recordAt rs q .seq),
+            );
+          },
+          t .sets,
+        )

@@ -9,7 +9,8 @@ use Rattle.edit_record.specs.Layout.{keys}
 use Rattle.edit_record.specs.Answer1.{isCreate}
 use Rattle.edit_history.specs.EditsHeld.{mostRecords, recordAt}
 use Rattle.group_step.specs.GroupRows.{mostSets}
-use Rattle.table_index.specs.IndexForms.{numberAt, isOn, placesOn, ChainsOf}
+use Rattle.table_drawing.specs.declared.Counters.{Counters}
+use Rattle.table_index.specs.IndexForms.{numberAt, isOn, placesOn, ChainsOf, IndexOf, Holds}
 
 -- the chains of the Sets, among the first n records, on the Create in place q
 pub record ChainsOn (rs : List ℕ) (n : ℕ) (ns hs : List ℕ) (q : ℕ) : Type 0 where
@@ -35,3 +36,11 @@ pub record PutFrom (rs : List ℕ) (n q y m : ℕ) (qs ps : List ℕ) : Type 0 w
   pub others :
       (x : ℕ) → x < n → isOn rs q x ≡ true → (recordAt rs x .key ≡ y → ⊥) →
       getD ps (rankOf rs q x) 0 ≡ getD qs (rankOf rs q x) 0
+
+-- the index of the first n records, which pass 1 to 5 in their order and are within the limits
+pub record IndexedIn (rs : List ℕ) (n : ℕ) (ps ns hs : List ℕ) : Type 0 where
+  pub counters : Counters
+  pub counts : List ℕ
+  pub holds : Holds counters rs
+  pub all : counters .records ≡ n
+  pub index : IndexOf rs n ps ns counts hs
