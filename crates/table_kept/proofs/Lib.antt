@@ -1,1 +1,2 @@
 pub mod KeptAlong
+pub mod AlongChains

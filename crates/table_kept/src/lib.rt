@@ -1,6 +1,8 @@
 // What is judged of an arriving edit where records are taken one after another: the rows of the last box that had a
 // limited Set are kept, with the names of its Sets, so that the next Set of that box finds them as it needs them. For
 // another box they are worked out anew.
+pub mod chained;
+
 use edit_history::Surveyed;
 use edit_record::AT_KIND;
 use edit_record::AT_TARGET;
@@ -13,18 +15,20 @@ use group_limited::earlier::put_names;
 use group_step::SETS;
 ghost use mathlib.Core.Path.{_≡_};
 ghost use mathlib.Core.Bool.{true, _&&_, _||_, cond};
-ghost use mathlib.Core.List.{[], _∷_, _++_};
-ghost use Prim.Native.Nat.{_+_, _≤_};
+ghost use mathlib.Core.List.{[], _∷_, _++_, map};
+ghost use Prim.Native.Nat.{_+_};
 ghost use lib.Dec.{eqb, ltb};
 ghost use lib.ListN.{length, getD};
+ghost use Rattle.math_lists.specs.SortedLists.{any};
 ghost use Rattle.edit_record.specs.Layout.{setKind, limitedKind};
 ghost use Rattle.edit_record.specs.RecordBytes.{decodeOf};
-ghost use Rattle.edit_record.specs.Answer1.{isSet};
-ghost use Rattle.edit_history.specs.EditsHeld.{mostRecords, editsOf, setsOn};
+ghost use Rattle.edit_history.specs.EditsHeld.{recordAt, editsOf, isTarget, setsOn};
 ghost use Rattle.edit_history.specs.SurveyForms.{SurveyedOf};
 ghost use Rattle.group_step.specs.GroupRows.{mostSets};
 ghost use Rattle.group_limited.specs.LimitedForms.{JudgedWhere};
 ghost use Rattle.group_kept.specs.KeptForms.{rowsLength};
+ghost use Rattle.table_index.specs.IndexForms.{placesOn};
+ghost use Rattle.table_kept.specs.ChainForms.{ChainsOn, IndexedIn};
 ghost use Rattle.table_kept.specs.BoxForms.{siteAt, seqAt, countAt, namesLength, boxed, TellOf, KeptFor};
 
 // Behind the names of the Sets: the site and the sequence number of their box, and how many of its Sets are told of.
@@ -47,25 +51,46 @@ fn is_kept(names: &[u32], s: Site, q: Seq, k: u32) -> bool
     (names[BOX_SITE] == s.0 as u32) & (names[BOX_SEQ] == q.0 as u32) & (names[COUNT] == k)
 }
 
-// Works out the names and the rows of the Sets of the box s.q among the first n records.
-fn put_anew(rows: &mut [u64], names: &mut [u32], recs: &[u8], n: usize, s: Site, q: Seq)
-    requires { ⌜ (n ≤ mostRecords)
-        × (length (setsOn s q (editsOf (now recs) n)) ≤ mostSets)
+// Works out the names and the rows of the k Sets, among the first n records, on the Create in place q.
+fn put_anew(
+    rows: &mut [u64],
+    names: &mut [u32],
+    recs: &[u8],
+    n: usize,
+    numbers: &[u8],
+    chains: &[u8],
+    q: usize,
+    k: usize,
+)
+    requires { ⌜ ChainsOn (now recs) n (now numbers) (now chains) q
+        × (k ≡ length (placesOn (now recs) n q))
         × (length (now names) ≡ namesLength)
         × (length (now rows) ≡ rowsLength) ⌝ }
-    ensures { λ r. ⌜ TellOf (setsOn s q (editsOf (now (recs .entry)) n)) (now (names .exit)) (now (rows .exit)) ⌝ }
+    ensures { λ r. ⌜ TellOf (map (recordAt (now (recs .entry))) (placesOn (now (recs .entry)) n q))
+        (now (names .exit)) (now (rows .exit)) ⌝ }
 {
     // what work space holds at first does not matter; zeros would be set by memset (docs/DECISIONS.md, 24)
-    let mut places = [1u16; SETS];
-    let k = edit_object::put_places(&mut places, recs, n, s, q);
-    put_names(names, recs, &places, k);
-    group_kept::put_rows(rows, recs, &places, names, k);
+    let mut spots = [1u16; SETS];
+    chained::put_chains(&mut spots, recs, n, numbers, chains, q);
+    put_names(names, recs, &spots, k);
+    group_kept::put_rows(rows, recs, &spots, names, k);
 }
 
-// Sees to it that the names and the rows tell of the k Sets, among the first n records, of the box that rec targets.
-fn make_ready(rows: &mut [u64], names: &mut [u32], recs: &[u8], n: usize, rec: &[u8], k: usize)
-    requires { ⌜ (n ≤ mostRecords)
-        × (length (setsOn (decodeOf (now rec) .tsite) (decodeOf (now rec) .tseq) (editsOf (now recs) n)) ≤ mostSets)
+// Sees to it that the names and the rows tell of the k Sets, among the first n records, of the box that rec targets and
+// that is held.
+fn make_ready(
+    rows: &mut [u64],
+    names: &mut [u32],
+    recs: &[u8],
+    n: usize,
+    places: &[u16],
+    numbers: &[u8],
+    chains: &[u8],
+    rec: &[u8],
+    k: usize,
+)
+    requires { ⌜ IndexedIn (now recs) n (now places) (now numbers) (now chains)
+        × (any (isTarget (decodeOf (now rec))) (editsOf (now recs) n) ≡ true)
         × (k ≡ length (setsOn (decodeOf (now rec) .tsite) (decodeOf (now rec) .tseq) (editsOf (now recs) n)))
         × KeptFor (editsOf (now recs) n) (now names) (now rows) ⌝ }
     ensures { λ r. ⌜ TellOf
@@ -76,7 +101,8 @@ fn make_ready(rows: &mut [u64], names: &mut [u32], recs: &[u8], n: usize, rec: &
     let s = Site(edit_record::byte_at(rec, AT_TARGET));
     let q = Seq(edit_record::two_at(rec, AT_TARGET_SEQ));
     if !is_kept(names, s, q, k as u32) {
-        put_anew(rows, names, recs, n, s, q);
+        let at = edit_walk::place_at(places, s, q) as usize;
+        put_anew(rows, names, recs, n, numbers, chains, at, k);
     }
 }
 
@@ -107,11 +133,13 @@ fn judge_by_rows(
     names: &mut [u32],
     recs: &[u8],
     n: usize,
+    places: &[u16],
+    numbers: &[u8],
+    chains: &[u8],
     rec: &[u8],
     v: Surveyed,
 ) -> Judged
-    requires { ⌜ (n ≤ mostRecords)
-        × (length (setsOn (decodeOf (now rec) .tsite) (decodeOf (now rec) .tseq) (editsOf (now recs) n)) ≤ mostSets)
+    requires { ⌜ IndexedIn (now recs) n (now places) (now numbers) (now chains)
         × SurveyedOf (editsOf (now recs) n) (decodeOf (now rec)) v
         × (v .found ≡ true)
         × KeptFor (editsOf (now recs) n) (now names) (now rows) ⌝ }
@@ -123,7 +151,7 @@ fn judge_by_rows(
         (now (rows .exit)) ⌝ }
 {
     let k = v.sets;
-    make_ready(rows, names, recs, n, rec, k);
+    make_ready(rows, names, recs, n, places, numbers, chains, rec, k);
     let j = group_kept::judge(rows, names, k, rec, v.plain);
     let told = told_after(k, edit_record::byte_at(rec, AT_KIND));
     put_box(names, rec, told);
@@ -138,11 +166,13 @@ pub fn judge(
     names: &mut [u32],
     recs: &[u8],
     n: usize,
+    places: &[u16],
+    numbers: &[u8],
+    chains: &[u8],
     rec: &[u8],
     v: Surveyed,
 ) -> Judged
-    requires { ⌜ (n ≤ mostRecords)
-        × (length (setsOn (decodeOf (now rec) .tsite) (decodeOf (now rec) .tseq) (editsOf (now recs) n)) ≤ mostSets)
+    requires { ⌜ IndexedIn (now recs) n (now places) (now numbers) (now chains)
         × SurveyedOf (editsOf (now recs) n) (decodeOf (now rec)) v
         × KeptFor (editsOf (now recs) n) (now names) (now rows) ⌝ }
     ensures { λ r. ⌜ JudgedWhere (v .found)
@@ -159,5 +189,15 @@ pub fn judge(
             conflicts: v.plain,
         };
     }
-    judge_by_rows(rows, names, recs, n, rec, v)
+    judge_by_rows(
+        rows,
+        names,
+        recs,
+        n,
+        places,
+        numbers,
+        chains,
+        rec,
+        v,
+    )
 }

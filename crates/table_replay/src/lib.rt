@@ -69,7 +69,17 @@ fn take_next(
         };
     }
     let v = table_index::survey(c, records, places, numbers, counts, chains, rec);
-    let j = table_kept::judge(rows, names, records, c.records as usize, rec, v);
+    let j = table_kept::judge(
+        rows,
+        names,
+        records,
+        c.records as usize,
+        places,
+        numbers,
+        chains,
+        rec,
+        v,
+    );
     let a = table_arrival::accept(c, records, objects, groups, rec, v, j, true);
     let answer = a.answer;
     if table_drawing::number(answer) == 0 {

@@ -18,21 +18,21 @@ byte-at-requires c κs = search needs
 
 returns : tie.Need-returns
 returns c =
-    let s = c .before .before .before .before .before .before .before .before in
+    let s = c .before .before .before .before .before .before .before .before .before .before .before in
     let a = s .args in
     let e = decodeOf (now (a .rec)) in
     let es = editsOf (now (a .recs)) (a .n) in (
-      judged-plainly es e (a .v) (s .pre .2) (rw (c .before .before .before .byte-at .ensures) at (c .if1 .taken)),
-      kept-more es e (now (a .names)) (now (a .rows)) (s .pre .3),
+      judged-plainly es e (a .v) (s .pre .1) (rw (c .before .before .before .byte-at .ensures) at (c .if1 .taken)),
+      kept-more es e (now (a .names)) (now (a .rows)) (s .pre .2),
     )
 
 judge-by-rows-requires : tie.Need-judge-by-rows-requires
 judge-by-rows-requires c κs =
-    let s = c .before .before .before .before .before .before .before .before .before .before in
+    let s = c .before .before .before .before .before .before .before .before .before .before .before .before .before in
     let v = s .args .v in
     let limited = eqb (c .before .before .before .before .before .byte-at .result) limitedKind || v .limited in
     let (found, _) = both (v .found) limited (not-false (v .found && limited) (c .before .before .if1 .left)) in
-    (s .pre .0, s .pre .1, s .pre .2, found, s .pre .3)
+    (s .pre .0, s .pre .1, found, s .pre .2)
 
 same-length : tie.Need-same-length
 same-length c = search needs

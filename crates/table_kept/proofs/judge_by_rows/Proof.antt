@@ -17,23 +17,23 @@ use Rattle.table_kept.proofs.judge_by_rows.Tie as tie
 
 make-ready-requires : tie.Need-make-ready-requires
 make-ready-requires c κs =
-    let s = c .before .before .before .before .before .before in
+    let s = c .before .before .before .before .before .before .before .before .before in
     let a = s .args in
-    let (sets, _) = surveyed-sets (editsOf (now (a .recs)) (a .n)) (decodeOf (now (a .rec))) (a .v) (s .pre .2)
-    (s .pre .3) in
-    (s .pre .0, s .pre .1, sets, s .pre .4)
+    let sv = s .pre .1 in
+    let (sets, _) = surveyed-sets (editsOf (now (a .recs)) (a .n)) (decodeOf (now (a .rec))) (a .v) sv (s .pre .2) in
+    (s .pre .0, sym (sv .found) ∙ s .pre .2, sets, s .pre .3)
 
 judge-requires : tie.Need-judge-requires
 judge-requires c κs =
-    let s = c .before .before .before .before .before .before .before .before .before .before .before .before .before in
+    let s = c .before .before .before .before .before .before .before .before .before .before .before .before .before .before .before .before in
     let a = s .args in
     let e = decodeOf (now (a .rec)) in
     let es = editsOf (now (a .recs)) (a .n) in
-    let (sets, plain) = surveyed-sets es e (a .v) (s .pre .2) (s .pre .3) in
+    let (sets, plain) = surveyed-sets es e (a .v) (s .pre .1) (s .pre .2) in
     let m = c .before .before .before .before .before .before .make-ready in (
-      rw sets (s .pre .1),
-      omega (arith, m .kept .1 .0, s .pre .4 .names-long),
-      m .kept .0 ∙ s .pre .4 .rows-long,
+      rw (sets, ← s .pre .0 .all) (s .pre .0 .holds .few-sets (e .tsite) (e .tseq)),
+      omega (arith, m .kept .1 .0, s .pre .3 .names-long),
+      m .kept .0 ∙ s .pre .3 .rows-long,
       rw (sets, plain) (marked-below e (setsOn (e .tsite) (e .tseq) es)),
     )
 
@@ -45,8 +45,8 @@ told-after-requires c κs = search needs
 
 put-box-requires : tie.Need-put-box-requires
 put-box-requires c κs =
-    let s = c .before .before .before .before .before .before .before .before .before .before .before .before .before .before .before .before .before .before .before .before .before in
-    c .before .before .before .before .before .before .before .judge .kept .1 .0 ∙ c .before .before .before .before .before .before .before .before .before .before .before .before .before .before .make-ready .kept .1 .0 ∙ s .pre .4 .names-long
+    let s = c .before .before .before .before .before .before .before .before .before .before .before .before .before .before .before .before .before .before .before .before .before .before .before .before in
+    c .before .before .before .before .before .before .before .judge .kept .1 .0 ∙ c .before .before .before .before .before .before .before .before .before .before .before .before .before .before .make-ready .kept .1 .0 ∙ s .pre .3 .names-long
 
 same-length : tie.Need-same-length
 same-length c = search needs
@@ -56,17 +56,17 @@ same-length-2 c = search needs
 
 returns : tie.Need-returns
 returns c =
-    let s = c .before .before .before .before .before .before .before .before .before .before .before .before .before .before .before .before .before .before .before .before .before .before .before .before in
+    let s = c .before .before .before .before .before .before .before .before .before .before .before .before .before .before .before .before .before .before .before .before .before .before .before .before .before .before .before in
     let a = s .args in
     let e = decodeOf (now (a .rec)) in
     let es = editsOf (now (a .recs)) (a .n) in
     let ms = setsOn (e .tsite) (e .tseq) es in
-    let (sets, plain) = surveyed-sets es e (a .v) (s .pre .2) (s .pre .3) in
+    let (sets, plain) = surveyed-sets es e (a .v) (s .pre .1) (s .pre .2) in
     let ready = c .before .before .before .before .before .before .before .before .before .before .before .before .before .before .before .before .before .make-ready in
     let j = c .before .before .before .before .before .before .before .before .before .before .judge in
     let (judged, put) = j .ensures ms (sym sets) (ready .ensures .names) (ready .ensures .told) plain in
-    let ln = j .kept .1 .0 ∙ ready .kept .1 .0 ∙ s .pre .4 .names-long in
-    let lr = j .kept .0 ∙ ready .kept .0 ∙ s .pre .4 .rows-long in
+    let ln = j .kept .1 .0 ∙ ready .kept .1 .0 ∙ s .pre .3 .names-long in
+    let lr = j .kept .0 ∙ ready .kept .0 ∙ s .pre .3 .rows-long in
     let after : length ms < mostSets → TellOf (ms ++ (e ∷ [])) (j .last .1 .0) (j .last .0)
     = λ few. let (names, told) = put (rw sets few) in record { names = names; told = told } in
     let count = rw (c .before .before .before .before .before .byte-at .ensures, sets) at (c .before .before .before .before .told-after .ensures) in (

@@ -1,6 +1,6 @@
 -- `table_replay::take_next` meets its contract: what an accepted record leaves holds what the index needs to take it
 -- in. Assumes nothing.
-use mathlib.Core.Path.{_≡_, sym, _∙_}
+use mathlib.Core.Path.{_≡_, refl, sym, _∙_}
 use Prim.Native.Nat.{_≤_}
 use native.Mathlib.Omega.{arith}
 use lib.ListN.{length}
@@ -14,7 +14,7 @@ use Rattle.table_drawing.specs.AnswerNumbers.{numberOf}
 use Rattle.table_arrival.specs.Answers6and7.{firstOf, inTurn}
 use Rattle.table_arrival.specs.ArrivalForms.{threeBy}
 use Rattle.table_soundness.proofs.SoundFacts.{sound-at}
-use Rattle.table_arrival.proofs.CodeInHand.{surveyable, early-refused, holds}
+use Rattle.table_arrival.proofs.CodeInHand.{early-refused, holds}
 use Rattle.table_arrival.proofs.SixByCounters.{none-of-three}
 use Rattle.table_kept.proofs.KeptAlong.{kept-more}
 use Rattle.table_plain.proofs.IndexGoesAlong.{counted-on, room-on, holds-on, index-on, numbered-on}
@@ -76,18 +76,25 @@ cast-judge c = search needs
 
 judge-requires : tie.Need-judge-requires
 judge-requires c κs =
-    let w = c .before .before .before .before in
-    let n = w .before .before .before .before .before .before .before in
-    let s = start-of n in
+    let w = c .before .before .before .before .before .before .before in
+    let s = start-of (w .before .before .before .before .before .before .before) in
     let a = s .args in
-    let t = tablesOf (a .c) (now (a .records)) (now (a .objects)) (now (a .groups)) in
-    let (few, sets) = surveyable t (s .pre .0 .isSound) (decodeOf (now (a .rec))) in
-    (few, sets, w .survey .ensures, s .pre .1)
+    let t = tablesOf (a .c) (now (a .records)) (now (a .objects)) (now (a .groups)) in (
+      record {
+        counters = a .c;
+        counts = now (a .counts);
+        holds = holds t (s .pre .0 .isSound);
+        all = refl;
+        index = s .pre .0 .index;
+      },
+      w .survey .ensures,
+      s .pre .1,
+    )
 
 accept-requires : tie.Need-accept-requires
 accept-requires c κs =
     let j = c .before .before .before .before .before .before .before in
-    let z = j .before .before .before .before .before in
+    let z = j .before .before .before .before .before .before .before .before in
     let n = z .before .before .before .before .before .before .before in
     record {
       isSound = start-of n .pre .0 .isSound;
@@ -110,7 +117,7 @@ add-requires c κs =
     let s14 = s7 .before .before .before .before .before .before .before in
     let s22 = s14 .before .before .before .before .before .before .before .before in
     let s = start-of (s22 .before .before .before .before .before .before .before .before .before .before .before
-    .before) in
+    .before .before .before .before) in
     let a = s .args in
     let t = tablesOf (a .c) (now (a .records)) (now (a .objects)) (now (a .groups)) in
     let b = now (a .rec) in
@@ -165,7 +172,7 @@ returns-2 c =
     let s23 = s16 .before .before .before .before .before .before .before in
     let s31 = s23 .before .before .before .before .before .before .before .before in
     let s = start-of (s31 .before .before .before .before .before .before .before .before .before .before .before
-    .before) in
+    .before .before .before .before) in
     let a = s .args in
     let t = tablesOf (a .c) (now (a .records)) (now (a .objects)) (now (a .groups)) in
     let b = now (a .rec) in
