@@ -218,8 +218,7 @@ fn mark_in_rows(plain: &mut [u64], n: usize, row: u64)
     while left != 0 {
         let j = u64::trailing_zeros(left) as usize;
         plain[j] = plain[j] | own;
-        let bit = group_step::only(j);
-        left = group_step::without(left, bit);
+        left = group_context::but_first(left);
     }
 }
 

@@ -119,15 +119,15 @@ pub fn plain_of(recs: &[u8], places: &[u16], m: u64, rec: &[u8]) -> u64
         bit r j ≡ (bit m j && doConflict (recordAt (now (recs .entry)) (getD (now (places .entry)) j 0))
         (decodeOf (now (rec .entry))))) ⌝ }
 {
-    let mut plain = m;
+    let mut plain: u64 = 0;
     let mut left = m;
     while left != 0 {
         let j = u64::trailing_zeros(left) as usize;
-        let own = group_step::only(j);
-        if !is_conflict_with(recs, places[j], rec) {
-            plain = group_step::without(plain, own);
+        let rest = group_context::but_first(left);
+        if is_conflict_with(recs, places[j], rec) {
+            plain = plain | (left - rest);
         }
-        left = group_step::without(left, own);
+        left = rest;
     }
     plain
 }

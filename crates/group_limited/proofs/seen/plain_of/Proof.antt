@@ -1,29 +1,28 @@
 -- `group_limited::seen::plain_of` meets its contract: of the Sets gone through, those that conflict are kept.
 -- Assumes nothing.
-use mathlib.Core.Path.{_≡_, sym, ap, _∙_}
-use mathlib.Core.Bool.{Bool}
-use mathlib.Core.Logic.{⊎-elim}
-use Prim.Native.Nat.{ℕ, _-_, _≤_}
+use mathlib.Core.Path.{_≡_, sym, _∙_}
+use mathlib.Core.Bool.{Bool, true}
+use Prim.Native.Nat.{ℕ, _+_, _^_, _≤_}
 use native.Mathlib.Omega.{arith}
-use borrow.Author.Tests.{not-true, not-false}
-use lib.Bits.{bitAnd}
+use lib.Bits.{or-add-and}
 use lib.Count.{trailingZeros}
 use lib.ListN.{length, getD}
 use denote.Ref.{now}
 use Rattle.math_maximal.specs.Groups.{bit}
-use Rattle.math_maximal.proofs.OneMemberLess.{fewer, first-left, less-left}
+use Rattle.math_maximal.proofs.OneMemberLess.{first-left, less-left, still-left}
 use Rattle.edit_record.specs.RecordBytes.{decodeOf}
 use Rattle.edit_causal.specs.Conflict.{doConflict}
 use Rattle.edit_history.specs.EditsHeld.{recordAt}
-use Rattle.group_context.proofs.MembersGone.{isKept, kept-first, kept-last, one-dropped, one-stays}
+use Rattle.group_context.proofs.ButFirst.{own-first}
+use Rattle.group_context.proofs.MembersGone.{isKept, kept-first, kept-last, one-kept, one-passed}
 use borrow.Author.Needs.{needs}
 use Rattle.group_limited.proofs.seen.plain_of.Statement.{statement}
 use Rattle.group_limited.proofs.seen.plain_of.Tie as tie
 
 abbrev Inv-loop : tie.InvT-loop
 Inv-loop recs places m rec plain₀ left₀ plain left =
-    (left ≤ m)
-    × (plain ≤ m)
+    (plain + left ≤ m)
+    × ((j : ℕ) → bit left j ≡ true → bit m j ≡ true)
     × ((j : ℕ) → bit plain j ≡ isKept m left (λ j. doConflict (recordAt recs (getD places j 0)) (decodeOf rec)) j)
 
 abbrev μ-loop : tie.MeasureT-loop
@@ -33,7 +32,7 @@ loop-holds : tie.Need-loop-holds Inv-loop μ-loop
 loop-holds c =
     let a = c .before .before .before .args in (
       omega arith,
-      omega arith,
+      λ j h. h,
       kept-first (a .m)
           (λ j. doConflict (recordAt (now (a .recs)) (getD (now (a .places)) j 0)) (decodeOf (now (a .rec)))),
     )
@@ -41,83 +40,89 @@ loop-holds c =
 cast-j : tie.Need-cast-j Inv-loop μ-loop
 cast-j c =
     let l = c .before .loop in
-    let s = c .before .before .before .before .before in
-    let (_, few) = first-left {n = 64} (c .loop-test .taken) (l .inv .0) (s .fits .m .fits) (s .fits .m .fits) in
+    let fits = c .before .before .before .before .before .fits .m .fits in
+    let (_, few) = first-left {n = 64} (c .loop-test .taken) (omega (arith, l .inv .0)) fits fits in
     record { fits = omega arith }
 
-only-requires : tie.Need-only-requires Inv-loop μ-loop
-only-requires c κs =
-    let l = c .before .loop in
-    let s = c .before .before .before .before .before in
-    let (_, few) = first-left {n = 64} (c .loop-test .taken) (l .inv .0) (s .fits .m .fits) (s .fits .m .fits) in
-    few
+but-first-requires : tie.Need-but-first-requires Inv-loop μ-loop
+but-first-requires c κs = omega (arith, c .loop-test .taken)
 
 mul-is-conflict-with : tie.Need-mul-is-conflict-with Inv-loop μ-loop
 mul-is-conflict-with c =
     let l = c .before .before .loop in
-    let s = c .before .before .before .before .before .before in
-    let fits = s .fits .m .fits in
-    let (_, few) = first-left {n = 64} (c .before .loop-test .taken) (l .inv .0) fits fits in
+    let fits = c .before .before .before .before .before .before .fits .m .fits in
+    let (_, few) = first-left {n = 64} (c .before .loop-test .taken) (omega (arith, l .inv .0)) fits fits in
     record { fits = omega (arith, few) }
 
 shared-slice-read-is-conflict-with : tie.Need-shared-slice-read-is-conflict-with Inv-loop μ-loop
 shared-slice-read-is-conflict-with c =
     let l = c .before .before .before .loop in
     let s = c .before .before .before .before .before .before .before in
-    let (_, few) = first-left {n = length (now (s .args .places))} (c .before .before .loop-test .taken) (l .inv .0)
-    (s .pre) (s .fits .m .fits) in
+    let (_, few) = first-left {n = length (now (s .args .places))} (c .before .before .loop-test .taken)
+    (omega (arith, l .inv .0)) (s .pre) (s .fits .m .fits) in
     omega (arith, few)
 
 is-conflict-with-requires : tie.Need-is-conflict-with-requires Inv-loop μ-loop
 is-conflict-with-requires c κs = search needs
 
-without-requires : tie.Need-without-requires Inv-loop μ-loop
-without-requires c κs = search needs
-
-without-requires-2 : tie.Need-without-requires-2 Inv-loop μ-loop
-without-requires-2 c κs = search needs
+sub-plain : tie.Need-sub-plain Inv-loop μ-loop
+sub-plain c = omega (arith, c .before .before .before .but-first .ensures)
 
 loop-less : tie.Need-loop-less Inv-loop μ-loop
 loop-less c =
-    let l = c .before .before .before .before .before .before .loop in
-    let s = c .before .before .before .before .before .before .before .before .before .before in
-    let some = c .before .before .before .before .before .loop-test .taken in
-    let (here, _) = first-left {n = 64} some (l .inv .0) (s .fits .m .fits) (s .fits .m .fits) in
-    rw (c .without2 .ensures, c .before .before .before .before .only .ensures) (less-left (l .left) _ some here)
+    let l = c .before .before .before .before .before .loop in
+    let fits = c .before .before .before .before .before .before .before .before .before .fits .m .fits in
+    let some = c .before .before .before .before .loop-test .taken in
+    let (here, _) = first-left {n = 64} some (omega (arith, l .inv .0)) fits fits in
+    rw (c .before .before .before .but-first .ensures) (less-left (l .left) _ some here)
 
 loop-again : tie.Need-loop-again Inv-loop μ-loop
 loop-again c =
-    let l = c .before .before .before .before .before .before .loop in
-    let a = c .before .before .before .before .before .before .before .before .before .before .args in
-    let met = c .before .before .is-conflict-with in
-    let own = c .before .before .before .before .only in
+    let l = c .before .before .before .before .before .loop in
+    let s = c .before .before .before .before .before .before .before .before .before in
+    let a = s .args in
+    let fits = s .fits .m .fits in
+    let some = c .before .before .before .before .loop-test .taken in
+    let met = c .before .is-conflict-with in
     let h : ℕ → Bool
     = λ j. doConflict (recordAt (now (a .recs)) (getD (now (a .places)) j 0)) (decodeOf (now (a .rec))) in
     let i = trailingZeros 64 (l .left) in
-    let plain = c .before .if1 .plain in
-    let (part, bits) : (plain ≤ a .m) × ((j : ℕ) → bit plain j ≡ isKept (a .m) (fewer (l .left) i) h j) =
-    ⊎-elim
-    (λ v. let e : plain ≡ fewer (l .plain) i = v .2 ∙ v .1 .ensures
-    ∙ ap (λ (x : ℕ). l .plain - bitAnd (l .plain) x) (own .ensures) in (
-      rw e (omega (arith, l .inv .1)),
-      λ j. ap (λ (x : ℕ). bit x j) e
-          ∙ one-dropped (l .plain) (a .m) (l .left) i h (sym (met .ensures) ∙ not-true (met .result) (v .0 .taken))
-          (l .inv .2) j,
-    ))
-    (λ v. (
-      rw (v .1) (l .inv .1),
-      λ j. ap (λ (x : ℕ). bit x j) (v .1)
-          ∙ one-stays (l .plain) (a .m) (l .left) i h (sym (met .ensures) ∙ not-false (met .result) (v .0 .left))
-          (l .inv .2) j,
-    ))
-    (c .before .if1 .came) in
-    rw (c .without2 .ensures, own .ensures) (omega (arith, l .inv .0), part, bits)
+    let (here, _) = first-left {n = 64} some (omega (arith, l .inv .0)) fits fits in
+    let own = own-first (l .left) some (omega (arith, l .inv .0, fits)) in
+    rw (c .before .before .before .but-first .ensures, own) (
+      omega (arith, l .inv .0, own, or-add-and (l .plain) (2 ^ i)),
+      λ j b. l .inv .1 j (still-left (l .left) i j b),
+      one-kept (l .plain) (a .m) (l .left) i h (l .inv .2) (l .inv .1 i here) here
+          (sym (met .ensures) ∙ c .if1 .taken),
+    )
+
+loop-less-2 : tie.Need-loop-less-2 Inv-loop μ-loop
+loop-less-2 c =
+    let l = c .before .before .before .before .before .loop in
+    let fits = c .before .before .before .before .before .before .before .before .before .fits .m .fits in
+    let some = c .before .before .before .before .loop-test .taken in
+    let (here, _) = first-left {n = 64} some (omega (arith, l .inv .0)) fits fits in
+    rw (c .before .before .before .but-first .ensures) (less-left (l .left) _ some here)
+
+loop-again-2 : tie.Need-loop-again-2 Inv-loop μ-loop
+loop-again-2 c =
+    let l = c .before .before .before .before .before .loop in
+    let a = c .before .before .before .before .before .before .before .before .before .args in
+    let met = c .before .is-conflict-with in
+    let h : ℕ → Bool
+    = λ j. doConflict (recordAt (now (a .recs)) (getD (now (a .places)) j 0)) (decodeOf (now (a .rec))) in
+    let i = trailingZeros 64 (l .left) in
+    rw (c .before .before .before .but-first .ensures) (
+      omega (arith, l .inv .0),
+      λ j b. l .inv .1 j (still-left (l .left) i j b),
+      one-passed (l .plain) (a .m) (l .left) i h (l .inv .2) (sym (met .ensures) ∙ c .if1 .left),
+    )
 
 returns : tie.Need-returns Inv-loop μ-loop
 returns c =
     let l = c .before .loop in
     let a = c .before .before .before .before .before .args in (
-      l .inv .1,
+      omega (arith, l .inv .0),
       λ j. l .inv .2 j
           ∙ kept-last (a .m) (l .left)
           (λ j. doConflict (recordAt (now (a .recs)) (getD (now (a .places)) j 0)) (decodeOf (now (a .rec)))) j
@@ -132,12 +137,13 @@ plain-of-spec =
     μ-loop
     loop-holds
     cast-j
-    only-requires
+    but-first-requires
     mul-is-conflict-with
     shared-slice-read-is-conflict-with
     is-conflict-with-requires
-    without-requires
-    without-requires-2
+    sub-plain
     loop-less
     loop-again
+    loop-less-2
+    loop-again-2
     returns)
