@@ -24,8 +24,8 @@ ghost use Prim.Native.Nat.{ℕ, _^_, _≤_, _<_};
 ghost use lib.ListN.{length, take, getD};
 ghost use Rattle.math_lists.specs.NumbersBelow.{mask};
 ghost use Rattle.math_lists.specs.SortedLists.{any, elem};
-ghost use Rattle.edit_record.specs.Layout.{mostMembers};
-ghost use Rattle.edit_record.specs.RecordBytes.{decodeOf};
+ghost use Rattle.edit_record.specs.Layout.{mostMembers, countAt};
+ghost use Rattle.edit_record.specs.RecordBytes.{two, four, decodeOf};
 ghost use Rattle.edit_record.specs.Answer1.{isLimited};
 ghost use Rattle.edit_causal.specs.Conflict.{listedBy};
 ghost use Rattle.edit_history.specs.EditsHeld.{recordAt};
@@ -184,15 +184,30 @@ fn listed(count: u32) -> usize
     }
 }
 
+// The number in the four bytes from i on. Where all are there, which one test tells, it is read without more.
+fn four_in(s: &[u8], i: usize) -> u32
+    requires { ⌜ i < 2 ^ 47 ⌝ }
+    ensures { λ r. ⌜ r ≡ four (now (s .entry)) i ⌝ }
+{
+    if i + MEMBER <= s.len() {
+        let low = edit_record::pair_at(s, i);
+        let high = edit_record::pair_at(s, i + 2);
+        return low as u32 + high as u32 * SEQ_NUMBERS;
+    }
+    edit_record::four_at(s, i)
+}
+
 // Member i of a limited Set, read where it stands: there are as many as the first two bytes of the count say.
-fn member_of(rec: &[u8], i: usize) -> u32
-    requires { ⌜ (isLimited (decodeOf (now rec)) ≡ true) × (i < mostMembers) ⌝ }
+fn member_of(rec: &[u8], count: u16, i: usize) -> u32
+    requires { ⌜ (isLimited (decodeOf (now rec)) ≡ true)
+        × (i < mostMembers)
+        × (count ≡ two (now rec) countAt) ⌝ }
     ensures { λ r. ⌜ r ≡ getD (decodeOf (now (rec .entry)) .members) i 0 ⌝ }
 {
-    if edit_record::two_at(rec, AT_COUNT) as usize <= i {
+    if count as usize <= i {
         return 0;
     }
-    edit_record::four_at(rec, AT_MEMBERS + MEMBER * i)
+    four_in(rec, AT_MEMBERS + MEMBER * i)
 }
 
 // Of the k first names those that a limited Set lists, and whether it lists one that is that of none of the members of
@@ -205,11 +220,12 @@ fn listed_among(names: &[u32], k: usize, seen: u64, rec: &[u8]) -> Listed
         ≡ any (isUnseen (now (names .entry)) k seen) (listedBy (decodeOf (now (rec .entry))))) ⌝ }
 {
     let n = listed(edit_record::four_at(rec, AT_COUNT));
+    let count = edit_record::two_at(rec, AT_COUNT);
     let mut named: u64 = 0;
     let mut strange = false;
     let mut i: usize = 0;
     while i < n {
-        let m = marks_of_name(names, k, edit_record::name_in(member_of(rec, i)));
+        let m = marks_of_name(names, k, edit_record::name_in(member_of(rec, count, i)));
         named = named | m;
         strange = strange | (m & seen == 0);
         i += 1;
