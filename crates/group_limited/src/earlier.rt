@@ -111,7 +111,8 @@ pub fn marks_of(
     let seen = seen::seen_of(names, sees, k, own, &v);
     let all = seen::first(k);
     let others = group_step::without(all, seen);
-    let plain = seen::plain_of(recs, places, others, rec);
+    let side = seen::side_of(rec, own);
+    let plain = seen::foes_among(recs, places, names, others, side);
     Marks { plain, seen }
 }
 
