@@ -25,7 +25,7 @@ ghost use lib.ListN.{length, take, getD};
 ghost use Rattle.math_lists.specs.NumbersBelow.{mask};
 ghost use Rattle.math_lists.specs.SortedLists.{any, elem};
 ghost use Rattle.edit_record.specs.Layout.{mostMembers, countAt};
-ghost use Rattle.edit_record.specs.RecordBytes.{two, four, decodeOf};
+ghost use Rattle.edit_record.specs.RecordBytes.{two, decodeOf};
 ghost use Rattle.edit_record.specs.Answer1.{isLimited};
 ghost use Rattle.edit_causal.specs.Conflict.{listedBy};
 ghost use Rattle.edit_history.specs.EditsHeld.{recordAt};
@@ -185,19 +185,6 @@ fn listed(count: u32) -> usize
     }
 }
 
-// The number in the four bytes from i on. Where all are there, which one test tells, it is read without more.
-fn four_in(s: &[u8], i: usize) -> u32
-    requires { ⌜ i < 2 ^ 47 ⌝ }
-    ensures { λ r. ⌜ r ≡ four (now (s .entry)) i ⌝ }
-{
-    if i + MEMBER <= s.len() {
-        let low = edit_record::pair_at(s, i);
-        let high = edit_record::pair_at(s, i + 2);
-        return low as u32 + high as u32 * SEQ_NUMBERS;
-    }
-    edit_record::four_at(s, i)
-}
-
 // Member i of a limited Set, read where it stands: there are as many as the first two bytes of the count say.
 fn member_of(rec: &[u8], count: u16, i: usize) -> u32
     requires { ⌜ (isLimited (decodeOf (now rec)) ≡ true)
@@ -208,7 +195,7 @@ fn member_of(rec: &[u8], count: u16, i: usize) -> u32
     if count as usize <= i {
         return 0;
     }
-    four_in(rec, AT_MEMBERS + MEMBER * i)
+    edit_record::four_at(rec, AT_MEMBERS + MEMBER * i)
 }
 
 // Of the k first names those that a limited Set lists, and whether it lists one that is that of none of the members of

@@ -12,21 +12,21 @@ returns c =
     let s = c .before .before in
     member-past (now (s .args .rec)) (s .args .i) (s .pre .0) (omega (arith, s .pre .2, c .if1 .taken))
 
-mul-four-in : tie.Need-mul-four-in
-mul-four-in c = search needs
+mul-four-at : tie.Need-mul-four-at
+mul-four-at c = search needs
 
-add-four-in : tie.Need-add-four-in
-add-four-in c = search needs
+add-four-at : tie.Need-add-four-at
+add-four-at c = search needs
 
-four-in-requires : tie.Need-four-in-requires
-four-in-requires c κs = search needs
+four-at-requires : tie.Need-four-at-requires
+four-at-requires c κs = search needs
 
 returns-2 : tie.Need-returns-2
 returns-2 c =
     let s = c .before .before .before in
-    c .four-in .ensures
+    c .four-at .ensures
     ∙ member-there (now (s .args .rec)) (s .args .i) (s .pre .0) (s .pre .1)
     (omega (arith, s .pre .2, c .before .if1 .left))
 
 pub member-of-spec : {M : Type 1} → statement M
-member-of-spec = tie.close (tie.spec returns mul-four-in add-four-in four-in-requires returns-2)
+member-of-spec = tie.close (tie.spec returns mul-four-at add-four-at four-at-requires returns-2)
