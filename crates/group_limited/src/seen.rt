@@ -12,7 +12,6 @@ use edit_record::PLACE;
 use edit_record::RECORD;
 use edit_record::SEQ_NUMBERS;
 use edit_record::SITE_NUMBERS;
-use group_step::SETS;
 ghost use mathlib.Core.Path.{_≡_};
 ghost use mathlib.Core.Bool.{true, _&&_};
 ghost use mathlib.Core.List.{List, [], _∷_, _++_};
@@ -132,10 +131,11 @@ pub fn first(k: usize) -> u64
     requires { ⌜ k ≤ mostSets ⌝ }
     ensures { λ r. ⌜ (r < 2 ^ k) × ((j : ℕ) → j < k → bit r j ≡ true) ⌝ }
 {
-    if k < SETS {
-        return group_step::only(k) - 1;
+    if k == 0 {
+        return 0;
     }
-    18446744073709551615
+    let last = group_step::only(k - 1);
+    last + (last - 1)
 }
 
 // The last member of m, which has some.
