@@ -6,7 +6,9 @@
 ghost use mathlib.Core.Path.{_≡_};
 ghost use mathlib.Core.Bool.{Bool, _&&_};
 ghost use mathlib.Core.List.{List};
-ghost use Prim.Native.Nat.{ℕ, suc, _≤_, _<_};
+ghost use Prim.Native.Nat.{ℕ, suc, _-_, _^_, _≤_, _<_};
+ghost use lib.Bits.{bitAnd};
+ghost use lib.Count.{trailingZeros};
 ghost use lib.ListN.{length, take, getD};
 ghost use Rattle.math_lists.specs.NumbersBelow.{some, mask};
 ghost use Rattle.math_maximal.specs.Groups.{bit};
@@ -79,6 +81,14 @@ pub fn put_conflicts(out: &mut [u64], plain: &[u64], ctx: &[u64], n: usize)
     }
 }
 
+// The members of g, which has some, but the first. A walk over the members need not wait for the first one's number.
+pub fn but_first(g: u64) -> u64
+    requires { ⌜ 0 < g ⌝ }
+    ensures { λ r. ⌜ r ≡ g - bitAnd g (2 ^ trailingZeros 64 g) ⌝ }
+{
+    g & (g - 1)
+}
+
 // Row j, and 0 past their end.
 fn row_at(rows: &[u64], j: usize) -> u64
     ensures { λ r. ⌜ r ≡ getD (now (rows .entry)) j 0 ⌝ }
@@ -91,16 +101,16 @@ fn clear_of(rows: &[u64], v: u64, m: u64) -> u64
     ensures { λ r. ⌜ (r ≤ v)
         × ((j : ℕ) → bit r j ≡ (bit v j && compatible m (getD (now (rows .entry)) j 0))) ⌝ }
 {
-    let mut kept = v;
+    let mut kept: u64 = 0;
     let mut left = v;
     while left != 0 {
         let j = u64::trailing_zeros(left) as usize;
         let row = row_at(rows, j);
-        let own = group_step::only(j);
-        if row & m != 0 {
-            kept = group_step::without(kept, own);
+        let rest = but_first(left);
+        if row & m == 0 {
+            kept = kept | (left - rest);
         }
-        left = group_step::without(left, own);
+        left = rest;
     }
     kept
 }
@@ -116,8 +126,7 @@ fn foes_of(plain: &[u64], m: u64) -> u64
         let j = u64::trailing_zeros(left) as usize;
         let row = row_at(plain, j);
         foes = foes | row;
-        let own = group_step::only(j);
-        left = group_step::without(left, own);
+        left = but_first(left);
     }
     foes
 }

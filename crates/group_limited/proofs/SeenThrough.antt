@@ -159,15 +159,16 @@ module _ (ms : List Edit) (e : Edit) where
   pub plain-of-others :
       (all seen plain : ℕ) → all < 2 ^ length ms → ((j : ℕ) → j < length ms → bit all j ≡ true) →
       seen ≡ seenMarks e ms → plain ≤ all - bitAnd all seen →
-      ((j : ℕ) → j < length ms → bit plain j
-      ≡ (bit (all - bitAnd all seen) j && doConflict (getD ms j noEdit) e)) → plain ≡ plainMarks e ms
+      (foe : ℕ → Bool) → ((j : ℕ) → j < length ms → bit plain j ≡ (bit (all - bitAnd all seen) j && foe j)) →
+      ((j : ℕ) → j < length ms → saw e (getD ms j noEdit) ≡ false → foe j ≡ doConflict (getD ms j noEdit) e) →
+      plain ≡ plainMarks e ms
   unfolding plainMarks seenMarks
-  plain-of-others all seen plain small h its-seen part bits =
+  plain-of-others all seen plain small h its-seen part foe bits foes =
       is-mask (length ms) plain (λ j. doConflict (getD ms j noEdit) e) (omega arith)
       (λ j l. bits j l
       ∙ rw (bit-minus all seen j, h j l, its-seen, mask-bit (length ms) its j l)
-      (split (its j) (doConflict (getD ms j noEdit) e) (seen-never-conflicts (getD ms j noEdit) e)))
+      (split (its j) (foe j) (doConflict (getD ms j noEdit) e) (seen-never-conflicts (getD ms j noEdit) e) (foes j l)))
     where
-      split : (s t : Bool) → (s ≡ true → t ≡ false) → ((true && not s) && t) ≡ t
-      split true t h = sym (h refl)
-      split false t h = refl
+      split : (s f t : Bool) → (s ≡ true → t ≡ false) → (s ≡ false → f ≡ t) → ((true && not s) && f) ≡ t
+      split true f t h k = sym (h refl)
+      split false f t h k = k refl

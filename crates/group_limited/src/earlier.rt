@@ -25,8 +25,8 @@ ghost use lib.ListN.{length, take, getD};
 ghost use Rattle.math_lists.specs.NumbersBelow.{mask};
 ghost use Rattle.math_lists.specs.SortedLists.{any, elem};
 ghost use Rattle.edit_record.specs.declared.Edit.{Edit};
-ghost use Rattle.edit_record.specs.Layout.{mostMembers};
-ghost use Rattle.edit_record.specs.RecordBytes.{decodeOf};
+ghost use Rattle.edit_record.specs.Layout.{mostMembers, countAt};
+ghost use Rattle.edit_record.specs.RecordBytes.{two, decodeOf};
 ghost use Rattle.edit_record.specs.Answer1.{isLimited};
 ghost use Rattle.edit_causal.specs.Conflict.{listedBy};
 ghost use Rattle.edit_history.specs.EditsHeld.{recordAt};
@@ -113,7 +113,8 @@ pub fn marks_of(
     let seen = seen::seen_of(names, sees, k, own, &v);
     let all = seen::first(k);
     let others = group_step::without(all, seen);
-    let plain = seen::plain_of(recs, places, others, rec);
+    let side = seen::side_of(rec, own);
+    let plain = seen::foes_among(recs, places, names, others, side);
     Marks { plain, seen }
 }
 
@@ -187,11 +188,13 @@ fn listed(count: u32) -> usize
 }
 
 // Member i of a limited Set, read where it stands: there are as many as the first two bytes of the count say.
-fn member_of(rec: &[u8], i: usize) -> u32
-    requires { ⌜ (isLimited (decodeOf (now rec)) ≡ true) × (i < mostMembers) ⌝ }
+fn member_of(rec: &[u8], count: u16, i: usize) -> u32
+    requires { ⌜ (isLimited (decodeOf (now rec)) ≡ true)
+        × (i < mostMembers)
+        × (count ≡ two (now rec) countAt) ⌝ }
     ensures { λ r. ⌜ r ≡ getD (decodeOf (now (rec .entry)) .members) i 0 ⌝ }
 {
-    if edit_record::two_at(rec, AT_COUNT) as usize <= i {
+    if count as usize <= i {
         return 0;
     }
     edit_record::four_at(rec, AT_MEMBERS + MEMBER * i)
@@ -207,11 +210,12 @@ fn listed_among(names: &[u32], k: usize, seen: u64, rec: &[u8]) -> Listed
         ≡ any (isUnseen (now (names .entry)) k seen) (listedBy (decodeOf (now (rec .entry))))) ⌝ }
 {
     let n = listed(edit_record::four_at(rec, AT_COUNT));
+    let count = edit_record::two_at(rec, AT_COUNT);
     let mut named: u64 = 0;
     let mut strange = false;
     let mut i: usize = 0;
     while i < n {
-        let m = marks_of_name(names, k, edit_record::name_in(member_of(rec, i)));
+        let m = marks_of_name(names, k, edit_record::name_in(member_of(rec, count, i)));
         named = named | m;
         strange = strange | (m & seen == 0);
         i += 1;

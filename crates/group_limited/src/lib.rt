@@ -53,6 +53,15 @@ pub struct Marks {
     pub seen: u64,
 }
 
+// What of a Set is held against those that its author had not seen: whether it is one, its name, its target and its key
+// as one number, and its value as it is compared.
+pub struct Side {
+    pub set: bool,
+    pub name: u32,
+    pub aim: u32,
+    pub shown: u32,
+}
+
 // The Sets before a Set that it lists, and whether it lists a name that is that of none which its author had seen.
 pub struct Listed {
     pub named: u64,
@@ -218,8 +227,7 @@ fn mark_in_rows(plain: &mut [u64], n: usize, row: u64)
     while left != 0 {
         let j = u64::trailing_zeros(left) as usize;
         plain[j] = plain[j] | own;
-        let bit = group_step::only(j);
-        left = group_step::without(left, bit);
+        left = group_context::but_first(left);
     }
 }
 
