@@ -1,4 +1,5 @@
 // The lines of the printed list by their numbers: line 0, and the line of each version.
+use edit_walk::PLACES;
 use group_step::GROUPS;
 use group_step::OBJECTS;
 use group_step::SETS;
@@ -23,6 +24,7 @@ ghost use mathlib.Core.List.{[]};
 ghost use Prim.Native.Nat.{_+_, _≤_, _<_};
 ghost use lib.ListN.{length, getD, take};
 ghost use Rattle.math_lists.specs.NumbersBelow.{sum};
+ghost use Rattle.edit_walk.specs.WalkForms.{Indexed};
 ghost use Rattle.group_step.specs.GroupRows.{mostObjects, mostGroups};
 ghost use Rattle.table_drawing.specs.Tables.{groupsAt, tablesOf};
 ghost use Rattle.table_drawing.specs.AnswerNumbers.{numberOf};
@@ -70,9 +72,17 @@ pub fn head(out: &mut [u8], c: Counters, objects: &[u16]) -> usize
     list_text::put_head(out, c.sites as u32, c.objects as u32, total, c.sum)
 }
 
-// Where the k-th line of a version is found, line 0 left out.
-fn find(c: Counters, records: &[u8], objects: &[u16], groups: &[u64], k: usize) -> LinePlace
-    requires { ⌜ sound (tablesOf c (now records) (now objects) (now groups)) ≡ true ⌝ }
+// Where the k-th line of a version is found, line 0 left out, by the index of the records' places.
+fn find(
+    c: Counters,
+    records: &[u8],
+    objects: &[u16],
+    groups: &[u64],
+    places: &[u16],
+    k: usize,
+) -> LinePlace
+    requires { ⌜ (sound (tablesOf c (now records) (now objects) (now groups)) ≡ true)
+        × Indexed (now records) (c .records) (now places) ⌝ }
     ensures { λ r.
         ⌜ FoundIn (tablesOf c (now (records .entry)) (now (objects .entry)) (now (groups .entry))) k r ⌝ }
 {
@@ -83,6 +93,7 @@ fn find(c: Counters, records: &[u8], objects: &[u16], groups: &[u64], k: usize) 
         c.records as usize,
         objects,
         c.objects as usize,
+        places,
     );
     let mut left = k;
     let mut i: usize = 0;
@@ -185,16 +196,18 @@ fn put_found(
     put_version(out, g, &disputes, &stamps, &keyed, &versions, v)
 }
 
-// Puts line k at the front of out, if there is one.
+// Puts line k at the front of out, if there is one, by the index of the records' places.
 fn put_numbered(
     out: &mut [u8],
     c: Counters,
     records: &[u8],
     objects: &[u16],
     groups: &[u64],
+    places: &[u16],
     k: usize,
 ) -> PutLine
     requires { ⌜ (sound (tablesOf c (now records) (now objects) (now groups)) ≡ true)
+        × Indexed (now records) (c .records) (now places)
         × (lineLength + pieceLength ≤ length (now out)) ⌝ }
     ensures { λ r. ⌜ NumberedAs
         (linesOf (tablesOf c (now (records .entry)) (now (objects .entry)) (now (groups .entry))))
@@ -204,7 +217,7 @@ fn put_numbered(
         let bytes = head(out, c, objects);
         return PutLine { ok: true, bytes };
     }
-    let f = find(c, records, objects, groups, k - 1);
+    let f = find(c, records, objects, groups, places, k - 1);
     if !f.ok {
         return PutLine {
             ok: false,
@@ -229,14 +242,16 @@ pub fn print_line(
         ≡ lineOf (tablesOf c (now (records .entry)) (now (objects .entry)) (now (groups .entry))) k
         (now (out .entry)) start ⌝ }
 {
-    if !table_soundness::is_sound(c, records, objects, groups) {
+    // what work space holds at first does not matter; zeros would be set by memset (docs/DECISIONS.md, 24)
+    let mut places = [1u16; PLACES];
+    if !table_soundness::is_sound_with(c, records, objects, groups, &mut places) {
         return Written {
             answer: Answer::Unsound,
             bytes: 0,
         };
     }
     let mut line = [0u8; BUFFER];
-    let r = put_numbered(&mut line, c, records, objects, groups, k);
+    let r = put_numbered(&mut line, c, records, objects, groups, &places, k);
     if !r.ok {
         return Written {
             answer: Answer::NoLine,
