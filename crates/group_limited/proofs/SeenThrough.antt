@@ -4,9 +4,8 @@ use mathlib.Core.Path.{_≡_, refl, sym, ap, _∙_}
 use mathlib.Core.Logic.{inl, inr}
 use mathlib.Core.Bool.{Bool, true, false, not, _&&_, _||_}
 use mathlib.Core.List.{List, [], _∷_, _++_}
-use Prim.Native.Nat.{ℕ, zero, suc, _+_, _-_, _/_, _%_, _^_, _≤_, _<_}
+use Prim.Native.Nat.{ℕ, zero, suc, _+_, _-_, _%_, _^_, _≤_, _<_}
 use native.Mathlib.Omega.{arith}
-use native.Mathlib.Nat.{div-lt-iff-lt-mul, le-div-iff-mul-le}
 use lib.Bits.{bitAnd, bitOr, or-lt, and-le-l}
 use lib.Dec.{eqb}
 use lib.ListN.{length, getD, List·getD-append}
@@ -15,7 +14,7 @@ use lib.Seq.{getD-append-seam}
 use Rattle.math_lists.specs.NumbersBelow.{sum, mask}
 use Rattle.math_lists.proofs.Booleans.{clash, decide, either, and-on}
 use Rattle.math_lists.proofs.NumbersBelow.{mask-below}
-use borrow.Author.Tests.{eq-eqb, eqb-true}
+use borrow.Author.Tests.{eqb-true}
 use Rattle.math_maximal.specs.Groups.{bit}
 use Rattle.math_maximal.proofs.Bits.{bit-none, bit-and, bit-or, bit-minus, bit-power}
 use Rattle.math_maximal.proofs.Masks.{mask-at, mask-bit}
@@ -38,20 +37,6 @@ all-first (suc k) = omega (arith, all-first k, pow-pos k)
 pub first-bits : (k r : ℕ) → r ≡ 2 ^ k - 1 → (r < 2 ^ k) × ((j : ℕ) → j < k → bit r j ≡ true)
 first-bits k r e =
     (omega (arith, pow-pos k), λ j l. ap (λ (x : ℕ). bit x j) (e ∙ sym (all-first k)) ∙ mask-bit k (λ j. true) j l)
-
--- the last member
-pub top-bit : (m j : ℕ) → 2 ^ j ≤ m → m < 2 ^ suc j → bit m j ≡ true
-unfolding bit
-top-bit m j low high = eq-eqb (m / 2 ^ j % 2) 1 (one (m / 2 ^ j) least most)
-  where
-    least : 1 ≤ m / 2 ^ j
-    least = le-div-iff-mul-le (pow-pos j) .1 (omega arith)
-
-    most : m / 2 ^ j < 2
-    most = div-lt-iff-lt-mul (pow-pos j) .1 (omega arith)
-
-    one : (q : ℕ) → 1 ≤ q → q < 2 → q % 2 ≡ 1
-    one q a b = let e : q ≡ 1 = omega arith in rw e
 
 -- without some of its members a number is less
 pub fewer-left :
