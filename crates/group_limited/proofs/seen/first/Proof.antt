@@ -4,7 +4,7 @@ use Prim.Native.Nat.{ℕ, suc, _-_, _*_, _^_, _≤_}
 use native.Mathlib.Nat.{pow-suc}
 use native.Mathlib.Omega.{arith}
 use lib.Pow.{pow-pos, pow-mono}
-use Rattle.group_limited.proofs.SeenThrough.{first-bits}
+use Rattle.group_context.proofs.MaskFromBits.{first-bits}
 use Rattle.group_limited.proofs.seen.first.Statement.{statement}
 use Rattle.group_limited.proofs.seen.first.Tie as tie
 
