@@ -3,6 +3,7 @@
 // conflict by document 01's rule, and `ctx[i]` is the context of i. A Set that comes after them, number n, is given by
 // its own numbers: bit j of `seen` says that its author had seen j, bit j of `named` that it lists j, and `limited`
 // that it is of kind 3. It may come after as many Sets as an object has at most.
+use group_step::SETS;
 ghost use mathlib.Core.Path.{_≡_};
 ghost use mathlib.Core.Bool.{Bool, _&&_};
 ghost use mathlib.Core.List.{List};
@@ -60,7 +61,9 @@ pub fn conflicts_of(plain: &[u64], ctx: &[u64], n: usize, row: u64, c: u64) -> u
         ⌜ ((b : Box) (v w : ℕ) (limited : Bool) → NextOf b n (now (plain .entry)) (now (ctx .entry)) v w limited →
         row ≡ mask n (b .plain n) → c ≡ context b n → r ≡ maskConflicts b n) ⌝ }
 {
-    conflicts_by(plain, ctx, n, row, c)
+    let foes = foes_of(plain, c);
+    let met = among_first(foes, n);
+    reaching_any(ctx, n, row | met)
 }
 
 // Puts, for each of the first n Sets, those of them that conflict with it into out, be they earlier, later or itself.
@@ -79,6 +82,17 @@ pub fn put_conflicts(out: &mut [u64], plain: &[u64], ctx: &[u64], n: usize)
         out[i] = conflicts_by(plain, ctx, n, 0, reach);
         i += 1;
     }
+}
+
+// The members of g among the first n Sets.
+fn among_first(g: u64, n: usize) -> u64
+    requires { ⌜ n ≤ mostSets ⌝ }
+    ensures { λ r. ⌜ (r < 2 ^ n) × ((j : ℕ) → j < n → bit r j ≡ bit g j) ⌝ }
+{
+    if n < SETS {
+        return g & (group_step::only(n) - 1);
+    }
+    g
 }
 
 // The members of g, which has some, but the first. A walk over the members need not wait for the first one's number.

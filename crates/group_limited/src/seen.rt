@@ -138,14 +138,6 @@ pub fn first(k: usize) -> u64
     last + (last - 1)
 }
 
-// The last member of m, which has some.
-fn last_of(m: u64) -> usize
-    requires { ⌜ 0 < m ⌝ }
-    ensures { λ r. ⌜ (r < mostSets) × (bit m r ≡ true) ⌝ }
-{
-    63 - u64::leading_zeros(m) as usize
-}
-
 // Those of the Sets before Set i that its author had seen, if it is one of the last of the k first Sets, for which
 // `sees` has them; else none.
 fn known_by(sees: &[u64], k: usize, i: usize) -> u64
@@ -172,7 +164,7 @@ pub fn seen_of(names: &[u32], sees: &[u64], k: usize, y: u32, v: &[u16]) -> u64
     let mut seen: u64 = 0;
     let mut left = first(k);
     while left != 0 {
-        let i = last_of(left);
+        let i = group_step::highest(left);
         let own = group_step::only(i);
         let mut known = own;
         if is_seen(names[i], y, v) {

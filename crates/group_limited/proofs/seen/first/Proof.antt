@@ -1,11 +1,10 @@
 -- `group_limited::seen::first` meets its contract. Assumes nothing.
 use mathlib.Core.Path.{_≡_, ap, _∙_}
-use Prim.Native.Nat.{ℕ, suc, _+_, _-_, _*_, _^_, _≤_}
+use Prim.Native.Nat.{ℕ, suc, _-_, _*_, _^_, _≤_}
 use native.Mathlib.Nat.{pow-suc}
 use native.Mathlib.Omega.{arith}
 use lib.Pow.{pow-pos, pow-mono}
-use Rattle.group_limited.proofs.SeenThrough.{first-bits}
-use borrow.Author.Needs.{needs}
+use Rattle.group_context.proofs.MaskFromBits.{first-bits}
 use Rattle.group_limited.proofs.seen.first.Statement.{statement}
 use Rattle.group_limited.proofs.seen.first.Tie as tie
 
