@@ -3,10 +3,8 @@ use edit_walk::PLACES;
 use group_step::GROUPS;
 use group_step::OBJECTS;
 use group_step::SETS;
-use list_line::BUFFER;
-use list_line::pieces::PIECE;
-use list_line::pieces::PIECES;
-use list_line::put_line;
+use list_line::LINE;
+use list_line::alone::put_lone_line;
 use list_objects::Gathered;
 use list_objects::gather;
 use list_objects::order::sort_objects;
@@ -21,7 +19,7 @@ use table_output::put_at;
 ghost use mathlib.Core.Path.{_≡_};
 ghost use mathlib.Core.Bool.{true};
 ghost use mathlib.Core.List.{[]};
-ghost use Prim.Native.Nat.{_+_, _≤_, _<_};
+ghost use Prim.Native.Nat.{_≤_, _<_};
 ghost use lib.ListN.{length, getD, take};
 ghost use Rattle.math_lists.specs.NumbersBelow.{sum};
 ghost use Rattle.edit_walk.specs.WalkForms.{Indexed};
@@ -31,7 +29,6 @@ ghost use Rattle.table_drawing.specs.AnswerNumbers.{numberOf};
 ghost use Rattle.table_soundness.specs.Sound.{sound};
 ghost use Rattle.table_output.specs.Output.{writing};
 ghost use Rattle.list_line.specs.Line.{lineLength};
-ghost use Rattle.list_line.specs.LineForms.{pieceLength};
 ghost use Rattle.list_lines.specs.List.{linesFor, linesOf};
 ghost use Rattle.list_lines.specs.LineByNumber.{lineOf};
 ghost use Rattle.list_lines.specs.LinesForms.{LongEnough, lineIn, headOf, FoundIn, NumberedAs};
@@ -129,21 +126,14 @@ fn put_version(
 ) -> usize
     requires { ⌜ LongEnough g (now disputes) (now stamps) (now keyed) (now versions)
         × (v < mostGroups)
-        × (lineLength + pieceLength ≤ length (now out)) ⌝ }
+        × (lineLength ≤ length (now out)) ⌝ }
     ensures { λ r.
         ⌜ (take r (now (out .exit))
         ≡ lineIn g (now (disputes .entry)) (now (stamps .entry)) (getD (now (versions .entry)) v 0))
         × (r ≤ lineLength) ⌝ }
 {
-    // what work space holds at first does not matter; zeros would be set by memset (docs/DECISIONS.md, 24)
-    let mut texts = [1u8; PIECES * PIECE];
-    let mut lens = [0u8; PIECES];
-    let mut told = [0u64; PIECES];
-    put_line(
+    put_lone_line(
         out,
-        &mut texts,
-        &mut lens,
-        &mut told,
         g.site,
         g.seq,
         disputes,
@@ -169,7 +159,7 @@ fn put_found(
     requires { ⌜ (sound (tablesOf c (now records) (now objects) (now groups)) ≡ true)
         × (o < c .objects)
         × (v < length (linesFor (tablesOf c (now records) (now objects) (now groups)) o))
-        × (lineLength + pieceLength ≤ length (now out)) ⌝ }
+        × (lineLength ≤ length (now out)) ⌝ }
     ensures { λ r. ⌜ (take r (now (out .exit))
         ≡ getD (linesFor (tablesOf c (now (records .entry)) (now (objects .entry)) (now (groups .entry))) o) v [])
         × (r ≤ lineLength) ⌝ }
@@ -208,7 +198,7 @@ fn put_numbered(
 ) -> PutLine
     requires { ⌜ (sound (tablesOf c (now records) (now objects) (now groups)) ≡ true)
         × Indexed (now records) (c .records) (now places)
-        × (lineLength + pieceLength ≤ length (now out)) ⌝ }
+        × (lineLength ≤ length (now out)) ⌝ }
     ensures { λ r. ⌜ NumberedAs
         (linesOf (tablesOf c (now (records .entry)) (now (objects .entry)) (now (groups .entry))))
         k r (now (out .exit)) ⌝ }
@@ -250,7 +240,7 @@ pub fn print_line(
             bytes: 0,
         };
     }
-    let mut line = [0u8; BUFFER];
+    let mut line = [1u8; LINE];
     let r = put_numbered(&mut line, c, records, objects, groups, &places, k);
     if !r.ok {
         return Written {
