@@ -119,7 +119,8 @@ fn sight_of(recs: &[u8], places: &[u16], names: &[u32], sees: &[u64], k: usize, 
         (SightOf (setsIn (now (recs .entry)) (now (places .entry)) k) (decodeOf (now (rec .entry))) r) ⌝ }
 {
     let m = marks_of(recs, places, names, sees, k, rec);
-    let l = list_of(names, k, m.seen, rec);
+    // lent on as parts: else a note of where each lies is copied before anything is done, and waited for
+    let l = list_of(&names[0..], k, m.seen, &rec[0..]);
     Sight {
         plain: m.plain,
         seen: m.seen,
