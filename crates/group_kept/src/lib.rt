@@ -1,5 +1,5 @@
-// The rows of one box that has a limited Set, kept from one Set to the next: all of them in one slice, with the names of
-// the Sets beside them. A Set that arrives is judged by them and then put down behind the others, so that nothing is
+// The rows of one box that has a limited Set, kept from one Set to the next: all of them in one slice, with the names
+// of the Sets beside them. A Set that arrives is judged by them and then put down behind the others, so that nothing is
 // worked out twice.
 use edit_record::AT_KIND;
 use edit_record::LIMITED;
@@ -7,7 +7,7 @@ use group_limited::Judged;
 use group_limited::RECENT;
 use group_limited::Sight;
 use group_limited::Told;
-use group_limited::earlier::list_of;
+use group_limited::earlier::listed_among;
 use group_limited::earlier::name_of;
 use group_limited::earlier::vector_in;
 use group_limited::left_by;
@@ -115,13 +115,22 @@ fn sight_with(names: &[u32], sees: &[u64], k: usize, rec: &[u8], plain: u64) -> 
     let v = vector_in(rec);
     let own = name_of(rec);
     let seen = seen_of(names, sees, k, own, &v);
-    let l = list_of(names, k, seen, rec);
+    if edit_record::byte_at(rec, AT_KIND) != LIMITED {
+        return Sight {
+            plain,
+            seen,
+            named: 0,
+            strange: false,
+            limited: false,
+        };
+    }
+    let l = listed_among(names, k, seen, rec);
     Sight {
         plain,
         seen,
         named: l.named,
         strange: l.strange,
-        limited: edit_record::byte_at(rec, AT_KIND) == LIMITED,
+        limited: true,
     }
 }
 

@@ -202,7 +202,7 @@ fn member_of(rec: &[u8], count: u16, i: usize) -> u32
 
 // Of the k first names those that a limited Set lists, and whether it lists one that is that of none of the members of
 // `seen`.
-fn listed_among(names: &[u32], k: usize, seen: u64, rec: &[u8]) -> Listed
+pub fn listed_among(names: &[u32], k: usize, seen: u64, rec: &[u8]) -> Listed
     requires { ⌜ (k ≤ mostSets) × (k ≤ length (now names)) × (isLimited (decodeOf (now rec)) ≡ true) ⌝ }
     ensures { λ r.
         ⌜ (r .named ≡ mask k (λ i. elem (getD (now (names .entry)) i 0) (listedBy (decodeOf (now (rec .entry))))))

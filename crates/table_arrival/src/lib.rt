@@ -26,7 +26,7 @@ ghost use Rattle.edit_record.specs.RecordBytes.{decodeOf, spanOf};
 ghost use Rattle.edit_history.specs.EditsHeld.{mostRecords, editsOf, setsOn};
 ghost use Rattle.edit_history.specs.SurveyForms.{SurveyedOf};
 ghost use Rattle.group_step.specs.GroupRows.{mostObjects, mostSets};
-ghost use Rattle.group_limited.specs.LimitedForms.{JudgedWhere};
+ghost use Rattle.group_limited.specs.LimitedForms.{JudgedOf, JudgedWhere};
 ghost use Rattle.table_drawing.specs.Tables.{tablesOf, recordsLength, objectsLength};
 ghost use Rattle.table_drawing.specs.AnswerNumbers.{outcomeOf, numberOf};
 ghost use Rattle.table_arrival.specs.Answers6and7.{firstOf, inTurn};
@@ -287,9 +287,27 @@ fn take_layer(c: Counters, records: &mut [u8], rec: &[u8], s: Site) -> Counters
     counted_with(c, s, rec, 0)
 }
 
+// What is judged of an arriving record by the rows of its box, where the first n records are held: the places of the
+// box's Sets are looked for.
+fn judge_by_rows(recs: &[u8], n: usize, rec: &[u8]) -> Judged
+    requires { ⌜ (n ≤ mostRecords)
+        × (length (setsOn (decodeOf (now rec) .tsite) (decodeOf (now rec) .tseq) (editsOf (now recs) n)) ≤ mostSets) ⌝ }
+    ensures { λ r. ⌜ JudgedOf
+        (setsOn (decodeOf (now (rec .entry)) .tsite) (decodeOf (now (rec .entry)) .tseq)
+        (editsOf (now (recs .entry)) n))
+        (decodeOf (now (rec .entry))) r ⌝ }
+{
+    let e = edit_record::decode(rec);
+    // what work space holds at first does not matter; zeros would be set by memset (docs/DECISIONS.md, 24)
+    let mut places = [1u16; SETS];
+    let k = edit_object::put_places(&mut places, recs, n, e.tsite, e.tseq);
+    group_limited::judge(recs, &places, k, rec)
+}
+
 // What is judged of an arriving record with its survey v, where the first n records are held. Where no Set of its
-// object is limited, and it is not, document 01's conflicts are all that there are; else the places of those Sets are
-// looked for. One whose object is not held is not judged.
+// object is limited, and it is not, document 01's conflicts are all that there are. One whose object is not held is not
+// judged. The rows are asked for in two places, so that their work space is no part of an arrival's, in which soundness
+// was tested before.
 pub fn judge(recs: &[u8], n: usize, rec: &[u8], v: Surveyed) -> Judged
     requires { ⌜ (n ≤ mostRecords)
         × (length (setsOn (decodeOf (now rec) .tsite) (decodeOf (now rec) .tseq) (editsOf (now recs) n)) ≤ mostSets)
@@ -300,17 +318,16 @@ pub fn judge(recs: &[u8], n: usize, rec: &[u8], v: Surveyed) -> Judged
         (decodeOf (now (rec .entry))) r ⌝ }
 {
     let limited = edit_record::byte_at(rec, AT_KIND) == LIMITED;
-    if !(v.found & (limited | v.limited)) {
-        return Judged {
-            nameless: false,
-            conflicts: v.plain,
-        };
+    if v.found & limited {
+        return judge_by_rows(recs, n, rec);
     }
-    let e = edit_record::decode(rec);
-    // what work space holds at first does not matter; zeros would be set by memset (docs/DECISIONS.md, 24)
-    let mut places = [1u16; SETS];
-    let k = edit_object::put_places(&mut places, recs, n, e.tsite, e.tseq);
-    group_limited::judge(recs, &places, k, rec)
+    if v.found & v.limited {
+        return judge_by_rows(recs, n, rec);
+    }
+    Judged {
+        nameless: false,
+        conflicts: v.plain,
+    }
 }
 
 // An arrival, at tables that are known to be sound, as those that an arrival left are, of a record to which none of 1

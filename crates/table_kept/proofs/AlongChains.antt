@@ -169,7 +169,8 @@ module _ (rs : List ℕ) (q : ℕ) where
   ]
 
   -- its number is within what there is room for
-  pub rank-fits : (n p : ℕ) → p < n → isOn rs q p ≡ true → length (placesOn rs n q) ≤ mostSets → rankOf rs q p < mostSets
+  pub rank-fits : (n p : ℕ) → p < n → isOn rs q p ≡ true → length (placesOn rs n q) ≤ mostSets → rankOf rs q p <
+      mostSets
   rank-fits n p l on narrow = omega (arith, rank-less p n on l, narrow)
 
 -- ---- the chains of the box that an edit targets

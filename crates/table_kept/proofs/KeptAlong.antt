@@ -72,7 +72,8 @@ pub kept-all :
     (eqb (getD ns siteAt 0) (s .0) && eqb (getD ns seqAt 0) (q .0) && eqb (getD ns countAt 0) k) ≡ true →
     TellOf (setsOn s q es) ns rows
 kept-all es ns rows h s q k all t =
-    let (t2, count) = both (eqb (getD ns siteAt 0) (s .0) && eqb (getD ns seqAt 0) (q .0)) (eqb (getD ns countAt 0) k) t in
+    let (t2, count) = both (eqb (getD ns siteAt 0) (s .0) && eqb (getD ns seqAt 0) (q .0)) (eqb (getD ns countAt 0) k)
+    t in
     let (site, seq) = both (eqb (getD ns siteAt 0) (s .0)) (eqb (getD ns seqAt 0) (q .0)) t2 in
     let is = eqb-true (getD ns countAt 0) k count in
     let (_, tell) = h .first s q (sym (eqb-true (getD ns siteAt 0) (s .0) site))

@@ -58,8 +58,8 @@ fn take_next(
         (now (rec .entry)) (numberOf (r .answer))
         (tablesOf (r .counters) (now (records .exit)) (now (objects .exit)) (now (groups .exit)))
         (now (places .entry)) (now (places .exit)) (now (numbers .exit)) (now (counts .exit)) (now (chains .exit))
-        × KeptFor (editsOf (now (records .entry)) (c .records) ++ (decodeOf (now (rec .entry)) ∷ [])) (now (names .exit))
-        (now (rows .exit)) ⌝ }
+        × KeptFor (editsOf (now (records .entry)) (c .records) ++ (decodeOf (now (rec .entry)) ∷ []))
+        (now (names .exit)) (now (rows .exit)) ⌝ }
 {
     let early = asked::one_to_three(c, rec);
     if table_drawing::number(early) != 0 {

@@ -63,7 +63,8 @@ returns c =
           record {
             row = seen .plain;
             context =
-                c .left-by .ensures ms e few (subst (RowsTell ms rows) (sym (rest-is contextsAt rows)) (kept .tell)) seen
+                c .left-by .ensures ms e few (subst (RowsTell ms rows) (sym (rest-is contextsAt rows)) (kept .tell))
+                seen
                 ∙ left-one-more ms e proper;
             seen = seen .seen;
           },

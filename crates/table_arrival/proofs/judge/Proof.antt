@@ -1,75 +1,60 @@
 -- `table_arrival::judge` meets its contract. Assumes nothing.
-use mathlib.Core.Path.{_≡_, subst, ap, _∙_}
-use mathlib.Core.List.{List}
-use Prim.Native.Nat.{_≤_}
-use lib.ListN.{length}
+use mathlib.Core.Path.{_≡_, refl, sym, ap, _∙_}
+use mathlib.Core.Bool.{Bool, true, false, not, _&&_, _||_}
+use Prim.Native.Nat.{ℕ}
+use lib.Dec.{eqb}
 use denote.Ref.{now}
 use borrow.Author.Needs.{needs}
-use Rattle.edit_record.specs.declared.Edit.{Edit}
+use Rattle.edit_record.specs.Layout.{limitedKind}
 use Rattle.edit_record.specs.RecordBytes.{decodeOf}
-use Rattle.edit_history.specs.EditsHeld.{editsOf, setsOn}
-use Rattle.group_step.specs.GroupRows.{mostSets}
-use Rattle.group_limited.specs.LimitedForms.{JudgedOf}
+use Rattle.edit_record.specs.Answer1.{isLimited}
+use Rattle.edit_history.specs.EditsHeld.{editsOf}
 use Rattle.table_arrival.proofs.JudgedPlainly.{judged-plainly}
 use Rattle.table_arrival.proofs.judge.Statement.{statement}
 use Rattle.table_arrival.proofs.judge.Tie as tie
 
+-- neither of the two tests holds
+neither-asked : (f a b : Bool) → (f && a) ≡ false → (f && b) ≡ false → not (f && (a || b)) ≡ true
+neither-asked false a b g h = refl
+neither-asked true a b g h = rw (g, h)
+
 byte-at-requires : tie.Need-byte-at-requires
 byte-at-requires c κs = search needs
 
+judge-by-rows-requires : tie.Need-judge-by-rows-requires
+judge-by-rows-requires c κs = search needs
+
 returns : tie.Need-returns
 returns c =
-    let s = c .before .before .before .before .before .before in
-    let a = s .args in
-    judged-plainly (editsOf (now (a .recs)) (a .n)) (decodeOf (now (a .rec))) (a .v) (s .pre .2)
-    (rw (c .before .before .before .byte-at .ensures) at (c .if1 .taken))
+    let judged = c .judge-by-rows .ensures in
+    record { nameless = λ asked. judged .nameless; conflicts = λ found. judged .conflicts }
 
-decode-requires : tie.Need-decode-requires
-decode-requires c κs = search needs
-
-slice-aggregate-put-places : tie.Need-slice-aggregate-put-places
-slice-aggregate-put-places c = search needs
-
-put-places-requires : tie.Need-put-places-requires
-put-places-requires c κs =
-    let s = c .before .before .before .before .before .before .before .before in
-    (s .pre .0, rw (c .before .decode .ensures) (s .pre .1))
-
-slice-aggregate-judge : tie.Need-slice-aggregate-judge
-slice-aggregate-judge c = search needs
-
-judge-requires : tie.Need-judge-requires
-judge-requires c κs =
-    let p = c .before .before .put-places in
-    let s = c .before .before .before .before .before .before .before .before .before .before .before in
-    let few : p .result ≤ mostSets
-    = rw (p .ensures .1, c .before .before .before .before .decode .ensures) (s .pre .1) in
-    (few, search (needs, few))
+judge-by-rows-requires-2 : tie.Need-judge-by-rows-requires-2
+judge-by-rows-requires-2 c κs = search needs
 
 returns-2 : tie.Need-returns-2
 returns-2 c =
-    let s = c .before .before .before .before .before .before .before .before .before .before .before .before in
-    let a = s .args in
-    let es = editsOf (now (a .recs)) (a .n) in
-    let e = c .before .before .before .before .before .decode in
-    let own = decodeOf (now (a .rec)) in
-    let of : JudgedOf (setsOn (e .result .tsite) (e .result .tseq) es) own (c .judge .result)
-    = subst (λ (ms : List Edit). JudgedOf ms own (c .judge .result))
-    (c .before .before .before .put-places .ensures .0)
-    (c .judge .ensures) in
-    let judged = subst (λ (x : Edit). JudgedOf (setsOn (x .tsite) (x .tseq) es) own (c .judge .result)) (e .ensures)
-    of in
+    let judged = c .judge-by-rows2 .ensures in
     record { nameless = λ asked. judged .nameless; conflicts = λ found. judged .conflicts }
+
+returns-3 : tie.Need-returns-3
+returns-3 c =
+    let s = c .before .before .before .before .before .before .before in
+    let a = s .args in
+    let e = decodeOf (now (a .rec)) in
+    let first : (a .v .found && isLimited e) ≡ false
+    = ap (λ (x : ℕ). a .v .found && eqb x limitedKind) (sym (c .before .before .before .before .byte-at .ensures))
+    ∙ c .before .before .if1 .left in
+    judged-plainly (editsOf (now (a .recs)) (a .n)) e (a .v) (s .pre .2)
+    (neither-asked (a .v .found) (isLimited e) (a .v .limited) first (c .if2 .left))
 
 pub judge-spec : {M : Type 1} → statement M
 judge-spec =
     tie.close
     (tie.spec
     byte-at-requires
+    judge-by-rows-requires
     returns
-    decode-requires
-    slice-aggregate-put-places
-    put-places-requires
-    slice-aggregate-judge
-    judge-requires
-    returns-2)
+    judge-by-rows-requires-2
+    returns-2
+    returns-3)

@@ -25,7 +25,8 @@ make-ready-requires c κs =
 
 judge-requires : tie.Need-judge-requires
 judge-requires c κs =
-    let s = c .before .before .before .before .before .before .before .before .before .before .before .before .before .before .before .before in
+    let s = c .before .before .before .before .before .before .before .before .before .before .before .before .before
+    .before .before .before in
     let a = s .args in
     let e = decodeOf (now (a .rec)) in
     let es = editsOf (now (a .recs)) (a .n) in
@@ -45,8 +46,11 @@ told-after-requires c κs = search needs
 
 put-box-requires : tie.Need-put-box-requires
 put-box-requires c κs =
-    let s = c .before .before .before .before .before .before .before .before .before .before .before .before .before .before .before .before .before .before .before .before .before .before .before .before in
-    c .before .before .before .before .before .before .before .judge .kept .1 .0 ∙ c .before .before .before .before .before .before .before .before .before .before .before .before .before .before .make-ready .kept .1 .0 ∙ s .pre .3 .names-long
+    let s = c .before .before .before .before .before .before .before .before .before .before .before .before .before
+    .before .before .before .before .before .before .before .before .before .before .before in
+    c .before .before .before .before .before .before .before .judge .kept .1 .0 ∙ c .before .before .before .before
+    .before .before .before .before .before .before .before .before .before .before .make-ready .kept .1 .0 ∙ s .pre
+    .3 .names-long
 
 same-length : tie.Need-same-length
 same-length c = search needs
@@ -56,20 +60,23 @@ same-length-2 c = search needs
 
 returns : tie.Need-returns
 returns c =
-    let s = c .before .before .before .before .before .before .before .before .before .before .before .before .before .before .before .before .before .before .before .before .before .before .before .before .before .before .before in
+    let s = c .before .before .before .before .before .before .before .before .before .before .before .before .before
+    .before .before .before .before .before .before .before .before .before .before .before .before .before .before in
     let a = s .args in
     let e = decodeOf (now (a .rec)) in
     let es = editsOf (now (a .recs)) (a .n) in
     let ms = setsOn (e .tsite) (e .tseq) es in
     let (sets, plain) = surveyed-sets es e (a .v) (s .pre .1) (s .pre .2) in
-    let ready = c .before .before .before .before .before .before .before .before .before .before .before .before .before .before .before .before .before .make-ready in
+    let ready = c .before .before .before .before .before .before .before .before .before .before .before .before
+    .before .before .before .before .before .make-ready in
     let j = c .before .before .before .before .before .before .before .before .before .before .judge in
     let (judged, put) = j .ensures ms (sym sets) (ready .ensures .names) (ready .ensures .told) plain in
     let ln = j .kept .1 .0 ∙ ready .kept .1 .0 ∙ s .pre .3 .names-long in
     let lr = j .kept .0 ∙ ready .kept .0 ∙ s .pre .3 .rows-long in
     let after : length ms < mostSets → TellOf (ms ++ (e ∷ [])) (j .last .1 .0) (j .last .0)
     = λ few. let (names, told) = put (rw sets few) in record { names = names; told = told } in
-    let count = rw (c .before .before .before .before .before .byte-at .ensures, sets) at (c .before .before .before .before .told-after .ensures) in (
+    let count = rw (c .before .before .before .before .before .byte-at .ensures, sets) at (c .before .before .before
+    .before .told-after .ensures) in (
       record { nameless = λ asked. judged .nameless; conflicts = λ found. judged .conflicts },
       subst (λ (ns : List ℕ). KeptFor (es ++ (e ∷ [])) ns (j .last .0))
           (sym (c .before .before .put-box .ensures ∙ ap (boxed (j .last .1 .0) e) count))

@@ -22,7 +22,8 @@ use Rattle.table_kept.proofs.make_ready.Tie as tie
 -- the chains of the box, where the code finds it
 chains-at :
     (c : tie.After-place-at) →
-    (let a = c .before .before .before .before .before .before .before .before .before .before .before .before .before .args in
+    (let a = c .before .before .before .before .before .before .before .before .before .before .before .before .before
+    .args in
     ChainsOn (now (a .recs)) (a .n) (now (a .numbers)) (now (a .chains)) (c .place-at .result)
     × (map (recordAt (now (a .recs))) (placesOn (now (a .recs)) (a .n) (c .place-at .result))
     ≡ setsOn (decodeOf (now (a .rec)) .tsite) (decodeOf (now (a .rec)) .tseq) (editsOf (now (a .recs)) (a .n))))
@@ -32,7 +33,8 @@ chains-at c =
     let e = decodeOf (now (a .rec)) in
     let is : c .place-at .result ≡ placeOf (now (a .places)) (e .tsite .0) (e .tseq .0)
     = c .place-at .ensures
-    ∙ ap₂ (placeOf (now (a .places))) (c .before .before .before .before .before .byte-at .ensures) (c .before .before .before .before .two-at .ensures) in
+    ∙ ap₂ (placeOf (now (a .places))) (c .before .before .before .before .before .byte-at .ensures) (c .before .before
+    .before .before .two-at .ensures) in
     subst
     (λ (q : ℕ). ChainsOn (now (a .recs)) (a .n) (now (a .numbers)) (now (a .chains)) q
     × (map (recordAt (now (a .recs))) (placesOn (now (a .recs)) (a .n) q)
@@ -68,7 +70,8 @@ cast-at c = search needs
 
 put-anew-requires : tie.Need-put-anew-requires
 put-anew-requires c κs =
-    let s = c .before .before .before .before .before .before .before .before .before .before .before .before .before .before .before in
+    let s = c .before .before .before .before .before .before .before .before .before .before .before .before .before
+    .before .before in
     let rs = now (s .args .recs) in
     let h = s .pre .3 in
     let (chains, sets) = chains-at (c .before .before) in (
@@ -88,7 +91,8 @@ same-length-2 c = search needs
 returns : tie.Need-returns
 returns c =
     let p = c .before .before .before .before .put-anew in
-    subst (λ (ms : List Edit). TellOf ms (p .last .1 .0) (p .last .0)) (chains-at (c .before .before .before .before .before .before .before) .1)
+    subst (λ (ms : List Edit). TellOf ms (p .last .1 .0) (p .last .0)) (chains-at (c .before .before .before .before
+    .before .before .before) .1)
     (p .ensures)
 
 same-length-3 : tie.Need-same-length-3

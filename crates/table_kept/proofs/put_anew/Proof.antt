@@ -38,7 +38,8 @@ slice-aggregate-put-rows c = search needs
 
 put-rows-requires : tie.Need-put-rows-requires
 put-rows-requires c κs =
-    let s = c .before .before .before .before .before .before .before .before .before .before .before .before .before .before .before .before in
+    let s = c .before .before .before .before .before .before .before .before .before .before .before .before .before
+    .before .before .before in
     let m = c .before .before .before .before .before .put-names in (
       few s,
       omega (arith, few s),
@@ -55,11 +56,13 @@ same-length-2 c = search needs
 
 returns : tie.Need-returns
 returns c =
-    let s = c .before .before .before .before .before .before .before .before .before .before .before .before .before .before .before .before .before .before .before in
+    let s = c .before .before .before .before .before .before .before .before .before .before .before .before .before
+    .before .before .before .before .before .before in
     let a = s .args in
     let rs = now (a .recs) in
     let m = c .before .before .before .before .before .before .before .before .put-names in
-    let p = c .before .before .before .before .before .before .before .before .before .before .before .before .put-chains in
+    let p = c .before .before .before .before .before .before .before .before .before .before .before .before
+    .put-chains in
     let those = ap (map (recordAt rs)) (rw (← s .pre .1) at (p .ensures)) in
     subst (λ (ms : List Edit). TellOf ms (m .last .0) (c .before .before .put-rows .last .0)) those
     (record {

@@ -217,7 +217,8 @@ same-length-18 c = search needs
 returns-3 : tie.Need-returns-3
 returns-3 c =
     let s8 = c .before .before .before .before .before .before .before .before in
-    let refused : numberOf (s8 .accept .result .answer) ≡ 0 → ⊥ = λ z. c .if2 .left (c .before .number2 .ensures ∙ z) in (
+    let refused : numberOf (s8 .accept .result .answer) ≡ 0 → ⊥ = λ z. c .if2 .left (c .before .number2 .ensures ∙ z)
+    in (
       record {
         outcome = s8 .accept .ensures;
         index = λ z. absurd (refused z);

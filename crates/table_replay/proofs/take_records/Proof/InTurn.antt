@@ -38,8 +38,8 @@ abbrev pub counted-in : ℕ → List ℕ → ℕ → ℕ → ℕ
 counted-in form recs n s = countFrom s (editsIn (storedIn form recs) n)
 
 abbrev pub Inv-loop : tie.InvT-loop
-Inv-loop sites records₀ objects₀ groups₀ places₀ numbers₀ counts₀ chains₀ rows₀ names₀ recs form n held₀ m₀ sum₀ at₀ i₀ records
-    objects groups places numbers counts chains rows names held m sum at i =
+Inv-loop sites records₀ objects₀ groups₀ places₀ numbers₀ counts₀ chains₀ rows₀ names₀ recs form n held₀ m₀ sum₀ at₀
+    i₀ records objects groups places numbers counts chains rows names held m sum at i =
     (i ≤ n)
     × (at ≡ startOf form recs i)
     × Going sites (storedIn form recs) i (tablesOf (countersOf sites i m held sum) records objects groups)
@@ -48,8 +48,8 @@ Inv-loop sites records₀ objects₀ groups₀ places₀ numbers₀ counts₀ ch
     × KeptFor (editsIn (storedIn form recs) i) names rows
 
 abbrev pub μ-loop : tie.MeasureT-loop
-μ-loop sites records₀ objects₀ groups₀ places₀ numbers₀ counts₀ chains₀ rows₀ names₀ recs form n held₀ m₀ sum₀ at₀ i₀ records
-    objects groups places numbers counts chains rows names held m sum at i =
+μ-loop sites records₀ objects₀ groups₀ places₀ numbers₀ counts₀ chains₀ rows₀ names₀ recs form n held₀ m₀ sum₀ at₀ i₀
+    records objects groups places numbers counts chains rows names held m sum at i =
     n - i
 
 -- ---- where things stand
