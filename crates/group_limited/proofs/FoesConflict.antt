@@ -74,4 +74,5 @@ foe-conflicts x s a e name side unseen =
       unseen,
       same-symmetric (e .site) (e .seq) (a .site) (a .seq),
     )
-    (unseen-tells (isSet a) (isSet e) same (hasSeen (a .vector) (e .site) (e .seq)) target (eqb (a .key) (e .key)) other)
+    (unseen-tells (isSet a) (isSet e) same (hasSeen (a .vector) (e .site) (e .seq)) target (eqb (a .key) (e .key))
+    other)

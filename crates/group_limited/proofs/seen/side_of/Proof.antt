@@ -1,4 +1,5 @@
--- `group_limited::seen::side_of` meets its contract, for a record that is there whole and for any other. Assumes nothing.
+-- `group_limited::seen::side_of` meets its contract, for a record that is there whole and for any other. Assumes
+-- nothing.
 use mathlib.Core.Path.{_≡_, refl, sym, subst}
 use denote.Ref.{now}
 use Rattle.edit_record.specs.RecordBytes.{decodeOf}
