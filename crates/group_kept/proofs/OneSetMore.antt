@@ -38,8 +38,10 @@ module _ (ms : List Edit) (e : Edit) (p : Proper (ms ++ (e ∷ []))) where
 
   pub left-one-more : whatIsLeft (boxOn (ms ++ (e ∷ []))) (length ms) ≡ context (boxOn (ms ++ (e ∷ []))) (length ms)
   left-one-more =
-      left-told ms e lawful-one-more (first-proper ms (e ∷ []) p .named) (p .named (length ms) (omega (arith,
-          one-more)))
+      left-told ms e lawful-one-more (first-proper ms (e ∷ []) p .named) (p .named (length ms) (omega (
+        arith,
+        one-more,
+      )))
 
 -- the names with that of one Set more
 pub names-one-more :

@@ -189,15 +189,5 @@ pub fn judge(
             conflicts: v.plain,
         };
     }
-    judge_by_rows(
-        rows,
-        names,
-        recs,
-        n,
-        places,
-        numbers,
-        chains,
-        rec,
-        v,
-    )
+    judge_by_rows(rows, names, recs, n, places, numbers, chains, rec, v)
 }

@@ -42,18 +42,18 @@ returns c ms size names kept its =
         conflicts = λ p law. told ms size names (kept p) its law .conflicts (p .named);
       },
       λ few. (
-          names-one-more (now (a .names)) ms e (a .k) _ size (omega (arith, few, s .pre .1)) names
-              (c .before .before .before .before .name-of .ensures),
-          λ p.
-              let first = first-proper ms (e ∷ []) p in
-              let t = told ms size names (kept first) its (lawful-one-more ms e p) in
-              c .before .before .put-down .ensures ms e size (kept first)
-              (record {
-                row = t .row;
-                context =
-                    t .context (first .named) (p .named (length ms) (omega (arith, length-append ms (e ∷ []))));
-                seen = t .seen;
-              }),
+        names-one-more (now (a .names)) ms e (a .k) _ size (omega (arith, few, s .pre .1)) names
+            (c .before .before .before .before .name-of .ensures),
+        λ p.
+            let first = first-proper ms (e ∷ []) p in
+            let t = told ms size names (kept first) its (lawful-one-more ms e p) in
+            c .before .before .put-down .ensures ms e size (kept first)
+            (record {
+              row = t .row;
+              context =
+                  t .context (first .named) (p .named (length ms) (omega (arith, length-append ms (e ∷ []))));
+              seen = t .seen;
+            }),
       ),
     )
 

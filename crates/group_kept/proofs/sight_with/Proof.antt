@@ -40,14 +40,14 @@ returns c =
     ap (λ (x : ℕ). eqb x limitedKind) (sym (c .before .byte-at .ensures)) ∙ ne-eqb _ limitedKind (c .if1 .taken) in (
       refl,
       λ ms size names its tell law. record {
-          plain = its;
-          seen =
-              c .before .before .seen-of .ensures ms e size names
-              (c .before .before .before .before .name-of .ensures)
-              (sym (c .before .before .before .before .before .vector-in .ensures)) tell law;
-          named = plain-names-none ms (a .k) size e none;
-          limited = sym none;
-          strange = λ y. clash y none;
+        plain = its;
+        seen =
+            c .before .before .seen-of .ensures ms e size names
+            (c .before .before .before .before .name-of .ensures)
+            (sym (c .before .before .before .before .before .vector-in .ensures)) tell law;
+        named = plain-names-none ms (a .k) size e none;
+        limited = sym none;
+        strange = λ y. clash y none;
       },
     )
 

@@ -52,8 +52,8 @@ loop-again c =
       omega (arith, more),
       h .long ∙ l .inv .1,
       λ x low on key. elim (last {i = recordAt rs x .key} {n = l .y} (omega (arith, key))) [
-          | inl m ↦ h .others x low on (λ z. omega arith) ∙ l .inv .2 x low on m
-          | inr z ↦ h .put x low on z (omega arith)
+        | inl m ↦ h .others x low on (λ z. omega arith) ∙ l .inv .2 x low on m
+        | inr z ↦ h .put x low on z (omega arith)
       ],
     )
 
