@@ -1,4 +1,4 @@
--- `table_arrival::judge_by_rows` meets its contract. Assumes nothing.
+-- `table_arrival::judging::judge_by_rows` meets its contract. Assumes nothing.
 use mathlib.Core.Path.{subst}
 use mathlib.Core.List.{List}
 use Prim.Native.Nat.{_≤_}
@@ -9,8 +9,8 @@ use Rattle.edit_record.specs.RecordBytes.{decodeOf}
 use Rattle.edit_history.specs.EditsHeld.{editsOf, setsOn}
 use Rattle.group_step.specs.GroupRows.{mostSets}
 use Rattle.group_limited.specs.LimitedForms.{JudgedOf}
-use Rattle.table_arrival.proofs.judge_by_rows.Statement.{statement}
-use Rattle.table_arrival.proofs.judge_by_rows.Tie as tie
+use Rattle.table_arrival.proofs.judging.judge_by_rows.Statement.{statement}
+use Rattle.table_arrival.proofs.judging.judge_by_rows.Tie as tie
 
 decode-requires : tie.Need-decode-requires
 decode-requires c κs = search needs

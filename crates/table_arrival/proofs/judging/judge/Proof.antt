@@ -1,4 +1,4 @@
--- `table_arrival::judge` meets its contract. Assumes nothing.
+-- `table_arrival::judging::judge` meets its contract. Assumes nothing.
 use mathlib.Core.Path.{_≡_, refl, sym, ap, _∙_}
 use mathlib.Core.Bool.{Bool, true, false, not, _&&_, _||_}
 use Prim.Native.Nat.{ℕ}
@@ -10,8 +10,8 @@ use Rattle.edit_record.specs.RecordBytes.{decodeOf}
 use Rattle.edit_record.specs.Answer1.{isLimited}
 use Rattle.edit_history.specs.EditsHeld.{editsOf}
 use Rattle.table_arrival.proofs.JudgedPlainly.{judged-plainly}
-use Rattle.table_arrival.proofs.judge.Statement.{statement}
-use Rattle.table_arrival.proofs.judge.Tie as tie
+use Rattle.table_arrival.proofs.judging.judge.Statement.{statement}
+use Rattle.table_arrival.proofs.judging.judge.Tie as tie
 
 -- neither of the two tests holds
 neither-asked : (f a b : Bool) → (f && a) ≡ false → (f && b) ≡ false → not (f && (a || b)) ≡ true
