@@ -102,8 +102,8 @@ pub fn front_from(rest: &[u8], form: u8) -> [u8; RECORD]
     with_part([0u8; RECORD], 0, rest, 0, RECORD)
 }
 
-// Where that record stands as a long one: a long one where it is, an old one in its first bytes as a long one. A copy is
-// read slowly right after it was made, so what can be read where it stands is.
+// Where that record stands as a long one: a long one where it is, an old one in its first bytes as a long one. A copy
+// is read slowly right after it was made, so what can be read where it stands is.
 pub fn long_in<'a>(rest: &'a [u8], form: u8, front: &'a [u8]) -> &'a [u8]
     requires { ⌜ (lengthFrom form (now rest) ≤ length (now rest))
         × (now front ≡ take recordLength (longFrom form (now rest))) ⌝ }

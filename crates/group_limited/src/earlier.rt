@@ -223,8 +223,8 @@ pub fn listed_among(names: &[u32], k: usize, seen: u64, rec: &[u8]) -> Listed
     Listed { named, strange }
 }
 
-// Which of the k Sets with these names that of rec lists, where its author had seen the members of `seen`. A Set that is
-// not limited lists none.
+// Which of the k Sets with these names that of rec lists, where its author had seen the members of `seen`. A Set that
+// is not limited lists none.
 pub fn list_of(names: &[u32], k: usize, seen: u64, rec: &[u8]) -> Listed
     requires { ⌜ (k ≤ mostSets) × (k ≤ length (now names)) ⌝ }
     ensures { λ r.

@@ -1,4 +1,5 @@
-// What is judged of an arriving record whose object is held: whether 16 is given to it, and which Sets it conflicts with.
+// What is judged of an arriving record whose object is held: whether 16 is given to it, and which Sets it conflicts
+// with.
 use edit_history::Surveyed;
 use edit_record::AT_KIND;
 use edit_record::LIMITED;

@@ -259,7 +259,8 @@ module _
       module _ (st : Stored n m e r true os gs ns cs hs os′ gs′ ns′ cs′ hs′) where
         pub enters : Enters held rs n ps b
         enters = elim (decide (eqb (e .kind) setKind)) [
-          | inl k ↦ enter-asks _ (set-stored t b s whole (p .few) ps ns cs r f (set-by-kind k) (st .of-set k .1 refl .0))
+          | inl k ↦ enter-asks _ (set-stored t b s whole (p .few) ps ns cs r f (set-by-kind k) (st .of-set k .1
+              refl .0))
           | inr k ↦ elim (decide (isCreate e)) [
             | inl c ↦ enter-asks _ (create-stored t b s whole (p .few) ps ns cs r f c)
             | inr c ↦ enter-asks _ (layer-stored t b s whole (p .few) ps ns cs r f c (no-set-by-kind k))

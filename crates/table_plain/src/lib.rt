@@ -186,8 +186,8 @@ fn taken(m: u16, sum: u32, rec: [u8; RECORD]) -> Took
 }
 
 // Takes a record, unless it is limited, it or another Set of its object, or is refused: then nothing is changed. There
-// are n records, m objects and so many edits of each site, and this sum; the index has room for the record. What is asked
-// of it is read where it stands, and it is stored from a copy.
+// are n records, m objects and so many edits of each site, and this sum; the index has room for the record. What is
+// asked of it is read where it stands, and it is stored from a copy.
 pub fn take_plain(
     sites: u8,
     n: usize,

@@ -29,8 +29,11 @@ returns-2 c =
     let a = c .before .args in
     let s = c .before in
     let rest = now (a .rest) in
-    let long = ne-eqb (a .form) oldForm (c .if1 .left) in
-    (front-there (a .form) rest long (s .pre .0), sym (ap decodeOf (long-own (a .form) rest long) ∙ rw long (decode-own rest)))
+    let long = ne-eqb (a .form) oldForm (c .if1 .left) in (
+      front-there (a .form) rest long (s .pre .0),
+      sym (ap decodeOf (long-own (a .form) rest long) ∙ rw long
+          (decode-own rest)),
+    )
 
 pub long-in-spec : {M : Type 1} → statement M
 long-in-spec = tie.close (tie.spec returns returns-2)

@@ -1,4 +1,5 @@
--- `table_engine::put_plainly` meets its contract: after i places their Sets have their masks, and stand in the chains of
+-- `table_engine::put_plainly` meets its contract: after i places their Sets have their masks, and stand in the chains
+-- of
 -- their keys. Assumes nothing.
 use mathlib.Core.Path.{_≡_, refl, sym, ap, _∙_}
 use Prim.Native.Nat.{ℕ, _-_, _≤_}
@@ -88,7 +89,8 @@ loop-less c = search needs
 loop-again : tie.Need-loop-again Inv-loop μ-loop
 loop-again c =
     let l = c .before .before .before .before .before .before .before .before .before .before .before .before .loop in
-    let s = c .before .before .before .before .before .before .before .before .before .before .before .before .before .before .before .before in
+    let s = c .before .before .before .before .before .before .before .before .before .before .before .before
+    .before .before .before .before in
     let a = s .args in
     let t = c .before .before .before .before .before .before .before .take-set in
     let p = c .before .before .put-row in (

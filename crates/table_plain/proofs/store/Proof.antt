@@ -40,13 +40,16 @@ same-length-5 c = search needs
 
 returns : tie.Need-returns
 returns c =
-    let s = c .before .before .before .before .before .before .before .before .before .before .before .before .before .before .before .before .before .before .before .before .before .before in
+    let s = c .before .before .before .before .before .before .before .before .before .before .before .before
+    .before .before .before .before .before .before .before .before .before .before in
     let e = decodeOf (s .args .t8) in
-    let is = c .before .before .before .before .before .before .before .before .before .before .before .before .before .before .before .before .if1 .taken in
+    let is = c .before .before .before .before .before .before .before .before .before .before .before .before
+    .before .before .before .before .if1 .taken in
     let set = eq-eqb (e .kind) setKind is in
     let other : isCreate e ≡ false = rw is refl in
     record {
-      of-set = λ k. c .before .before .before .before .before .before .before .before .before .before .store-set .ensures;
+      of-set = λ k. c .before .before .before .before .before .before .before .before .before .before .store-set
+          .ensures;
       no-set = λ k. clash set k;
       of-create = λ k. clash k other;
       of-layer = λ k l. clash set l;
@@ -56,8 +59,13 @@ put-create-requires : tie.Need-put-create-requires
 put-create-requires c κs =
     let s = c .before .before .before .before .before .before .before .before .before in
     let e = decodeOf (s .args .t8) in
-    let x = s .pre .1 in
-    (s .pre .0, x .of-create (eq-eqb (e .kind) createKind (c .before .before .if2 .taken)), x .objects-long, x .numbers-long)
+    let x = s .pre .1 in (
+      s .pre .0,
+      x .of-create (eq-eqb (e .kind) createKind (c .before .before .if2 .taken)),
+      x .objects-long,
+      x
+          .numbers-long,
+    )
 
 same-length-6 : tie.Need-same-length-6
 same-length-6 c = search needs
@@ -67,10 +75,12 @@ same-length-7 c = search needs
 
 returns-2 : tie.Need-returns-2
 returns-2 c =
-    let e = decodeOf (c .before .before .before .before .before .before .before .before .before .before .before .before .before .before .args .t8) in
+    let e = decodeOf (c .before .before .before .before .before .before .before .before .before .before .before
+    .before .before .before .args .t8) in
     let create = eq-eqb (e .kind) createKind (c .before .before .before .before .before .before .before .if2 .taken) in
     record {
-      of-set = λ k. clash k (ne-eqb (e .kind) setKind (c .before .before .before .before .before .before .before .before .if1 .left));
+      of-set = λ k. clash k (ne-eqb (e .kind) setKind (c .before .before .before .before .before .before .before
+          .before .if1 .left));
       no-set = λ k. (refl, refl, refl, refl);
       of-create = λ k. c .before .before .before .before .put-create .ensures;
       of-layer = λ k l. clash create k;

@@ -51,9 +51,11 @@ fit-of c ok =
 
 look-requires : tie.Need-look-requires
 look-requires c κs =
-    let s = c .before .before .before .before .before .before .before .before .before .before .before .before .before .before .before in
+    let s = c .before .before .before .before .before .before .before .before .before .before .before .before
+    .before .before .before in
     let a = s .args in (
-      look-asks (a .sites) (a .n) (a .m) (a .sum) (now (a .held)) (now (a .records)) (now (a .objects)) (now (a .groups))
+      look-asks (a .sites) (a .n) (a .m) (a .sum) (now (a .held)) (now (a .records)) (now (a .objects)) (now (a
+          .groups))
           (now (a .places)) (now (a .numbers)) (now (a .counts)) (now (a .chains)) (a .rec) (s .pre .0) (long-of s),
       omega (arith, sound-at _ (s .pre .0 .isSound) .records-long),
       s .pre .0 .index,
@@ -101,7 +103,8 @@ store-requires c κs =
     let a = s .args in
     let ok = not-false (l .look .result .ok) (c .before .before .before .before .before .if1 .left) in (
       s .pre .0 .few,
-      store-asks (a .sites) (a .n) (a .m) (a .sum) (now (a .held)) (now (a .records)) (now (a .objects)) (now (a .groups))
+      store-asks (a .sites) (a .n) (a .m) (a .sum) (now (a .held)) (now (a .records)) (now (a .objects)) (now (a
+          .groups))
           (now (a .places)) (now (a .numbers)) (now (a .counts)) (now (a .chains)) (a .rec) (s .pre .0) (long-of s)
           (l .look .result) (fit-of l ok),
     )
@@ -142,14 +145,16 @@ returns-2 c =
     let ok = not-false (l .look .result .ok) (w .before .before .before .before .before .before .if1 .left) in
     let x = c .not-taken2 .ensures in
     rw (x .0, x .1, x .2, none-more (a .n))
-    (not-stored (a .sites) (a .n) (a .m) (a .sum) (now (a .held)) (now (a .records)) (now (a .objects)) (now (a .groups))
+    (not-stored (a .sites) (a .n) (a .m) (a .sum) (now (a .held)) (now (a .records)) (now (a .objects)) (now (a
+    .groups))
     (now (a .places)) (now (a .numbers)) (now (a .counts)) (now (a .chains)) (a .rec) (s .pre .0) (long-of s)
     (l .look .result) (fit-of l ok) _ _ _ _ _
     (rw (not-true (w .store .result) (c .before .if2 .taken)) at (w .store .ensures)))
 
 enter-requires : tie.Need-enter-requires
 enter-requires c κs =
-    let w = c .before .before .before .before .before .before .before .before .before .before .before .before .before .before in
+    let w = c .before .before .before .before .before .before .before .before .before .before .before .before
+    .before .before in
     let l = look-of w in
     let s = start-of l in
     let a = s .args in
@@ -161,7 +166,8 @@ enter-requires c κs =
 
 taken-requires : tie.Need-taken-requires
 taken-requires c κs =
-    let w = c .before .before .before .before .before .before .before .before .before .before .before .before .before .before .before .before .before .before .before .before .before in
+    let w = c .before .before .before .before .before .before .before .before .before .before .before .before
+    .before .before .before .before .before .before .before .before .before in
     let l = look-of w in
     let s = start-of l in
     let a = s .args in
@@ -199,7 +205,8 @@ same-length-22 c = search needs
 
 returns-3 : tie.Need-returns-3
 returns-3 c =
-    let w = c .before .before .before .before .before .before .before .before .before .before .before .before .before .before .before .before .before .before .before .before .before .before in
+    let w = c .before .before .before .before .before .before .before .before .before .before .before .before
+    .before .before .before .before .before .before .before .before .before .before in
     let l = look-of w in
     let s = start-of l in
     let a = s .args in
@@ -207,10 +214,12 @@ returns-3 c =
     let n = c .before .before .before .before .before .before .before .enter .ensures in
     let x = c .taken .ensures in
     rw (x .0)
-    (stored-left (a .sites) (a .n) (a .m) (a .sum) (now (a .held)) (now (a .records)) (now (a .objects)) (now (a .groups))
+    (stored-left (a .sites) (a .n) (a .m) (a .sum) (now (a .held)) (now (a .records)) (now (a .objects)) (now (a
+    .groups))
     (now (a .places)) (now (a .numbers)) (now (a .counts)) (now (a .chains)) (a .rec) (s .pre .0) (long-of s)
     (l .look .result) (fit-of l ok) _ _ _ _ _
-    (rw (not-false (w .store .result) (c .before .before .before .before .before .before .before .before .before .before .before .if2 .left)) at (w .store .ensures)) _ _ _ _ _ (n .0) (n .1) (n .2)
+    (rw (not-false (w .store .result) (c .before .before .before .before .before .before .before .before .before
+    .before .before .if2 .left)) at (w .store .ensures)) _ _ _ _ _ (n .0) (n .1) (n .2)
     (x .1) (x .2))
 
 pub take-plain-spec : {M : Type 1} → statement M

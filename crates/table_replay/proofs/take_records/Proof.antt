@@ -23,10 +23,14 @@ use Rattle.table_given.proofs.ReplayGoes.{Going}
 use Rattle.table_given.proofs.ReplayGoes.{going-ends}
 use Rattle.table_replay.proofs.ShortOrLong.{short-took, long-takes}
 use Rattle.table_replay.proofs.ShortOrLong.{going-next, parts-after, kept-next, kept-after}
-use Rattle.table_replay.proofs.take_records.Proof.InTurn.{counted-in, Inv-loop, μ-loop, start-of, round-of, short-of}
-use Rattle.table_replay.proofs.take_records.Proof.InTurn.{call-of, left-of, recs-of, form-of, given-of, tables-of}
-use Rattle.table_replay.proofs.take_records.Proof.InTurn.{inside, taken-is, lent-long, started, loop-long, call-long}
-use Rattle.table_replay.proofs.take_records.Proof.InTurn.{wide-at, takes, front-is, stands-as, as-before, held-at}
+use Rattle.table_replay.proofs.take_records.Proof.InTurn.{counted-in, Inv-loop, μ-loop}
+use Rattle.table_replay.proofs.take_records.Proof.InTurn.{start-of, round-of, short-of}
+use Rattle.table_replay.proofs.take_records.Proof.InTurn.{call-of, left-of, recs-of}
+use Rattle.table_replay.proofs.take_records.Proof.InTurn.{form-of, given-of, tables-of}
+use Rattle.table_replay.proofs.take_records.Proof.InTurn.{inside, taken-is, lent-long}
+use Rattle.table_replay.proofs.take_records.Proof.InTurn.{started, loop-long, call-long}
+use Rattle.table_replay.proofs.take_records.Proof.InTurn.{wide-at, takes, front-is}
+use Rattle.table_replay.proofs.take_records.Proof.InTurn.{stands-as, as-before, held-at}
 use Rattle.table_replay.proofs.take_records.Proof.InTurn.{long-left, long-outcome}
 use Rattle.table_replay.proofs.take_records.Statement.{statement}
 use Rattle.table_replay.proofs.take_records.Tie as tie
@@ -119,7 +123,8 @@ loop-again c =
     let w = p .before .before .before .before .before .before .before .before .before .before .before .before in
     let lv = short-took (s .args .sites) (l .i) (tables-of b) _ _ _ _ _ _ _ _ _ _ _ _ _ _ _ _ (p .take-plain .ensures)
     (c .if1 .taken) in
-    let is = front-is (p .before .before .before .before .before .before .before .before .before .before .before) (p .take-plain .ensures .plain (c .if1 .taken)) in (
+    let is = front-is (p .before .before .before .before .before .before .before .before .before .before .before)
+    (p .take-plain .ensures .plain (c .if1 .taken)) in (
       omega (arith, r .loop-test .taken),
       rw (add-one (l .i))
           (next-start (form-of b) (recs-of b) (l .i) (l .at) (l .inv .1) (w .length-from .result)

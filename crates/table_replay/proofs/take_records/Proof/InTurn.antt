@@ -58,7 +58,8 @@ abbrev pub start-of : tie.At-loop Inv-loop μ-loop → tie.Start Inv-loop μ-loo
 start-of b = b .before .before .before .before .before .before .before .before .before .before .before
 
 abbrev pub round-of : tie.After-take-plain Inv-loop μ-loop → tie.In-loop Inv-loop μ-loop
-round-of p = p .before .before .before .before .before .before .before .before .before .before .before .before .before .before
+round-of p =
+    p .before .before .before .before .before .before .before .before .before .before .before .before .before .before
 
 abbrev pub short-of : tie.After-take-one Inv-loop μ-loop → tie.After-take-plain Inv-loop μ-loop
 short-of m =
