@@ -26,19 +26,19 @@ use Rattle.table_drawing.specs.declared.Counters.{Counters}
 use Rattle.table_index.specs.IndexForms.{isOn, placesOn, isKeyed, latestOn, IndexOf, Holds}
 use Rattle.table_index.proofs.PlacesOfSets.{places-added, places-stay, places-grow, places-length}
 use Rattle.table_index.proofs.SurveyByIndex.{aimed}
-use Rattle.table_kept.specs.ChainForms.{ChainsOn, rankOf, PutFrom, IndexedIn}
+use Rattle.table_kept.specs.ChainForms.{ChainsOn, numberOn, PutFrom, IndexedIn}
 
 module _ (rs : List ℕ) (q : ℕ) where
-  rank-next : (x : ℕ) → isOn rs q x ≡ true → rankOf rs q (suc x) ≡ suc (rankOf rs q x)
+  rank-next : (x : ℕ) → isOn rs q x ≡ true → numberOn rs q (suc x) ≡ suc (numberOn rs q x)
   rank-next x h =
       omega (arith, ap length (places-added rs q x h), length-append (placesOn rs x q) (x ∷ []))
 
   -- a later Set has a larger number
-  rank-less : (x z : ℕ) → isOn rs q x ≡ true → x < z → rankOf rs q x < rankOf rs q z
+  rank-less : (x z : ℕ) → isOn rs q x ≡ true → x < z → numberOn rs q x < numberOn rs q z
   rank-less x z h l = omega (arith, rank-next x h, places-grow rs q (suc x) z l)
 
   rank-apart :
-      (x z : ℕ) → isOn rs q x ≡ true → isOn rs q z ≡ true → (x ≡ z → ⊥) → rankOf rs q x ≡ rankOf rs q z → ⊥
+      (x z : ℕ) → isOn rs q x ≡ true → isOn rs q z ≡ true → (x ≡ z → ⊥) → numberOn rs q x ≡ numberOn rs q z → ⊥
   rank-apart x z hx hz d e = go (decLt x z)
     where
       go : Dec (x < z) → ⊥
@@ -111,17 +111,17 @@ module _ (rs : List ℕ) (q : ℕ) where
 
   pub put-one-more :
       (n y m p : ℕ) (qs ps : List ℕ) → m ≤ n → LatestBefore y m p → PutFrom rs n q y m qs ps →
-      rankOf rs q p < length ps → PutFrom rs n q y p qs (set ps (rankOf rs q p) p)
+      numberOn rs q p < length ps → PutFrom rs n q y p qs (set ps (numberOn rs q p) p)
   put-one-more n y m p qs ps few d h room = record {
-    long = length-set ps (rankOf rs q p) p ∙ h .long;
+    long = length-set ps (numberOn rs q p) p ∙ h .long;
     put = λ x l on key from. elim (ℕ-discrete x p) [
-      | yes z ↦ rw z (getD-set-same ps (rankOf rs q p) p 0 room)
+      | yes z ↦ rw z (getD-set-same ps (numberOn rs q p) p 0 room)
       | no w ↦
-          getD-set-other ps (rankOf rs q p) (rankOf rs q x) p 0 (rank-apart x p on (d .on) w)
+          getD-set-other ps (numberOn rs q p) (numberOn rs q x) p 0 (rank-apart x p on (d .on) w)
           ∙ h .put x l on key (later x w on key from)
     ];
     others = λ x l on key.
-        getD-set-other ps (rankOf rs q p) (rankOf rs q x) p 0 (rank-apart x p on (d .on) (λ z. key (rw z (d .key))))
+        getD-set-other ps (numberOn rs q p) (numberOn rs q x) p 0 (rank-apart x p on (d .on) (λ z. key (rw z (d .key))))
         ∙ h .others x l on key;
   }
     where
@@ -149,16 +149,16 @@ module _ (rs : List ℕ) (q : ℕ) where
   -- ---- all of them
 
   pub all-in-order :
-      (ps : List ℕ) (n : ℕ) → rankOf rs q n ≤ length ps →
-      ((x : ℕ) → x < n → isOn rs q x ≡ true → getD ps (rankOf rs q x) 0 ≡ x) →
-      take (rankOf rs q n) ps ≡ placesOn rs n q
+      (ps : List ℕ) (n : ℕ) → numberOn rs q n ≤ length ps →
+      ((x : ℕ) → x < n → isOn rs q x ≡ true → getD ps (numberOn rs q x) 0 ≡ x) →
+      take (numberOn rs q n) ps ≡ placesOn rs n q
   unfolding placesOn keep
   all-in-order ps zero l h = refl
   all-in-order ps (suc n) l h = elim (decide (isOn rs q n)) [
     | inl on ↦
         (let next = rank-next n on in
         ap (λ (k : ℕ). take k ps) next
-        ∙ take-suc ps (rankOf rs q n) 0 (omega (arith, next))
+        ∙ take-suc ps (numberOn rs q n) 0 (omega (arith, next))
         ∙ rw (h n (omega arith) on, all-in-order ps n (omega (arith, next)) (λ x k. h x (omega arith)))
         (sym (places-added rs q n on)))
     | inr none ↦
@@ -169,7 +169,7 @@ module _ (rs : List ℕ) (q : ℕ) where
   ]
 
   -- its number is within what there is room for
-  pub rank-fits : (n p : ℕ) → p < n → isOn rs q p ≡ true → length (placesOn rs n q) ≤ mostSets → rankOf rs q p <
+  pub rank-fits : (n p : ℕ) → p < n → isOn rs q p ≡ true → length (placesOn rs n q) ≤ mostSets → numberOn rs q p <
       mostSets
   rank-fits n p l on narrow = omega (arith, rank-less p n on l, narrow)
 

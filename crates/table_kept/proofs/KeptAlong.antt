@@ -24,7 +24,7 @@ use Rattle.group_step.specs.GroupRows.{mostSets}
 use Rattle.group_limited.proofs.RowsInPlaces.{no-rows, none-sees}
 use Rattle.group_kept.specs.KeptForms.{contextsAt, seesAt, rowsLength}
 use Rattle.group_true.proofs.TrueGroups.{sets-more}
-use Rattle.table_kept.specs.BoxForms.{siteAt, seqAt, countAt, namesLength, boxed, TellOf, KeptFor}
+use Rattle.table_kept.specs.BoxForms.{boxSiteAt, boxSeqAt, toldAt, keptLength, boxed, TellOf, KeptFor}
 
 -- of no Set it tells, whatever stands there
 pub tell-of-none : (ns rows : List ℕ) → TellOf [] ns rows
@@ -35,7 +35,7 @@ tell-of-none ns rows = record {
 
 -- at the start it tells of none
 pub none-kept :
-    (es : List Edit) (ns rows : List ℕ) → length ns ≡ namesLength → length rows ≡ rowsLength → getD ns countAt 0 ≡ 0 →
+    (es : List Edit) (ns rows : List ℕ) → length ns ≡ keptLength → length rows ≡ rowsLength → getD ns toldAt 0 ≡ 0 →
     KeptFor es ns rows
 none-kept es ns rows ln lr none = record {
   names-long = ln;
@@ -61,7 +61,7 @@ kept-more es e ns rows h = record {
   rows-long = h .rows-long;
   first = λ s q hs hq.
       let (few, tell) = h .first s q hs hq in
-      let (room, same) = sets-grow s q es e (getD ns countAt 0) few in
+      let (room, same) = sets-grow s q es e (getD ns toldAt 0) few in
       (room, subst (λ (ms : List Edit). TellOf ms ns rows) (sym same) tell);
 }
 
@@ -69,17 +69,18 @@ kept-more es e ns rows h = record {
 pub kept-all :
     (es : List Edit) (ns rows : List ℕ) → KeptFor es ns rows → (s : Site) (q : Seq) (k : ℕ) →
     k ≡ length (setsOn s q es) →
-    (eqb (getD ns siteAt 0) (s .0) && eqb (getD ns seqAt 0) (q .0) && eqb (getD ns countAt 0) k) ≡ true →
+    (eqb (getD ns boxSiteAt 0) (s .0) && eqb (getD ns boxSeqAt 0) (q .0) && eqb (getD ns toldAt 0) k) ≡ true →
     TellOf (setsOn s q es) ns rows
 kept-all es ns rows h s q k all t =
-    let (t2, count) = both (eqb (getD ns siteAt 0) (s .0) && eqb (getD ns seqAt 0) (q .0)) (eqb (getD ns countAt 0) k)
+    let (t2, count) = both (eqb (getD ns boxSiteAt 0) (s .0) && eqb (getD ns boxSeqAt 0) (q .0)) (eqb (getD ns
+    toldAt 0) k)
     t in
-    let (site, seq) = both (eqb (getD ns siteAt 0) (s .0)) (eqb (getD ns seqAt 0) (q .0)) t2 in
-    let is = eqb-true (getD ns countAt 0) k count in
-    let (_, tell) = h .first s q (sym (eqb-true (getD ns siteAt 0) (s .0) site))
-    (sym (eqb-true (getD ns seqAt 0) (q .0) seq)) in
+    let (site, seq) = both (eqb (getD ns boxSiteAt 0) (s .0)) (eqb (getD ns boxSeqAt 0) (q .0)) t2 in
+    let is = eqb-true (getD ns toldAt 0) k count in
+    let (_, tell) = h .first s q (sym (eqb-true (getD ns boxSiteAt 0) (s .0) site))
+    (sym (eqb-true (getD ns boxSeqAt 0) (q .0) seq)) in
     subst (λ (ms : List Edit). TellOf ms ns rows)
-    (take-all (getD ns countAt 0) (setsOn s q es) (omega (arith, is, all))) tell
+    (take-all (getD ns toldAt 0) (setsOn s q es) (omega (arith, is, all))) tell
 
 -- what a survey says of the Sets of a box that is held
 pub surveyed-sets :
@@ -91,50 +92,50 @@ surveyed-sets es e v sv found =
 
 -- ---- the entries behind the names
 
-module _ (ns : List ℕ) (e : Edit) (k : ℕ) (long : length ns ≡ namesLength) where
+module _ (ns : List ℕ) (e : Edit) (k : ℕ) (long : length ns ≡ keptLength) where
   abbrev one : List ℕ
-  one = set ns siteAt (e .tsite .0)
+  one = set ns boxSiteAt (e .tsite .0)
 
   abbrev two : List ℕ
-  two = set one seqAt (e .tseq .0)
+  two = set one boxSeqAt (e .tseq .0)
 
-  boxed-site : getD (boxed ns e k) siteAt 0 ≡ e .tsite .0
+  boxed-site : getD (boxed ns e k) boxSiteAt 0 ≡ e .tsite .0
   boxed-site =
-      getD-set-other two countAt siteAt k 0 (λ z. omega arith)
-      ∙ getD-set-other one seqAt siteAt (e .tseq .0) 0 (λ z. omega arith)
-      ∙ getD-set-same ns siteAt (e .tsite .0) 0 (omega (arith, long))
+      getD-set-other two toldAt boxSiteAt k 0 (λ z. omega arith)
+      ∙ getD-set-other one boxSeqAt boxSiteAt (e .tseq .0) 0 (λ z. omega arith)
+      ∙ getD-set-same ns boxSiteAt (e .tsite .0) 0 (omega (arith, long))
 
-  boxed-seq : getD (boxed ns e k) seqAt 0 ≡ e .tseq .0
+  boxed-seq : getD (boxed ns e k) boxSeqAt 0 ≡ e .tseq .0
   boxed-seq =
-      getD-set-other two countAt seqAt k 0 (λ z. omega arith)
-      ∙ getD-set-same one seqAt (e .tseq .0) 0 (omega (arith, length-set ns siteAt (e .tsite .0), long))
+      getD-set-other two toldAt boxSeqAt k 0 (λ z. omega arith)
+      ∙ getD-set-same one boxSeqAt (e .tseq .0) 0 (omega (arith, length-set ns boxSiteAt (e .tsite .0), long))
 
-  boxed-long : length (boxed ns e k) ≡ namesLength
+  boxed-long : length (boxed ns e k) ≡ keptLength
   boxed-long = omega (
     arith,
-    length-set two countAt k,
-    length-set one seqAt (e .tseq .0),
-    length-set ns siteAt (e .tsite .0),
+    length-set two toldAt k,
+    length-set one boxSeqAt (e .tseq .0),
+    length-set ns boxSiteAt (e .tsite .0),
     long,
   )
 
-  boxed-count : getD (boxed ns e k) countAt 0 ≡ k
+  boxed-count : getD (boxed ns e k) toldAt 0 ≡ k
   boxed-count =
-      getD-set-same two countAt k 0
-      (omega (arith, length-set one seqAt (e .tseq .0), length-set ns siteAt (e .tsite .0), long))
+      getD-set-same two toldAt k 0
+      (omega (arith, length-set one boxSeqAt (e .tseq .0), length-set ns boxSiteAt (e .tsite .0), long))
 
   boxed-low : (i : ℕ) → i < mostSets → getD (boxed ns e k) i 0 ≡ getD ns i 0
   boxed-low i l =
-      getD-set-other two countAt i k 0 (λ z. omega arith)
-      ∙ getD-set-other one seqAt i (e .tseq .0) 0 (λ z. omega arith)
-      ∙ getD-set-other ns siteAt i (e .tsite .0) 0 (λ z. omega arith)
+      getD-set-other two toldAt i k 0 (λ z. omega arith)
+      ∙ getD-set-other one boxSeqAt i (e .tseq .0) 0 (λ z. omega arith)
+      ∙ getD-set-other ns boxSiteAt i (e .tsite .0) 0 (λ z. omega arith)
 
 -- an edit that was put down behind the Sets of its box, if it is a Set and there was room
 module _
     (es : List Edit)
     (e : Edit)
     (ns rows : List ℕ)
-    (ln : length ns ≡ namesLength)
+    (ln : length ns ≡ keptLength)
     (lr : length rows ≡ rowsLength)
     (after : length (setsOn (e .tsite) (e .tseq) es) < mostSets →
     TellOf (setsOn (e .tsite) (e .tseq) es ++ (e ∷ [])) ns rows) where

@@ -14,21 +14,21 @@ use Rattle.group_step.specs.GroupRows.{mostSets}
 use Rattle.group_limited.specs.LimitedForms.{NamesOf}
 use Rattle.group_kept.specs.KeptForms.{rowsLength, RowsKept}
 
-abbrev pub siteAt : ℕ
-siteAt = mostSets
+abbrev pub boxSiteAt : ℕ
+boxSiteAt = mostSets
 
-abbrev pub seqAt : ℕ
-seqAt = mostSets + 1
+abbrev pub boxSeqAt : ℕ
+boxSeqAt = mostSets + 1
 
-abbrev pub countAt : ℕ
-countAt = mostSets + 2
+abbrev pub toldAt : ℕ
+toldAt = mostSets + 2
 
-abbrev pub namesLength : ℕ
-namesLength = mostSets + 3
+abbrev pub keptLength : ℕ
+keptLength = mostSets + 3
 
 -- those entries put down
 abbrev pub boxed : List ℕ → Edit → ℕ → List ℕ
-boxed ns e k = set (set (set ns siteAt (e .tsite .0)) seqAt (e .tseq .0)) countAt k
+boxed ns e k = set (set (set ns boxSiteAt (e .tsite .0)) boxSeqAt (e .tseq .0)) toldAt k
 
 -- the names and the rows tell of the Sets ms
 pub record TellOf (ms : List Edit) (ns rows : List ℕ) : Type 0 where
@@ -37,8 +37,8 @@ pub record TellOf (ms : List Edit) (ns rows : List ℕ) : Type 0 where
 
 -- of the Sets of the box among the edits es, they tell of the first so many
 pub record KeptFor (es : List Edit) (ns rows : List ℕ) : Type 0 where
-  pub names-long : length ns ≡ namesLength
+  pub names-long : length ns ≡ keptLength
   pub rows-long : length rows ≡ rowsLength
   pub first :
-      (s : Site) (q : Seq) → s .0 ≡ getD ns siteAt 0 → q .0 ≡ getD ns seqAt 0 →
-      (getD ns countAt 0 ≤ length (setsOn s q es)) × TellOf (take (getD ns countAt 0) (setsOn s q es)) ns rows
+      (s : Site) (q : Seq) → s .0 ≡ getD ns boxSiteAt 0 → q .0 ≡ getD ns boxSeqAt 0 →
+      (getD ns toldAt 0 ≤ length (setsOn s q es)) × TellOf (take (getD ns toldAt 0) (setsOn s q es)) ns rows

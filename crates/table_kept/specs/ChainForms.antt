@@ -24,18 +24,18 @@ pub record ChainsOn (rs : List ℕ) (n : ℕ) (ns hs : List ℕ) (q : ℕ) : Typ
   pub narrow : length (placesOn rs n q) ≤ mostSets
 
 -- the number of the Set in place x among those on that Create
-abbrev pub rankOf : List ℕ → ℕ → ℕ → ℕ
-rankOf rs q x = length (placesOn rs x q)
+abbrev pub numberOn : List ℕ → ℕ → ℕ → ℕ
+numberOn rs q x = length (placesOn rs x q)
 
 -- ps has the places of those of the first n records that are Sets on it of the key y, from the place m on, and else is
 -- as qs
 pub record PutFrom (rs : List ℕ) (n q y m : ℕ) (qs ps : List ℕ) : Type 0 where
   pub long : length ps ≡ length qs
   pub put :
-      (x : ℕ) → x < n → isOn rs q x ≡ true → recordAt rs x .key ≡ y → m ≤ x → getD ps (rankOf rs q x) 0 ≡ x
+      (x : ℕ) → x < n → isOn rs q x ≡ true → recordAt rs x .key ≡ y → m ≤ x → getD ps (numberOn rs q x) 0 ≡ x
   pub others :
       (x : ℕ) → x < n → isOn rs q x ≡ true → (recordAt rs x .key ≡ y → ⊥) →
-      getD ps (rankOf rs q x) 0 ≡ getD qs (rankOf rs q x) 0
+      getD ps (numberOn rs q x) 0 ≡ getD qs (numberOn rs q x) 0
 
 -- the index of the first n records, which pass 1 to 5 in their order and are within the limits
 pub record IndexedIn (rs : List ℕ) (n : ℕ) (ps ns hs : List ℕ) : Type 0 where

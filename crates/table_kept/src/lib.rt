@@ -29,7 +29,7 @@ ghost use Rattle.group_limited.specs.LimitedForms.{JudgedWhere};
 ghost use Rattle.group_kept.specs.KeptForms.{rowsLength};
 ghost use Rattle.table_index.specs.IndexForms.{placesOn};
 ghost use Rattle.table_kept.specs.ChainForms.{ChainsOn, IndexedIn};
-ghost use Rattle.table_kept.specs.BoxForms.{siteAt, seqAt, countAt, namesLength, boxed, TellOf, KeptFor};
+ghost use Rattle.table_kept.specs.BoxForms.{boxSiteAt, boxSeqAt, toldAt, keptLength, boxed, TellOf, KeptFor};
 
 // Behind the names of the Sets: the site and the sequence number of their box, and how many of its Sets are told of.
 const BOX_SITE: usize = SETS;
@@ -42,11 +42,11 @@ pub const NAMES: usize = SETS + 3;
 
 // Whether what is kept tells of the first k Sets of the box s.q.
 fn is_kept(names: &[u32], s: Site, q: Seq, k: u32) -> bool
-    requires { ⌜ length (now names) ≡ namesLength ⌝ }
+    requires { ⌜ length (now names) ≡ keptLength ⌝ }
     ensures { λ r. ⌜ r
-        ≡ (eqb (getD (now (names .entry)) siteAt 0) (s .0)
-        && eqb (getD (now (names .entry)) seqAt 0) (q .0)
-        && eqb (getD (now (names .entry)) countAt 0) k) ⌝ }
+        ≡ (eqb (getD (now (names .entry)) boxSiteAt 0) (s .0)
+        && eqb (getD (now (names .entry)) boxSeqAt 0) (q .0)
+        && eqb (getD (now (names .entry)) toldAt 0) k) ⌝ }
 {
     (names[BOX_SITE] == s.0 as u32) & (names[BOX_SEQ] == q.0 as u32) & (names[COUNT] == k)
 }
@@ -64,7 +64,7 @@ fn put_anew(
 )
     requires { ⌜ ChainsOn (now recs) n (now numbers) (now chains) q
         × (k ≡ length (placesOn (now recs) n q))
-        × (length (now names) ≡ namesLength)
+        × (length (now names) ≡ keptLength)
         × (length (now rows) ≡ rowsLength) ⌝ }
     ensures { λ r. ⌜ TellOf (map (recordAt (now (recs .entry))) (placesOn (now (recs .entry)) n q))
         (now (names .exit)) (now (rows .exit)) ⌝ }
@@ -119,7 +119,7 @@ fn told_after(k: usize, kind: u8) -> u32
 
 // Puts down that it is told of k Sets of the box that rec targets.
 fn put_box(names: &mut [u32], rec: &[u8], k: u32)
-    requires { ⌜ length (now names) ≡ namesLength ⌝ }
+    requires { ⌜ length (now names) ≡ keptLength ⌝ }
     ensures { λ r. ⌜ now (names .exit) ≡ boxed (now (names .entry)) (decodeOf (now (rec .entry))) k ⌝ }
 {
     names[BOX_SITE] = edit_record::byte_at(rec, AT_TARGET) as u32;

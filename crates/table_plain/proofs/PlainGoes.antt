@@ -32,7 +32,8 @@ use Rattle.table_arrival.proofs.CodeInHand.{holds}
 use Rattle.table_arrival.proofs.PlainTaken.{fit-admitted, site-count, create-stored, layer-stored, set-stored, row-kept}
 use Rattle.table_arrival.proofs.PlainTaken.{object-few, used-few, used-ascends, used-small, used-apart, zero-behind}
 use Rattle.table_arrival.proofs.RecordsOneMore.{put-here}
-use Rattle.table_plain.specs.TakingForms.{TakesPlain, LeavesPlain, spotOf, Enters, Steps, Stores, Stored}
+use Rattle.table_plain.specs.TakingForms.{TakesPlain, LeavesPlain, spotOf}
+use Rattle.table_plain.specs.TakingForms.{Enters, Steps, StoresBeside, StoredBeside}
 use Rattle.table_plain.proofs.IndexGoesAlong.{counted-on, grown, has-room, room-on, holds-on, index-on}
 use Rattle.table_plain.proofs.IndexGoesAlong.{numbered-on}
 
@@ -226,7 +227,7 @@ module _
     no-set-by-kind : eqb (e .kind) setKind ≡ false → isSet e ≡ false
     no-set-by-kind k = or-off (eqb (e .kind) setKind) (isLimited e) k (f .plain)
 
-    pub store-asks : Stores m os gs ns cs hs e r
+    pub store-asks : StoresBeside m os gs ns cs hs e r
     store-asks =
         record {
           of-set = λ k. set-steps (set-by-kind k);
@@ -240,7 +241,7 @@ module _
     module _ (os′ gs′ ns′ cs′ hs′ : List ℕ) where
       -- where there is no room for the groups of its object
       pub not-stored :
-          Stored n m e r false os gs ns cs hs os′ gs′ ns′ cs′ hs′ →
+          StoredBeside n m e r false os gs ns cs hs os′ gs′ ns′ cs′ hs′ →
           LeavesPlain t b false (tablesOf (countersOf sites n m held sum) rs os′ gs′) ps ns cs hs ps ns′ cs′ hs′
       not-stored st = elim (decide (eqb (e .kind) setKind)) [
         | inl k ↦
@@ -256,7 +257,7 @@ module _
         | inr k ↦ clash (st .no-set k .0) refl
       ]
 
-      module _ (st : Stored n m e r true os gs ns cs hs os′ gs′ ns′ cs′ hs′) where
+      module _ (st : StoredBeside n m e r true os gs ns cs hs os′ gs′ ns′ cs′ hs′) where
         pub enters : Enters held rs n ps b
         enters = elim (decide (eqb (e .kind) setKind)) [
           | inl k ↦ enter-asks _ (set-stored t b s whole (p .few) ps ns cs r f (set-by-kind k) (st .of-set k .1

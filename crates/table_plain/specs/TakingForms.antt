@@ -116,14 +116,14 @@ SetStored n key r ok os gs ns cs hs os′ gs′ ns′ cs′ hs′ =
 -- ---- what a record changes beside itself
 
 -- what it asks, where the edit e is not limited, r was found of it and there are m objects
-pub record Stores (m : ℕ) (os gs ns cs hs : List ℕ) (e : Edit) (r : Looked) : Type 0 where
+pub record StoresBeside (m : ℕ) (os gs ns cs hs : List ℕ) (e : Edit) (r : Looked) : Type 0 where
   pub of-set : eqb (e .kind) setKind ≡ true → Steps os gs ns cs hs (e .key) r
   pub of-create : isCreate e ≡ true → m < mostObjects
   pub objects-long : length os ≡ objectsLength
   pub numbers-long : length ns ≡ mostRecords
 
 -- and leaves, where the record has place n
-pub record Stored (n m : ℕ) (e : Edit) (r : Looked) (ok : Bool) (os gs ns cs hs os′ gs′ ns′ cs′ hs′ : List ℕ) :
+pub record StoredBeside (n m : ℕ) (e : Edit) (r : Looked) (ok : Bool) (os gs ns cs hs os′ gs′ ns′ cs′ hs′ : List ℕ) :
     Type 0 where
   pub of-set : eqb (e .kind) setKind ≡ true → SetStored n (e .key) r ok os gs ns cs hs os′ gs′ ns′ cs′ hs′
   pub no-set : eqb (e .kind) setKind ≡ false → (ok ≡ true) × (gs′ ≡ gs) × (cs′ ≡ cs) × (hs′ ≡ hs)

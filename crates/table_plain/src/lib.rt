@@ -31,7 +31,7 @@ ghost use Rattle.table_drawing.specs.Tables.{tablesOf, objectsLength};
 ghost use Rattle.table_index.specs.IndexForms.{countersOf};
 ghost use Rattle.table_arrival.specs.Arrival.{putRecord, putEntry};
 ghost use Rattle.table_plain.specs.TakingForms.{TakesPlain, LeavesPlain, spotOf, Enters, Steps, SetStored};
-ghost use Rattle.table_plain.specs.TakingForms.{Stores, Stored, StandsAs};
+ghost use Rattle.table_plain.specs.TakingForms.{StoresBeside, StoredBeside, StandsAs};
 
 // Whether a record was taken, how many objects there are then, and the sum.
 pub struct Took {
@@ -136,8 +136,8 @@ fn store(
     a: Looked,
 ) -> bool
     requires { ⌜ (n < mostRecords)
-        × Stores m (now objects) (now groups) (now numbers) (now counts) (now chains) (decodeOf rec) a ⌝ }
-    ensures { λ r. ⌜ Stored n m (decodeOf rec) a r
+        × StoresBeside m (now objects) (now groups) (now numbers) (now counts) (now chains) (decodeOf rec) a ⌝ }
+    ensures { λ r. ⌜ StoredBeside n m (decodeOf rec) a r
         (now (objects .entry)) (now (groups .entry)) (now (numbers .entry)) (now (counts .entry)) (now (chains .entry))
         (now (objects .exit)) (now (groups .exit)) (now (numbers .exit)) (now (counts .exit)) (now (chains .exit)) ⌝ }
 {

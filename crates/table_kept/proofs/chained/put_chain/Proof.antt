@@ -8,7 +8,7 @@ use denote.Ref.{now}
 use Rattle.group_step.specs.GroupRows.{mostSets}
 use Rattle.table_index.specs.IndexForms.{headAt, linkAt, latestOn}
 use Rattle.table_index.proofs.ChainsOfSets.{latest-low}
-use Rattle.table_kept.specs.ChainForms.{rankOf, PutFrom}
+use Rattle.table_kept.specs.ChainForms.{numberOn, PutFrom}
 use Rattle.table_kept.proofs.AlongChains.{LatestBefore, latest-before, rank-fits, put-one-more, put-to-end}
 use borrow.Author.Needs.{needs}
 use Rattle.table_kept.proofs.chained.put_chain.Statement.{statement}
@@ -22,16 +22,16 @@ abbrev μ-loop : tie.MeasureT-loop
 μ-loop out₀ recs n numbers chains q key o p₀ out p = p
 
 -- one link of the chain
-record Link (s : tie.Start Inv-loop μ-loop) (m p : ℕ) : Type 0 where
+record Linking (s : tie.Start Inv-loop μ-loop) (m p : ℕ) : Type 0 where
   latest : LatestBefore (now (s .args .recs)) (s .args .q) (s .args .key) m p
   low : p < s .args .n
-  rank : getD (now (s .args .numbers)) p 0 ≡ rankOf (now (s .args .recs)) (s .args .q) p
-  fits : rankOf (now (s .args .recs)) (s .args .q) p < mostSets
+  rank : getD (now (s .args .numbers)) p 0 ≡ numberOn (now (s .args .recs)) (s .args .q) p
+  fits : numberOn (now (s .args .recs)) (s .args .q) p < mostSets
   next : getD (now (s .args .chains)) (linkAt p) 0 ≡ latestOn (now (s .args .recs)) (s .args .q) (s .args .key) p
 
 link :
     (s : tie.Start Inv-loop μ-loop) (m p : ℕ) → m ≤ s .args .n →
-    p ≡ latestOn (now (s .args .recs)) (s .args .q) (s .args .key) m → 0 < p → Link s m p
+    p ≡ latestOn (now (s .args .recs)) (s .args .q) (s .args .key) m → 0 < p → Linking s m p
 link s m p few is some =
     let a = s .args in
     let rs = now (a .recs) in

@@ -11,7 +11,7 @@ use Rattle.math_lists.proofs.LastBelow.{last}
 use Rattle.edit_record.specs.Layout.{keys}
 use Rattle.edit_history.specs.EditsHeld.{recordAt}
 use Rattle.table_index.specs.IndexForms.{isOn}
-use Rattle.table_kept.specs.ChainForms.{rankOf}
+use Rattle.table_kept.specs.ChainForms.{numberOn}
 use Rattle.table_kept.proofs.AlongChains.{all-in-order}
 use Rattle.table_kept.proofs.chained.put_chains.Statement.{statement}
 use Rattle.table_kept.proofs.chained.put_chains.Tie as tie
@@ -20,7 +20,7 @@ abbrev Inv-loop : tie.InvT-loop
 Inv-loop out₀ recs n numbers chains q y₀ out y =
     (y ≤ keys)
     × (length out ≡ length out₀)
-    × ((x : ℕ) → x < n → isOn recs q x ≡ true → recordAt recs x .key < y → getD out (rankOf recs q x) 0 ≡ x)
+    × ((x : ℕ) → x < n → isOn recs q x ≡ true → recordAt recs x .key < y → getD out (numberOn recs q x) 0 ≡ x)
 
 abbrev μ-loop : tie.MeasureT-loop
 μ-loop out₀ recs n numbers chains q y₀ out y = keys - y
