@@ -26,16 +26,8 @@ ghost use Rattle.edit_causal.specs.Conflict.{boxOn};
 ghost use Rattle.edit_causal.specs.ConflictForms.{Proper, plainMarks};
 ghost use Rattle.edit_history.specs.EditsHeld.{recordAt};
 ghost use Rattle.group_step.specs.GroupRows.{mostSets};
-ghost use Rattle.group_limited.specs.LimitedForms.{
-  setsIn,
-  mostRecent,
-  NamesOf,
-  NamesIn,
-  SightedTo,
-  SightOf,
-  ToldOf,
-  JudgedOf,
-};
+ghost use Rattle.group_limited.specs.LimitedForms.{setsIn, mostRecent, NamesOf, NamesIn, SightedTo, SightOf};
+ghost use Rattle.group_limited.specs.LimitedForms.{ToldOf, JudgedOf};
 ghost use Rattle.group_kept.specs.KeptForms.{rowsLength, RowsKept, NotedOf, NotedWhere};
 
 // Where the contexts of the Sets start among the rows, and what the authors of the last of them had seen.

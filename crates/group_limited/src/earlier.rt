@@ -32,20 +32,9 @@ ghost use Rattle.edit_causal.specs.Conflict.{listedBy};
 ghost use Rattle.edit_history.specs.EditsHeld.{recordAt};
 ghost use Rattle.edit_history.specs.Answer16.{isStrange};
 ghost use Rattle.group_step.specs.GroupRows.{mostSets};
-ghost use Rattle.group_limited.specs.LimitedForms.{
-  setsIn,
-  mostRecent,
-  seenMarks,
-  namedMarks,
-  marksOn,
-  NameOf,
-  NamesOf,
-  NamesIn,
-  SightedTo,
-  sumOfName,
-  marksOfName,
-  isUnseen,
-};
+ghost use Rattle.group_limited.specs.LimitedForms.{setsIn, mostRecent, seenMarks, namedMarks, marksOn};
+ghost use Rattle.group_limited.specs.LimitedForms.{NameOf, NamesOf, NamesIn, SightedTo, sumOfName};
+ghost use Rattle.group_limited.specs.LimitedForms.{marksOfName, isUnseen};
 
 // The vector of the edit of rec.
 pub fn vector_in(rec: &[u8]) -> [u16; SITES]

@@ -29,19 +29,9 @@ ghost use Rattle.edit_history.specs.EditsHeld.{recordAt};
 ghost use Rattle.edit_history.specs.Answer16.{namelessAmong};
 ghost use Rattle.group_step.specs.GroupRows.{mostSets};
 ghost use Rattle.group_context.specs.RowsOfBox.{whatIsLeft};
-ghost use Rattle.group_limited.specs.LimitedForms.{
-  setsIn,
-  mostRecent,
-  NamesIn,
-  SeesTell,
-  SightedTo,
-  SightOf,
-  withMark,
-  RowsTell,
-  ToldOf,
-  JudgedOf,
-  namedInTurn,
-};
+ghost use Rattle.group_limited.specs.LimitedForms.{setsIn, mostRecent, NamesIn, SeesTell, SightedTo};
+ghost use Rattle.group_limited.specs.LimitedForms.{SightOf, withMark, RowsTell, ToldOf, JudgedOf};
+ghost use Rattle.group_limited.specs.LimitedForms.{namedInTurn};
 
 // Of so many Sets of an object, the last ones, it is kept what their authors had seen.
 pub const RECENT: usize = 16;

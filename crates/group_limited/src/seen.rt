@@ -26,16 +26,8 @@ ghost use Rattle.edit_causal.specs.Causal.{comesBefore};
 ghost use Rattle.edit_causal.specs.Conflict.{boxOn};
 ghost use Rattle.edit_history.specs.EditsHeld.{recordAt};
 ghost use Rattle.group_step.specs.GroupRows.{mostSets};
-ghost use Rattle.group_limited.specs.LimitedForms.{
-  mostRecent,
-  seenMarks,
-  NameOf,
-  NamesOf,
-  SideOf,
-  isFoe,
-  SeesTell,
-  SeenBefore,
-};
+ghost use Rattle.group_limited.specs.LimitedForms.{mostRecent, seenMarks, NameOf, NamesOf, SideOf, isFoe};
+ghost use Rattle.group_limited.specs.LimitedForms.{SeesTell, SeenBefore};
 
 // Whether the edit with the name x comes before the one with the name y and the vector v.
 fn is_seen(x: u32, y: u32, v: &[u16]) -> bool
