@@ -12,17 +12,9 @@ use Rattle.math_contexts.specs.BoxByArrival.{rel}
 use Rattle.math_contexts.specs.SameSets.{SameBelow, SameSets}
 use Rattle.math_contexts.specs.NamedVersions.{contextsNamed}
 use Rattle.math_contexts.proofs.BoxGrows.{first-keep}
-use Rattle.math_contexts.proofs.ConflictsNamed.{
-  named-symmetric,
-  named-plainly,
-  named-all-plain,
-  named-conflicts-later,
-}
-use Rattle.math_contexts.proofs.NamedSets.{
-  named-irreflexive,
-  all-named-any-order,
-  named-conflicts-any-order,
-}
+use Rattle.math_contexts.proofs.ConflictsNamed.{named-symmetric, named-plainly, named-all-plain}
+use Rattle.math_contexts.proofs.ConflictsNamed.{named-conflicts-later}
+use Rattle.math_contexts.proofs.NamedSets.{named-irreflexive, all-named-any-order, named-conflicts-any-order}
 use Rattle.edit_record.specs.declared.Edit.{Edit}
 use Rattle.edit_record.specs.RecordBytes.{noEdit}
 use Rattle.edit_record.specs.Answer1.{isLimited}

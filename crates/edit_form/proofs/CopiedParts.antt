@@ -11,10 +11,8 @@ use lib.ListN.{List·getD-append}
 use lib.Seq.{paste, paste-suc, length-take-le, take-at, drop-at, take-take, take-add, getD-take, getD-drop}
 use Rattle.math_lists.proofs.ReplacedPart.{put}
 use Rattle.edit_record.specs.Layout.{kindAt, siteAt, vectorAt, recordLength, membersAt, memberLength, twoBytes}
-use Rattle.edit_record.specs.Layout.{limitedKind}
 use Rattle.edit_record.specs.RecordBytes.{spanOf}
 use Rattle.edit_record.proofs.NumbersInBytes.{Bytes}
-use Rattle.edit_record.proofs.AgreeingBytes.{span-plain}
 use Rattle.edit_record.proofs.RecordSpans.{span-least, span-below}
 use Rattle.edit_form.specs.OldForm.{oldForm, oldSites, lacking, oldLength, lengthFrom, widened, hasOldForm}
 use Rattle.edit_form.specs.OldForm.{longOf, longFrom}
@@ -109,17 +107,6 @@ pub front-copied :
     (rest : List ℕ) →
     put (replicate recordLength 0) 0 recordLength (take recordLength (drop 0 rest)) ≡ take recordLength rest
 front-copied rest = append-nil (take recordLength rest)
-
--- is all of it, unless it is limited
-pub front-whole :
-    (form : ℕ) (rest : List ℕ) → eqb form oldForm ≡ false → recordLength ≤ length rest →
-    eqb (getD (take recordLength rest) kindAt 0) limitedKind ≡ false →
-    take recordLength rest ≡ longFrom form rest
-unfolding longFrom
-front-whole form rest long there plain =
-    let is : spanOf rest ≡ recordLength = span-plain rest (rw (getD-take recordLength rest kindAt 0
-    (lit< tt)) at plain) in
-    rw (long, is)
 
 -- ---- the site
 

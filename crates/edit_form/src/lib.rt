@@ -9,12 +9,10 @@ use edit_record::RECORD;
 use edit_record::SET;
 use edit_record::SITES;
 ghost use mathlib.Core.Path.{_≡_};
-ghost use mathlib.Core.Bool.{false};
 ghost use mathlib.Core.List.{_++_};
 ghost use Prim.Native.Nat.{_+_, _≤_};
-ghost use lib.Dec.{eqb};
 ghost use lib.ListN.{length, getD, take, drop};
-ghost use Rattle.edit_record.specs.Layout.{limitedKind, kindAt, siteAt, recordLength};
+ghost use Rattle.edit_record.specs.Layout.{siteAt, recordLength};
 ghost use Rattle.edit_record.specs.RecordBytes.{decodeOf};
 ghost use Rattle.edit_form.specs.OldForm.{sitesBy, lengthFrom, oldLength, hasOldForm, longOf, longFrom};
 
@@ -96,13 +94,26 @@ pub fn widened_from(rest: &[u8]) -> [u8; RECORD]
 // The first bytes of that record as a long one, where it is there whole: all of it, unless it is limited.
 pub fn front_from(rest: &[u8], form: u8) -> [u8; RECORD]
     requires { ⌜ lengthFrom form (now rest) ≤ length (now rest) ⌝ }
-    ensures { λ r. ⌜ (length r ≡ recordLength)
-        × (eqb (getD r kindAt 0) limitedKind ≡ false → r ≡ longFrom form (now (rest .entry))) ⌝ }
+    ensures { λ r. ⌜ r ≡ take recordLength (longFrom form (now (rest .entry))) ⌝ }
 {
     if form == OLD {
         return widened_from(rest);
     }
     with_part([0u8; RECORD], 0, rest, 0, RECORD)
+}
+
+// Where that record stands as a long one: a long one where it is, an old one in its first bytes as a long one. A copy
+// is read slowly right after it was made, so what can be read where it stands is.
+pub fn long_in<'a>(rest: &'a [u8], form: u8, front: &'a [u8]) -> &'a [u8]
+    requires { ⌜ (lengthFrom form (now rest) ≤ length (now rest))
+        × (now front ≡ take recordLength (longFrom form (now rest))) ⌝ }
+    ensures { λ r. ⌜ (recordLength ≤ length (now r))
+        × (decodeOf (now r) ≡ decodeOf (longFrom form (now (rest .entry)))) ⌝ }
+{
+    if form == OLD {
+        return front;
+    }
+    rest
 }
 
 // The edit in that record, where it is there whole: a long one is read where it stands.

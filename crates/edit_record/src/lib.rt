@@ -103,19 +103,27 @@ pub fn byte_at(s: &[u8], i: usize) -> u8
     if i < s.len() { s[i] } else { 0 }
 }
 
-// The number in the two bytes from i on.
+// The number in the two bytes from i on. One test tells that both are there, as they most often are.
 pub fn two_at(s: &[u8], i: usize) -> u16
     requires { ⌜ i < 2 ^ 48 ⌝ }
     ensures { λ r. ⌜ r ≡ two (now (s .entry)) i ⌝ }
 {
+    if i + 1 < s.len() {
+        return pair_at(s, i);
+    }
     byte_at(s, i) as u16 + byte_at(s, i + 1) as u16 * 256
 }
 
-// The number in the four bytes from i on.
+// The number in the four bytes from i on, in the same way.
 pub fn four_at(s: &[u8], i: usize) -> u32
     requires { ⌜ i < 2 ^ 47 ⌝ }
     ensures { λ r. ⌜ r ≡ four (now (s .entry)) i ⌝ }
 {
+    if i + 3 < s.len() {
+        let low = pair_at(s, i);
+        let high = pair_at(s, i + 2);
+        return low as u32 + high as u32 * 65536;
+    }
     two_at(s, i) as u32 + two_at(s, i + 2) as u32 * 65536
 }
 

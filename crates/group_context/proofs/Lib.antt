@@ -6,6 +6,7 @@ pub mod NextByRows
 pub mod ConflictRows
 pub mod RowsOfArrival
 pub mod NamedByRows
+pub mod ButFirst
 pub mod MembersGone
 pub mod ContextByListed
 pub mod ListedByRows

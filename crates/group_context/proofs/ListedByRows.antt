@@ -11,11 +11,10 @@ use lib.ListN.{getD}
 use lib.Pow.{pow-mono}
 use borrow.Author.Tests.{lt-ltb}
 use Rattle.math_lists.specs.NumbersBelow.{some, all, mask}
-use Rattle.math_lists.proofs.Booleans.{same-test, both, and-on}
-use Rattle.math_lists.proofs.NumbersBelow.{some-on, some-at, mask-below}
+use Rattle.math_lists.proofs.NumbersBelow.{mask-below}
 use Rattle.math_maximal.specs.Groups.{bit, below}
 use Rattle.math_maximal.specs.Step.{compatible}
-use Rattle.math_maximal.proofs.Bits.{bit-below, bit-minus, some-common}
+use Rattle.math_maximal.proofs.Bits.{bit-minus}
 use Rattle.math_maximal.proofs.Masks.{mask-bit}
 use Rattle.math_contexts.specs.Box.{Box, disputed, disputedBy}
 use Rattle.math_contexts.specs.Contexts.{contexts}
@@ -25,7 +24,7 @@ use Rattle.group_step.specs.GroupRows.{mostSets}
 use Rattle.group_context.specs.RowForms.{meeting}
 use Rattle.group_context.specs.RowsOfBox.{NextOf, isLeft}
 use Rattle.group_context.proofs.MaskFromBits.{is-mask, same-masks, compatible-same, compatible-with}
-use Rattle.group_context.proofs.MetByRows.{bit-meeting, meets, foes-met}
+use Rattle.group_context.proofs.MetByRows.{meets, foes-met, union-meets}
 use Rattle.group_context.proofs.ReachedByRows.{held-at}
 use Rattle.group_context.proofs.ContextByListed.{isListed}
 
@@ -44,27 +43,9 @@ module _ {b : Box} {n : ℕ} {plains cs : List ℕ} {v w : ℕ} (next : NextOf b
   module _ (f : ℕ) (union : (y : ℕ) → bit f y ≡ some mostSets (λ j. bit w j && bit (getD plains j 0) y)) where
     foe-bits : (y : ℕ) → y < n → bit f y ≡ bit u y
     foe-bits y l =
-        union y
-        ∙ same-test (some mostSets (λ j. bit w j && bit (getD plains j 0) y))
-        (some n (λ k. bit w k && bit (getD plains y 0) k))
-        (λ t. let (j, _, p) = some-at mostSets (λ j. bit w j && bit (getD plains j 0) y) t in
-        let (q, r) = both (bit w j) (bit (getD plains j 0) y) p in
-        let low = bit-below n w w-small j q in
-        some-on n (λ k. bit w k && bit (getD plains y 0) k) j low
-        (and-on (bit w j) (bit (getD plains y 0) j) q (sym (turned j y low l) ∙ r)))
-        (λ t. let (j, low, p) = some-at n (λ k. bit w k && bit (getD plains y 0) k) t in
-        let (q, r) = both (bit w j) (bit (getD plains y 0) j) p in
-        some-on mostSets (λ j. bit w j && bit (getD plains j 0) y) j (omega arith)
-        (and-on (bit w j) (bit (getD plains j 0) y) q (turned j y low l ∙ r)))
-        ∙ some-common n w (getD plains y 0) w-small
-        ∙ sym (bit-meeting plains n w y l)
+        union-meets b n plains (next .plainly) few w w-small f union y l
         ∙ ap (λ (x : ℕ). bit (meeting plains n x) y) (next .named)
         ∙ ap (λ (x : ℕ). bit x y) (foes-met b n plains (next .plainly) (b .named n))
-      where
-        turned : (j y : ℕ) → j < n → y < n → bit (getD plains j 0) y ≡ bit (getD plains y 0) j
-        turned j y l k =
-            next .plainly .conflicts j y l k ∙ next .plainly .symmetric j y l k
-            ∙ sym (next .plainly .conflicts y j k l)
 
     -- c has what was seen and reaches none of them
     module _ (c : ℕ) (part : c ≤ v - bitAnd v f)

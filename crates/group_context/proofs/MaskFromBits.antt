@@ -1,15 +1,15 @@
 -- A number below a power of 2 is known by its bits, and so is what the operations of a 64-bit number make of two.
 -- Assumes nothing.
-use mathlib.Core.Path.{_≡_, refl, sym, _∙_}
-use mathlib.Core.Bool.{Bool, not, _||_, Bool·beq}
+use mathlib.Core.Path.{_≡_, refl, sym, ap, _∙_}
+use mathlib.Core.Bool.{Bool, true, not, _||_, Bool·beq}
 use mathlib.Core.Logic.{inl, inr}
-use Prim.Native.Nat.{ℕ, suc, _^_, _<_}
+use Prim.Native.Nat.{ℕ, zero, suc, _-_, _^_, _<_}
 use native.Mathlib.Omega.{arith}
 use lib.Bits.{bitOr, or-lt}
 use lib.Dec.{eqb}
 use lib.Pow.{pow-pos}
 use borrow.Author.Tests.{eqb-true, eq-eqb, not-true, not-false}
-use Rattle.math_lists.specs.NumbersBelow.{all, mask}
+use Rattle.math_lists.specs.NumbersBelow.{sum, all, mask}
 use Rattle.math_lists.proofs.Booleans.{clash, decide, off, same-test, either, neither, or-left, or-right}
 use Rattle.math_lists.proofs.Booleans.{beq-on, beq-eq, eqb-self}
 use Rattle.math_lists.proofs.NumbersBelow.{all-on, all-at, mask-below}
@@ -43,6 +43,17 @@ same-masks n f g =
     (λ h. eq-eqb (mask n f) (mask n g)
     (is-mask n (mask n f) g (mask-below n f)
     (λ j l. mask-bit n f j l ∙ beq-eq (f j) (g j) (all-at n (λ j. Bool·beq (f j) (g j)) h j l))))
+
+-- ---- the first k
+
+all-first : (k : ℕ) → mask k (λ j. true) ≡ 2 ^ k - 1
+unfolding mask sum
+all-first zero = refl
+all-first (suc k) = omega (arith, all-first k, pow-pos k)
+
+pub first-bits : (k r : ℕ) → r ≡ 2 ^ k - 1 → (r < 2 ^ k) × ((j : ℕ) → j < k → bit r j ≡ true)
+first-bits k r e =
+    (omega (arith, pow-pos k), λ j l. ap (λ (x : ℕ). bit x j) (e ∙ sym (all-first k)) ∙ mask-bit k (λ j. true) j l)
 
 -- ---- what has no member of m
 

@@ -3,8 +3,9 @@
 use mathlib.Core.Path.{_≡_, refl, sym, ap, _∙_}
 use mathlib.Core.Logic.{inl, inr}
 use mathlib.Core.Bool.{Bool, true, false, not, _&&_, _||_}
-use Prim.Native.Nat.{ℕ, _<_}
+use Prim.Native.Nat.{ℕ, _^_, _<_}
 use native.Mathlib.Decide.{ℕ-discrete}
+use lib.Bits.{bitOr}
 use lib.Dec.{eqb}
 use borrow.Author.Tests.{ne-eqb, eqb-true, not-true}
 use Rattle.math_lists.specs.NumbersBelow.{some}
@@ -12,7 +13,7 @@ use Rattle.math_lists.proofs.Booleans.{clash, off, same-test, both, and-on, eit
 use Rattle.math_lists.proofs.Booleans.{and-true, eqb-self}
 use Rattle.math_lists.proofs.NumbersBelow.{some-on, some-at, some-same}
 use Rattle.math_maximal.specs.Groups.{bit}
-use Rattle.math_maximal.proofs.Bits.{bit-none}
+use Rattle.math_maximal.proofs.Bits.{bit-none, bit-or, bit-power}
 use Rattle.math_maximal.proofs.OneMemberLess.{fewer, bit-fewer}
 use Rattle.group_step.specs.GroupRows.{mostSets}
 
@@ -76,60 +77,55 @@ module _ (m left i : ℕ) (few : i < mostSets) (here : bit left i ≡ true) (its
 
 -- ---- which are kept
 
--- of v the members that are left, and those that are gone and of which h holds
+-- of the members of v that are gone, those of which h holds
 abbrev pub isKept : ℕ → ℕ → (ℕ → Bool) → ℕ → Bool
-isKept v left h j = bit v j && (bit left j || h j)
+isKept v left h j = gone v left j && h j
 
-pub kept-first : (v : ℕ) (h : ℕ → Bool) (j : ℕ) → bit v j ≡ isKept v v h j
-kept-first v h j = split (bit v j)
+pub kept-first : (v : ℕ) (h : ℕ → Bool) (j : ℕ) → bit 0 j ≡ isKept v v h j
+kept-first v h j = bit-none j ∙ split (bit v j)
   where
-    split : (a : Bool) → a ≡ (a && (a || h j))
+    split : (a : Bool) → false ≡ (a && not a && h j)
     split true = refl
     split false = refl
 
 pub kept-last : (v left : ℕ) (h : ℕ → Bool) (j : ℕ) → left ≡ 0 → isKept v left h j ≡ (bit v j && h j)
-kept-last v left h j z = rw (z, bit-none j)
+kept-last v left h j z = rw (z, bit-none j) (ap (λ (t : Bool). t && h j) (and-true (bit v j)))
 
--- one more is gone: of it h does not hold, and it is not kept
-pub one-dropped :
-    (kept v left i : ℕ) (h : ℕ → Bool) → h i ≡ false → ((j : ℕ) → bit kept j ≡ isKept v left h j) →
-    (j : ℕ) → bit (fewer kept i) j ≡ isKept v (fewer left i) h j
-one-dropped kept v left i h never inv j =
-    bit-fewer kept i j
-    ∙ rw (inv j, bit-fewer left i j)
-    (elim (ℕ-discrete j i) [
-      | yes e ↦ rw (e, eqb-self i, never) (own (bit v i) (bit left i))
-      | no d ↦ rw (ne-eqb j i d) (others (bit v j) (bit left j) (h j))
-    ])
-  where
-    own : (a b : Bool) → ((a && (b || false)) && not true) ≡ (a && (b && not true || false))
-    own true true = refl
-    own true false = refl
-    own false b = refl
+-- one more is gone: of it h holds, and it is kept
+module _ (kept v left i : ℕ) (h : ℕ → Bool) (inv : (j : ℕ) → bit kept j ≡ isKept v left h j) where
+  pub one-kept :
+      bit v i ≡ true → bit left i ≡ true → h i ≡ true → (j : ℕ) →
+      bit (bitOr kept (2 ^ i)) j ≡ isKept v (fewer left i) h j
+  one-kept its here on j =
+      bit-or kept (2 ^ i) j
+      ∙ rw (inv j, bit-power i j, bit-fewer left i j)
+      (elim (ℕ-discrete j i) [
+        | yes e ↦ rw (e, eqb-self i, on, its, here)
+        | no d ↦ rw (ne-eqb j i d) (others (bit v j) (bit left j) (h j))
+      ])
+    where
+      others : (a b c : Bool) → ((a && not b) && c || false) ≡ ((a && not (b && not false)) && c)
+      others true true c = refl
+      others true false true = refl
+      others true false false = refl
+      others false b c = refl
 
-    others : (a b c : Bool) → ((a && (b || c)) && not false) ≡ (a && (b && not false || c))
-    others true true c = refl
-    others true false true = refl
-    others true false false = refl
-    others false b c = refl
+  -- or it does not, and it is not
+  pub one-passed : h i ≡ false → (j : ℕ) → bit kept j ≡ isKept v (fewer left i) h j
+  one-passed never j =
+      inv j
+      ∙ rw (bit-fewer left i j)
+      (elim (ℕ-discrete j i) [
+        | yes e ↦ rw (e, never) (own (gone v left i) (bit v i && not (bit left i && not (eqb i i))))
+        | no d ↦ rw (ne-eqb j i d) (others (bit v j) (bit left j) (h j))
+      ])
+    where
+      own : (a b : Bool) → (a && false) ≡ (b && false)
+      own true true = refl
+      own true false = refl
+      own false true = refl
+      own false false = refl
 
--- or it holds, and it is
-pub one-stays :
-    (kept v left i : ℕ) (h : ℕ → Bool) → h i ≡ true → ((j : ℕ) → bit kept j ≡ isKept v left h j) →
-    (j : ℕ) → bit kept j ≡ isKept v (fewer left i) h j
-one-stays kept v left i h on inv j =
-    inv j
-    ∙ rw (bit-fewer left i j)
-    (elim (ℕ-discrete j i) [
-      | yes e ↦ rw (e, eqb-self i, on) (own (bit v i) (bit left i))
-      | no d ↦ rw (ne-eqb j i d) (others (bit v j) (bit left j) (h j))
-    ])
-  where
-    own : (a b : Bool) → (a && (b || true)) ≡ (a && (b && not true || true))
-    own true true = refl
-    own true false = refl
-    own false b = refl
-
-    others : (a b c : Bool) → (a && (b || c)) ≡ (a && (b && not false || c))
-    others a true c = refl
-    others a false c = refl
+      others : (a b c : Bool) → ((a && not b) && c) ≡ ((a && not (b && not false)) && c)
+      others a true c = refl
+      others a false c = refl

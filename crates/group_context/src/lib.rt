@@ -3,10 +3,13 @@
 // conflict by document 01's rule, and `ctx[i]` is the context of i. A Set that comes after them, number n, is given by
 // its own numbers: bit j of `seen` says that its author had seen j, bit j of `named` that it lists j, and `limited`
 // that it is of kind 3. It may come after as many Sets as an object has at most.
+use group_step::SETS;
 ghost use mathlib.Core.Path.{_≡_};
 ghost use mathlib.Core.Bool.{Bool, _&&_};
 ghost use mathlib.Core.List.{List};
-ghost use Prim.Native.Nat.{ℕ, suc, _≤_, _<_};
+ghost use Prim.Native.Nat.{ℕ, suc, _-_, _^_, _≤_, _<_};
+ghost use lib.Bits.{bitAnd};
+ghost use lib.Count.{trailingZeros};
 ghost use lib.ListN.{length, take, getD};
 ghost use Rattle.math_lists.specs.NumbersBelow.{some, mask};
 ghost use Rattle.math_maximal.specs.Groups.{bit};
@@ -58,7 +61,9 @@ pub fn conflicts_of(plain: &[u64], ctx: &[u64], n: usize, row: u64, c: u64) -> u
         ⌜ ((b : Box) (v w : ℕ) (limited : Bool) → NextOf b n (now (plain .entry)) (now (ctx .entry)) v w limited →
         row ≡ mask n (b .plain n) → c ≡ context b n → r ≡ maskConflicts b n) ⌝ }
 {
-    conflicts_by(plain, ctx, n, row, c)
+    let foes = foes_of(plain, c);
+    let met = among_first(foes, n);
+    reaching_any(ctx, n, row | met)
 }
 
 // Puts, for each of the first n Sets, those of them that conflict with it into out, be they earlier, later or itself.
@@ -79,6 +84,25 @@ pub fn put_conflicts(out: &mut [u64], plain: &[u64], ctx: &[u64], n: usize)
     }
 }
 
+// The members of g among the first n Sets.
+fn among_first(g: u64, n: usize) -> u64
+    requires { ⌜ n ≤ mostSets ⌝ }
+    ensures { λ r. ⌜ (r < 2 ^ n) × ((j : ℕ) → j < n → bit r j ≡ bit g j) ⌝ }
+{
+    if n < SETS {
+        return g & (group_step::only(n) - 1);
+    }
+    g
+}
+
+// The members of g, which has some, but the first. A walk over the members need not wait for the first one's number.
+pub fn but_first(g: u64) -> u64
+    requires { ⌜ 0 < g ⌝ }
+    ensures { λ r. ⌜ r ≡ g - bitAnd g (2 ^ trailingZeros 64 g) ⌝ }
+{
+    g & (g - 1)
+}
+
 // Row j, and 0 past their end.
 fn row_at(rows: &[u64], j: usize) -> u64
     ensures { λ r. ⌜ r ≡ getD (now (rows .entry)) j 0 ⌝ }
@@ -91,16 +115,16 @@ fn clear_of(rows: &[u64], v: u64, m: u64) -> u64
     ensures { λ r. ⌜ (r ≤ v)
         × ((j : ℕ) → bit r j ≡ (bit v j && compatible m (getD (now (rows .entry)) j 0))) ⌝ }
 {
-    let mut kept = v;
+    let mut kept: u64 = 0;
     let mut left = v;
     while left != 0 {
         let j = u64::trailing_zeros(left) as usize;
         let row = row_at(rows, j);
-        let own = group_step::only(j);
-        if row & m != 0 {
-            kept = group_step::without(kept, own);
+        let rest = but_first(left);
+        if row & m == 0 {
+            kept = kept | (left - rest);
         }
-        left = group_step::without(left, own);
+        left = rest;
     }
     kept
 }
@@ -116,8 +140,7 @@ fn foes_of(plain: &[u64], m: u64) -> u64
         let j = u64::trailing_zeros(left) as usize;
         let row = row_at(plain, j);
         foes = foes | row;
-        let own = group_step::only(j);
-        left = group_step::without(left, own);
+        left = but_first(left);
     }
     foes
 }

@@ -1,5 +1,5 @@
 pub mod BitsFrom
-pub mod FirstAndLast
+pub mod WithoutFirst
 pub mod MemberByMask
 pub mod GroupsFound
 pub mod PartlyDecided

@@ -22,7 +22,7 @@ use Rattle.math_maximal.proofs.Bits.{compatible-on, compatible-at}
 use Rattle.math_maximal.proofs.FirstMember.{first-member}
 use Rattle.group_step.specs.GroupRows.{mostGroups, mostSets}
 use Rattle.group_engine.specs.SearchForms.{Conflicts, conflict, isGroup, Partial, Waiting, Stuck, FoundSoFar}
-use Rattle.group_engine.proofs.FirstAndLast.{still-member}
+use Rattle.group_engine.proofs.WithoutFirst.{still-member}
 use Rattle.group_engine.proofs.PartlyDecided.{is-group, stuck-none, passed-over, left-out, no-room, taken-in}
 use Rattle.group_engine.proofs.PartlyDecided.{still-out, all-fit, in-has, neither-in, fits-less}
 use Rattle.group_engine.proofs.GroupsFound.{found-none, found-one, found-last}

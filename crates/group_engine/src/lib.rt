@@ -8,23 +8,8 @@ ghost use Prim.Native.Nat.{ℕ, _+_, _^_, _≤_, _<_};
 ghost use lib.ListN.{length};
 ghost use Rattle.math_maximal.specs.Groups.{bit};
 ghost use Rattle.group_step.specs.GroupRows.{mostGroups, mostSets, settled};
-ghost use Rattle.group_engine.specs.SearchForms.{
-  Conflicts,
-  byMasks,
-  Partial,
-  Waiting,
-  Stuck,
-  FoundSoFar,
-  countTold,
-};
-
-// The last member of m.
-fn highest(m: u64) -> usize
-    requires { ⌜ 0 < m ⌝ }
-    ensures { λ r. ⌜ (m < 2 ^ (r + 1)) × (bit m r ≡ true) ⌝ }
-{
-    63 - u64::leading_zeros(m) as usize
-}
+ghost use Rattle.group_engine.specs.SearchForms.{Conflicts, byMasks, Partial, Waiting, Stuck, FoundSoFar};
+ghost use Rattle.group_engine.specs.SearchForms.{countTold};
 
 // Whether some member of `lone` conflicts with no member of `may`. Its members are gone through from the first on; that
 // none is missed is not said, for a search that goes on where it could stop finds the same.
@@ -101,7 +86,7 @@ fn decide_rest(
     let mut lone = unmet;
     let mut next = found;
     while may != 0 {
-        let k = highest(may);
+        let k = group_step::highest(may);
         let bit = group_step::only(k);
         let foes = conflicts[k];
         let rest = group_step::without(may, bit);

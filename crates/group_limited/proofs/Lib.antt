@@ -1,6 +1,7 @@
 pub mod OneMoreTaken
 pub mod MarkedRows
 pub mod NamesOfSets
+pub mod FoesConflict
 pub mod SeenThrough
 pub mod MarksOfSets
 pub mod RowsOneMore

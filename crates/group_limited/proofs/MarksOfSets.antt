@@ -23,11 +23,9 @@ use Rattle.edit_record.specs.RecordBytes.{noEdit}
 use Rattle.edit_record.specs.Answer1.{isLimited, nameOf, nameIn}
 use Rattle.edit_causal.specs.Conflict.{lists, listedBy}
 use Rattle.edit_causal.specs.ConflictForms.{saw}
-use Rattle.edit_history.specs.EditsHeld.{recordAt}
 use Rattle.edit_history.specs.Answer16.{isStrange}
-use Rattle.edit_history.proofs.EditsInPlaces.{sets-length, set-place}
 use Rattle.group_context.proofs.MaskFromBits.{is-mask}
-use Rattle.group_limited.specs.LimitedForms.{setsIn, seenMarks, namedMarks, marksOfName, isUnseen}
+use Rattle.group_limited.specs.LimitedForms.{seenMarks, namedMarks, marksOfName, isUnseen}
 use Rattle.group_limited.proofs.OneMoreTaken.{any-more}
 
 -- ---- the names that are listed
@@ -52,25 +50,19 @@ unfolding any
 none-listed ns k =
     is-mask k 0 (λ j. elem (getD ns j 0) []) (pow-pos k) (λ j m. bit-none j)
 
-module _ (rs ps : List ℕ) (k : ℕ) (fits : k ≤ length ps) (e : Edit) where
-  abbrev ms : List Edit
-  ms = setsIn rs ps k
-
-  long : length ms ≡ k
-  long = sets-length rs ps k fits
-
+module _ (ms : List Edit) (k : ℕ) (long : length ms ≡ k) (e : Edit) where
   pub plain-names-none : isLimited e ≡ false → 0 ≡ namedMarks e ms
   unfolding namedMarks
   plain-names-none h =
       is-mask (length ms) 0 (λ i. lists e (getD ms i noEdit)) (pow-pos (length ms)) (λ j m. rw h (bit-none j))
 
   -- ns has the names of the Sets
-  module _ (ns : List ℕ) (named : (i : ℕ) → i < k → getD ns i 0 ≡ nameOf (recordAt rs (getD ps i 0))) where
+  module _ (ns : List ℕ) (named : (i : ℕ) → i < k → getD ns i 0 ≡ nameOf (getD ms i noEdit)) where
     pub marks-named : isLimited e ≡ true → mask k (λ i. elem (getD ns i 0) (listedBy e)) ≡ namedMarks e ms
     unfolding namedMarks
     marks-named h =
         mask-same k (λ i. elem (getD ns i 0) (listedBy e)) (λ i. lists e (getD ms i noEdit))
-        (λ i l. rw (h, named i l, set-place rs ps k fits i l))
+        (λ i l. rw (h, named i l))
         ∙ ap (λ (n : ℕ). mask n (λ i. lists e (getD ms i noEdit))) (sym long)
 
     -- by the marks of those that were seen, whether the name x is strange
@@ -91,7 +83,6 @@ module _ (rs ps : List ℕ) (k : ℕ) (fits : k ≤ length ps) (e : Edit) where
             mask-bit (length ms) (λ j. saw e (getD ms j noEdit)) i (omega (arith, long)),
             mask-bit k (λ j. eqb (getD ns j 0) x) i l,
             named i l,
-            set-place rs ps k fits i l,
           ))
           ∙ same-test (some k (λ i. f (getD ms i noEdit))) (any f ms)
           (λ t. let (i, l, p) = some-at k (λ i. f (getD ms i noEdit)) t in

@@ -56,6 +56,15 @@ first-named :
     (ms more : List Edit) (n : ℕ) → length ms ≤ n → AllNamed (boxOn (ms ++ more)) n → AllNamed (boxOn ms) (length ms)
 first-named ms more n few all i l = sym (names-none-later (first-sets ms more) i l) ∙ all i (omega arith)
 
+-- the first of some Sets that are proper are proper
+pub first-proper : (ms more : List Edit) → Proper (ms ++ more) → Proper ms
+first-proper ms more p =
+    let few : length ms ≤ length (ms ++ more) = omega (arith, length-append ms more) in
+    record {
+      lawful = first-lawful ms more (length (ms ++ more)) few (p .lawful);
+      named = first-named ms more (length (ms ++ more)) few (p .named);
+    }
+
 module _ (rs ps : List ℕ) where
   -- the Set in the j-th of the places is nameless after those before it
   abbrev pub nameless : ℕ → Bool

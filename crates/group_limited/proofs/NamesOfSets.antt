@@ -1,6 +1,6 @@
 -- Sets by their names: what a name tells, and which of some Sets have one, by the sum of their numbers. Assumes
 -- nothing.
-use mathlib.Core.Path.{_≡_, refl, sym, ap, _∙_}
+use mathlib.Core.Path.{_≡_, refl, sym, ap, subst, _∙_}
 use mathlib.Core.Logic.{_⊎_, inl, inr}
 use mathlib.Core.Bool.{Bool, true, false, cond}
 use mathlib.Core.List.{List}
@@ -23,9 +23,11 @@ use Rattle.edit_record.proofs.FoursInBytes.{four-drop, fours-length, fours-at, 
 use Rattle.edit_causal.specs.Causal.{sameEdit, comesBefore}
 use Rattle.edit_causal.specs.Conflict.{doConflict}
 use Rattle.edit_causal.proofs.CausalLaws.{conflict-symmetric}
+use Rattle.edit_history.proofs.EditsInPlaces.{sets-length, set-place}
 use Rattle.group_true.proofs.ProperSets.{seen-agrees}
 use Rattle.group_context.proofs.MaskFromBits.{is-mask}
-use Rattle.group_limited.specs.LimitedForms.{NameOf, found, sumOfName, marksOfName}
+use Rattle.group_limited.specs.LimitedForms.{setsIn, NameOf, NamesOf, NamesIn}
+use Rattle.group_limited.specs.LimitedForms.{found, sumOfName, marksOfName}
 
 pub name-is :
     (e : Edit) (s q : ℕ) → s ≡ e .site .0 → q ≡ e .seq .0 → s < 256 → q < twoBytes → NameOf (s * twoBytes + q) e
@@ -34,6 +36,13 @@ name-is e s q es eq ls lq = record {
   site = omega (arith, es);
   seq = omega (arith, eq);
 }
+
+-- the names of the Sets in the first places
+pub names-there :
+    (rs ps : List ℕ) (k : ℕ) → k ≤ length ps → (ns : List ℕ) → NamesIn rs ps k ns → NamesOf ns (setsIn rs ps k)
+names-there rs ps k fits ns named i l =
+    let m : i < k = omega (arith, sets-length rs ps k fits) in
+    subst (NameOf (getD ns i 0)) (sym (set-place rs ps k fits i m)) (named i m)
 
 -- two Sets of one name are one edit
 pub same-name :

@@ -51,7 +51,7 @@ pub none-sees : (sees : List ℕ) → SeesTell [] sees
 none-sees sees i l recent = absurd (omega arith)
 
 -- of one Set more, e
-sees-one-more :
+pub sees-one-more :
     (ms : List Edit) (e : Edit) (n : ℕ) → length ms ≡ n → (sees : List ℕ) (x : ℕ) → SeesTell ms sees →
     x ≡ seenMarks e ms → mostRecent ≤ length sees → SeesTell (ms ++ (e ∷ [])) (set sees (n % mostRecent) x)
 unfolding seenMarks

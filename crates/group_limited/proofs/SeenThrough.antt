@@ -1,21 +1,19 @@
 -- Which of the Sets ms the author of e had seen, gone through from some number of them down: with one that he had seen,
 -- all that its author had seen is known. Then what conflicts with e of the others. Assumes nothing.
-use mathlib.Core.Path.{_≡_, refl, sym, ap, _∙_}
+use mathlib.Core.Path.{_≡_, refl, sym, _∙_}
 use mathlib.Core.Logic.{inl, inr}
 use mathlib.Core.Bool.{Bool, true, false, not, _&&_, _||_}
 use mathlib.Core.List.{List, [], _∷_, _++_}
-use Prim.Native.Nat.{ℕ, zero, suc, _+_, _-_, _/_, _%_, _^_, _≤_, _<_}
+use Prim.Native.Nat.{ℕ, suc, _+_, _-_, _%_, _^_, _≤_, _<_}
 use native.Mathlib.Omega.{arith}
-use native.Mathlib.Nat.{div-lt-iff-lt-mul, le-div-iff-mul-le}
 use lib.Bits.{bitAnd, bitOr, or-lt, and-le-l}
 use lib.Dec.{eqb}
 use lib.ListN.{length, getD, List·getD-append}
 use lib.Pow.{pow-pos, pow-lt}
 use lib.Seq.{getD-append-seam}
-use Rattle.math_lists.specs.NumbersBelow.{sum, mask}
 use Rattle.math_lists.proofs.Booleans.{clash, decide, either, and-on}
 use Rattle.math_lists.proofs.NumbersBelow.{mask-below}
-use borrow.Author.Tests.{eq-eqb, eqb-true}
+use borrow.Author.Tests.{eqb-true}
 use Rattle.math_maximal.specs.Groups.{bit}
 use Rattle.math_maximal.proofs.Bits.{bit-none, bit-and, bit-or, bit-minus, bit-power}
 use Rattle.math_maximal.proofs.Masks.{mask-at, mask-bit}
@@ -28,30 +26,6 @@ use Rattle.edit_causal.specs.ConflictForms.{plainMarks, saw}
 use Rattle.group_context.proofs.MaskFromBits.{is-mask}
 use Rattle.group_limited.specs.LimitedForms.{mostRecent, seenMarks, SeesTell, SeenBefore}
 use Rattle.group_limited.proofs.NamesOfSets.{seen-never-conflicts}
-
--- the number of the first k
-pub all-first : (k : ℕ) → mask k (λ j. true) ≡ 2 ^ k - 1
-unfolding mask sum
-all-first zero = refl
-all-first (suc k) = omega (arith, all-first k, pow-pos k)
-
-pub first-bits : (k r : ℕ) → r ≡ 2 ^ k - 1 → (r < 2 ^ k) × ((j : ℕ) → j < k → bit r j ≡ true)
-first-bits k r e =
-    (omega (arith, pow-pos k), λ j l. ap (λ (x : ℕ). bit x j) (e ∙ sym (all-first k)) ∙ mask-bit k (λ j. true) j l)
-
--- the last member
-pub top-bit : (m j : ℕ) → 2 ^ j ≤ m → m < 2 ^ suc j → bit m j ≡ true
-unfolding bit
-top-bit m j low high = eq-eqb (m / 2 ^ j % 2) 1 (one (m / 2 ^ j) least most)
-  where
-    least : 1 ≤ m / 2 ^ j
-    least = le-div-iff-mul-le (pow-pos j) .1 (omega arith)
-
-    most : m / 2 ^ j < 2
-    most = div-lt-iff-lt-mul (pow-pos j) .1 (omega arith)
-
-    one : (q : ℕ) → 1 ≤ q → q < 2 → q % 2 ≡ 1
-    one q a b = let e : q ≡ 1 = omega arith in rw e
 
 -- without some of its members a number is less
 pub fewer-left :
@@ -159,15 +133,16 @@ module _ (ms : List Edit) (e : Edit) where
   pub plain-of-others :
       (all seen plain : ℕ) → all < 2 ^ length ms → ((j : ℕ) → j < length ms → bit all j ≡ true) →
       seen ≡ seenMarks e ms → plain ≤ all - bitAnd all seen →
-      ((j : ℕ) → j < length ms → bit plain j
-      ≡ (bit (all - bitAnd all seen) j && doConflict (getD ms j noEdit) e)) → plain ≡ plainMarks e ms
+      (foe : ℕ → Bool) → ((j : ℕ) → j < length ms → bit plain j ≡ (bit (all - bitAnd all seen) j && foe j)) →
+      ((j : ℕ) → j < length ms → saw e (getD ms j noEdit) ≡ false → foe j ≡ doConflict (getD ms j noEdit) e) →
+      plain ≡ plainMarks e ms
   unfolding plainMarks seenMarks
-  plain-of-others all seen plain small h its-seen part bits =
+  plain-of-others all seen plain small h its-seen part foe bits foes =
       is-mask (length ms) plain (λ j. doConflict (getD ms j noEdit) e) (omega arith)
       (λ j l. bits j l
       ∙ rw (bit-minus all seen j, h j l, its-seen, mask-bit (length ms) its j l)
-      (split (its j) (doConflict (getD ms j noEdit) e) (seen-never-conflicts (getD ms j noEdit) e)))
+      (split (its j) (foe j) (doConflict (getD ms j noEdit) e) (seen-never-conflicts (getD ms j noEdit) e) (foes j l)))
     where
-      split : (s t : Bool) → (s ≡ true → t ≡ false) → ((true && not s) && t) ≡ t
-      split true t h = sym (h refl)
-      split false t h = refl
+      split : (s f t : Bool) → (s ≡ true → t ≡ false) → (s ≡ false → f ≡ t) → ((true && not s) && f) ≡ t
+      split true f t h k = sym (h refl)
+      split false f t h k = k refl

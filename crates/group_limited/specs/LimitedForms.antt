@@ -2,11 +2,11 @@
 -- told of a Set by those before it. No one need believe them: laws in proofs/ tie them to `Conflict` of `edit_causal`
 -- and to `Answer16` of `edit_history`. Assumes nothing.
 use mathlib.Core.Path.{_≡_}
-use mathlib.Core.Bool.{Bool, true, false, not, cond}
+use mathlib.Core.Bool.{Bool, true, false, not, _&&_, cond}
 use mathlib.Core.List.{List, [], _∷_, _++_, map}
 use Prim.Native.Nat.{ℕ, suc, _+_, _/_, _%_, _^_, _≤_, _<_}
 use lib.Bits.{bitOr}
-use lib.Dec.{eqb}
+use lib.Dec.{eqb, leb}
 use lib.ListN.{length, getD, take}
 use Rattle.math_lists.specs.NumbersBelow.{all, sum, mask}
 use Rattle.math_lists.specs.SortedLists.{any}
@@ -19,13 +19,15 @@ use Rattle.math_contexts.specs.NamedVersions.{namesNone}
 use Rattle.edit_record.specs.declared.Edit.{Edit}
 use Rattle.edit_record.specs.Layout.{twoBytes}
 use Rattle.edit_record.specs.RecordBytes.{noEdit}
-use Rattle.edit_record.specs.Answer1.{isLimited, nameOf}
+use Rattle.edit_record.specs.Answer1.{isSet, isLimited, nameOf}
 use Rattle.edit_causal.specs.Conflict.{lists, listedBy, boxOn, conflictsWith}
 use Rattle.edit_causal.specs.ConflictForms.{Proper, plainMarks, saw}
+use Rattle.edit_causal.specs.ShownValue.{shownValue}
 use Rattle.edit_history.specs.EditsHeld.{recordAt}
 use Rattle.edit_history.specs.Answer16.{isStrange, namelessAmong}
 use Rattle.group_context.specs.RowsOfBox.{PlainRows}
 use Rattle.group_limited.specs.declared.Marks.{Marks}
+use Rattle.group_limited.specs.declared.Side.{Side}
 use Rattle.group_limited.specs.declared.Sight.{Sight}
 use Rattle.group_limited.specs.declared.Told.{Told}
 use Rattle.group_limited.specs.declared.Judged.{Judged}
@@ -67,6 +69,24 @@ NamesOf ns ms = (i : ℕ) → i < length ms → NameOf (getD ns i 0) (getD ms i 
 -- of those in the first k of the places ps
 abbrev pub NamesIn : List ℕ → List ℕ → ℕ → List ℕ → Type 0
 NamesIn rs ps k ns = (i : ℕ) → i < k → NameOf (getD ns i 0) (recordAt rs (getD ps i 0))
+
+-- s tells what of e is held against the Sets that its author had not seen
+pub record SideOf (s : Side) (e : Edit) : Type 0 where
+  pub set : s .set ≡ isSet e
+  pub name : NameOf (s .name) e
+  pub site : s .aim % 256 ≡ e .tsite .0
+  pub key : s .aim / 256 % 256 ≡ e .key
+  pub seq : s .aim / twoBytes ≡ e .tseq .0
+  pub shown : s .shown ≡ shownValue (e .key) (e .value)
+
+-- the edit a, whose name is x, conflicts by document 01's rule with that of s, if its author had not seen it
+abbrev pub isFoe : ℕ → Side → Edit → Bool
+isFoe x s a =
+    isSet a && s .set
+    && not (eqb x (s .name))
+    && not (leb (s .name % twoBytes) (getD (a .vector) (s .name / twoBytes % 256) 0))
+    && (eqb (a .tsite .0) (s .aim % 256) && eqb (a .tseq .0) (s .aim / twoBytes) && eqb (a .key) (s .aim / 256 % 256))
+    && not (eqb (shownValue (a .key) (a .value)) (s .shown))
 
 -- where ns has the names of the first k Sets: those whose name is x, and that it is none of the members of `seen`
 abbrev pub marksOfName : List ℕ → ℕ → ℕ → ℕ
@@ -133,10 +153,11 @@ pub record JudgedOf (ms : List Edit) (e : Edit) (j : Judged) : Type 0 where
       Proper ms → Lawful (boxOn (ms ++ (e ∷ []))) (suc (length ms)) → j .nameless ≡ false →
       j .conflicts ≡ conflictsWith e ms
 
--- the same, but that the conflicts are asked for only where `found` holds
+-- the same, but that the conflicts are asked for only where `found` holds, and 16 of a limited Set too
 pub record JudgedWhere (found : Bool) (ms : List Edit) (e : Edit) (j : Judged) : Type 0 where
   pub nameless :
-      Proper ms → Lawful (boxOn (ms ++ (e ∷ []))) (suc (length ms)) → j .nameless ≡ namelessAmong ms e
+      (isLimited e ≡ true → found ≡ true) → Proper ms → Lawful (boxOn (ms ++ (e ∷ []))) (suc (length ms)) →
+      j .nameless ≡ namelessAmong ms e
   pub conflicts :
       found ≡ true → Proper ms → Lawful (boxOn (ms ++ (e ∷ []))) (suc (length ms)) → j .nameless ≡ false →
       j .conflicts ≡ conflictsWith e ms

@@ -24,29 +24,20 @@ ghost use Prim.Native.Nat.{ℕ, _^_, _≤_, _<_};
 ghost use lib.ListN.{length, take, getD};
 ghost use Rattle.math_lists.specs.NumbersBelow.{mask};
 ghost use Rattle.math_lists.specs.SortedLists.{any, elem};
-ghost use Rattle.edit_record.specs.Layout.{mostMembers};
-ghost use Rattle.edit_record.specs.RecordBytes.{decodeOf};
+ghost use Rattle.edit_record.specs.declared.Edit.{Edit};
+ghost use Rattle.edit_record.specs.Layout.{mostMembers, countAt};
+ghost use Rattle.edit_record.specs.RecordBytes.{two, decodeOf};
 ghost use Rattle.edit_record.specs.Answer1.{isLimited};
 ghost use Rattle.edit_causal.specs.Conflict.{listedBy};
 ghost use Rattle.edit_history.specs.EditsHeld.{recordAt};
 ghost use Rattle.edit_history.specs.Answer16.{isStrange};
 ghost use Rattle.group_step.specs.GroupRows.{mostSets};
-ghost use Rattle.group_limited.specs.LimitedForms.{
-  setsIn,
-  mostRecent,
-  seenMarks,
-  namedMarks,
-  marksOn,
-  NameOf,
-  NamesIn,
-  SightedTo,
-  sumOfName,
-  marksOfName,
-  isUnseen,
-};
+ghost use Rattle.group_limited.specs.LimitedForms.{setsIn, mostRecent, seenMarks, namedMarks, marksOn};
+ghost use Rattle.group_limited.specs.LimitedForms.{NameOf, NamesOf, NamesIn, SightedTo, sumOfName};
+ghost use Rattle.group_limited.specs.LimitedForms.{marksOfName, isUnseen};
 
 // The vector of the edit of rec.
-fn vector_in(rec: &[u8]) -> [u16; SITES]
+pub fn vector_in(rec: &[u8]) -> [u16; SITES]
     ensures { λ r. ⌜ r ≡ decodeOf (now (rec .entry)) .vector ⌝ }
 {
     if RECORD <= rec.len() {
@@ -57,7 +48,7 @@ fn vector_in(rec: &[u8]) -> [u16; SITES]
 }
 
 // The name of the edit of rec.
-fn name_of(rec: &[u8]) -> u32
+pub fn name_of(rec: &[u8]) -> u32
     ensures { λ r. ⌜ NameOf r (decodeOf (now (rec .entry))) ⌝ }
 {
     let site = edit_record::byte_at(rec, AT_SITE);
@@ -111,7 +102,8 @@ pub fn marks_of(
     let seen = seen::seen_of(names, sees, k, own, &v);
     let all = seen::first(k);
     let others = group_step::without(all, seen);
-    let plain = seen::plain_of(recs, places, others, rec);
+    let side = seen::side_of(rec, own);
+    let plain = seen::foes_among(recs, places, names, others, side);
     Marks { plain, seen }
 }
 
@@ -185,11 +177,13 @@ fn listed(count: u32) -> usize
 }
 
 // Member i of a limited Set, read where it stands: there are as many as the first two bytes of the count say.
-fn member_of(rec: &[u8], i: usize) -> u32
-    requires { ⌜ (isLimited (decodeOf (now rec)) ≡ true) × (i < mostMembers) ⌝ }
+fn member_of(rec: &[u8], count: u16, i: usize) -> u32
+    requires { ⌜ (isLimited (decodeOf (now rec)) ≡ true)
+        × (i < mostMembers)
+        × (count ≡ two (now rec) countAt) ⌝ }
     ensures { λ r. ⌜ r ≡ getD (decodeOf (now (rec .entry)) .members) i 0 ⌝ }
 {
-    if edit_record::two_at(rec, AT_COUNT) as usize <= i {
+    if count as usize <= i {
         return 0;
     }
     edit_record::four_at(rec, AT_MEMBERS + MEMBER * i)
@@ -197,7 +191,7 @@ fn member_of(rec: &[u8], i: usize) -> u32
 
 // Of the k first names those that a limited Set lists, and whether it lists one that is that of none of the members of
 // `seen`.
-fn listed_among(names: &[u32], k: usize, seen: u64, rec: &[u8]) -> Listed
+pub fn listed_among(names: &[u32], k: usize, seen: u64, rec: &[u8]) -> Listed
     requires { ⌜ (k ≤ mostSets) × (k ≤ length (now names)) × (isLimited (decodeOf (now rec)) ≡ true) ⌝ }
     ensures { λ r.
         ⌜ (r .named ≡ mask k (λ i. elem (getD (now (names .entry)) i 0) (listedBy (decodeOf (now (rec .entry))))))
@@ -205,11 +199,12 @@ fn listed_among(names: &[u32], k: usize, seen: u64, rec: &[u8]) -> Listed
         ≡ any (isUnseen (now (names .entry)) k seen) (listedBy (decodeOf (now (rec .entry))))) ⌝ }
 {
     let n = listed(edit_record::four_at(rec, AT_COUNT));
+    let count = edit_record::two_at(rec, AT_COUNT);
     let mut named: u64 = 0;
     let mut strange = false;
     let mut i: usize = 0;
     while i < n {
-        let m = marks_of_name(names, k, edit_record::name_in(member_of(rec, i)));
+        let m = marks_of_name(names, k, edit_record::name_in(member_of(rec, count, i)));
         named = named | m;
         strange = strange | (m & seen == 0);
         i += 1;
@@ -217,26 +212,16 @@ fn listed_among(names: &[u32], k: usize, seen: u64, rec: &[u8]) -> Listed
     Listed { named, strange }
 }
 
-// Which of the Sets in the k first places that of rec lists, where these are their names and its author had seen the
-// members of `seen`. A Set that is not limited lists none.
-pub fn list_of(
-    recs: &[u8],
-    places: &[u16],
-    names: &[u32],
-    k: usize,
-    seen: u64,
-    rec: &[u8],
-) -> Listed
-    requires { ⌜ (k ≤ mostSets)
-        × (k ≤ length (now places))
-        × (k ≤ length (now names))
-        × NamesIn (now recs) (now places) k (now names) ⌝ }
+// Which of the k Sets with these names that of rec lists, where its author had seen the members of `seen`. A Set that
+// is not limited lists none.
+pub fn list_of(names: &[u32], k: usize, seen: u64, rec: &[u8]) -> Listed
+    requires { ⌜ (k ≤ mostSets) × (k ≤ length (now names)) ⌝ }
     ensures { λ r.
-        ⌜ (seen ≡ seenMarks (decodeOf (now (rec .entry))) (setsIn (now (recs .entry)) (now (places .entry)) k) →
-        (r .named ≡ namedMarks (decodeOf (now (rec .entry))) (setsIn (now (recs .entry)) (now (places .entry)) k))
+        ⌜ ((ms : List Edit) → length ms ≡ k → NamesOf (now (names .entry)) ms →
+        seen ≡ seenMarks (decodeOf (now (rec .entry))) ms →
+        (r .named ≡ namedMarks (decodeOf (now (rec .entry))) ms)
         × (isLimited (decodeOf (now (rec .entry))) ≡ true → r .strange
-        ≡ any (isStrange (setsIn (now (recs .entry)) (now (places .entry)) k) (decodeOf (now (rec .entry))))
-        (listedBy (decodeOf (now (rec .entry)))))) ⌝ }
+        ≡ any (isStrange ms (decodeOf (now (rec .entry)))) (listedBy (decodeOf (now (rec .entry)))))) ⌝ }
 {
     if edit_record::byte_at(rec, AT_KIND) != LIMITED {
         return Listed {

@@ -3,7 +3,7 @@
 // are taken one after another, each by the rows that tell of those before it: bit j of `plain[i]` says that Sets i and
 // j conflict by document 01's rule, and `ctx[i]` is the context of Set i.
 pub mod earlier;
-mod seen;
+pub mod seen;
 
 use earlier::list_of;
 use earlier::marks_of;
@@ -29,19 +29,9 @@ ghost use Rattle.edit_history.specs.EditsHeld.{recordAt};
 ghost use Rattle.edit_history.specs.Answer16.{namelessAmong};
 ghost use Rattle.group_step.specs.GroupRows.{mostSets};
 ghost use Rattle.group_context.specs.RowsOfBox.{whatIsLeft};
-ghost use Rattle.group_limited.specs.LimitedForms.{
-  setsIn,
-  mostRecent,
-  NamesIn,
-  SeesTell,
-  SightedTo,
-  SightOf,
-  withMark,
-  RowsTell,
-  ToldOf,
-  JudgedOf,
-  namedInTurn,
-};
+ghost use Rattle.group_limited.specs.LimitedForms.{setsIn, mostRecent, NamesIn, SeesTell, SightedTo};
+ghost use Rattle.group_limited.specs.LimitedForms.{SightOf, withMark, RowsTell, ToldOf, JudgedOf};
+ghost use Rattle.group_limited.specs.LimitedForms.{namedInTurn};
 
 // Of so many Sets of an object, the last ones, it is kept what their authors had seen.
 pub const RECENT: usize = 16;
@@ -51,6 +41,15 @@ pub const RECENT: usize = 16;
 pub struct Marks {
     pub plain: u64,
     pub seen: u64,
+}
+
+// What of a Set is held against those that its author had not seen: whether it is one, its name, its target and its key
+// as one number, and its value as it is compared.
+pub struct Side {
+    pub set: bool,
+    pub name: u32,
+    pub aim: u32,
+    pub shown: u32,
 }
 
 // The Sets before a Set that it lists, and whether it lists a name that is that of none which its author had seen.
@@ -110,7 +109,8 @@ fn sight_of(recs: &[u8], places: &[u16], names: &[u32], sees: &[u64], k: usize, 
         (SightOf (setsIn (now (recs .entry)) (now (places .entry)) k) (decodeOf (now (rec .entry))) r) ⌝ }
 {
     let m = marks_of(recs, places, names, sees, k, rec);
-    let l = list_of(recs, places, names, k, m.seen, rec);
+    // lent on as parts: else a note of where each lies is copied before anything is done, and waited for
+    let l = list_of(&names[0..], k, m.seen, &rec[0..]);
     Sight {
         plain: m.plain,
         seen: m.seen,
@@ -121,7 +121,7 @@ fn sight_of(recs: &[u8], places: &[u16], names: &[u32], sees: &[u64], k: usize, 
 }
 
 // The same for the Set in place p.
-fn sight_at(recs: &[u8], places: &[u16], names: &[u32], sees: &[u64], k: usize, p: u16) -> Sight
+pub fn sight_at(recs: &[u8], places: &[u16], names: &[u32], sees: &[u64], k: usize, p: u16) -> Sight
     requires { ⌜ (k ≤ mostSets)
         × (k ≤ length (now places))
         × (k ≤ length (now names))
@@ -141,7 +141,7 @@ fn sight_at(recs: &[u8], places: &[u16], names: &[u32], sees: &[u64], k: usize, 
 
 // What is left of what the author of a Set had seen, by its sight of those before it, whose rows these are: its
 // context, if it names a version.
-fn left_by(plain: &[u64], ctx: &[u64], s: Sight) -> u64
+pub fn left_by(plain: &[u64], ctx: &[u64], s: Sight) -> u64
     ensures { λ r.
         ⌜ ((ms : List Edit) (e : Edit) → length ms ≤ mostSets → RowsTell ms (now (plain .entry)) (now (ctx .entry)) →
         SightOf ms e s → r ≡ whatIsLeft (boxOn (ms ++ (e ∷ []))) (length ms)) ⌝ }
@@ -162,7 +162,7 @@ fn is_nameless(plain: &[u64], s: Sight, own: u64) -> bool
 }
 
 // What is told of a Set after the n first, whose rows these are, by its sight of them.
-fn told_by(plain: &[u64], ctx: &[u64], n: usize, s: Sight) -> Told
+pub fn told_by(plain: &[u64], ctx: &[u64], n: usize, s: Sight) -> Told
     requires { ⌜ (n ≤ mostSets) × (n ≤ length (now plain)) × (n ≤ length (now ctx)) ⌝ }
     ensures { λ r. ⌜ (r .row ≡ s .plain)
         × ((ms : List Edit) (e : Edit) → length ms ≡ n → RowsTell ms (now (plain .entry)) (now (ctx .entry)) →
@@ -218,8 +218,7 @@ fn mark_in_rows(plain: &mut [u64], n: usize, row: u64)
     while left != 0 {
         let j = u64::trailing_zeros(left) as usize;
         plain[j] = plain[j] | own;
-        let bit = group_step::only(j);
-        left = group_step::without(left, bit);
+        left = group_context::but_first(left);
     }
 }
 

@@ -1,3 +1,4 @@
+pub mod LastMember
 pub mod CodeStep
 pub mod LoopRuns
 pub mod PutAmong

@@ -7,22 +7,8 @@ use native.Mathlib.Nat.{le-antisymm}
 use native.Mathlib.Numerals.{add-one}
 use native.Mathlib.Omega.{arith}
 use lib.ListN.{length, getD, take, drop, set, replicate, take-append-drop}
-use lib.Seq.{
-  slice,
-  slice-cons,
-  slice-empty,
-  take-suc,
-  take-suc-set,
-  append-snoc,
-  take-set-lt,
-  drop-set-lt,
-  take-take,
-  drop-cons,
-  drop-drop,
-  set-at,
-  length-take-le,
-  drop-length,
-}
+use lib.Seq.{slice, slice-cons, slice-empty, take-suc, take-suc-set, append-snoc, take-set-lt, drop-set-lt}
+use lib.Seq.{take-take, drop-cons, drop-drop, set-at, length-take-le, drop-length}
 
 -- one number more is passed as it is
 pub passed :

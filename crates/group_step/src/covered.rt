@@ -32,9 +32,9 @@ fn put_wholes(gs: &[u64], n: usize, m: u64, k: usize, out: &mut [u64]) -> usize
     let mut i: usize = 0;
     while i < n {
         let g = gs[i];
-        let x = candidate_of(m, k, g);
+        // written in any case, and kept if it counts: so there is nothing to be guessed wrong
+        out[w] = candidate_of(m, k, g);
         if is_compatible(m, g) {
-            out[w] = x;
             w += 1;
         }
         i += 1;

@@ -31,22 +31,24 @@ pub const PIECE: usize = 16;
 
 pub const PIECES: usize = ALL_KEYS + SETS;
 
-// Forms ` key=value` at the front by the stamp s.
-fn form_setting(text: &mut [u8], key: u8, s: u64) -> usize
-    requires { ⌜ (key < keys) × (0 < s) × (pieceLength ≤ length (now text)) ⌝ }
-    ensures { λ r. ⌜ (take r (now (text .exit)) ≡ stampText key s) × (r ≤ 1 + equatedLength) ⌝ }
+// Forms ` key=value` by the stamp s behind the first n bytes.
+pub fn form_setting(text: &mut [u8], n: usize, key: u8, s: u64) -> usize
+    requires { ⌜ (key < keys) × (0 < s) × (n + (1 + equatedLength) ≤ length (now text)) ⌝ }
+    ensures { λ r. ⌜ (take r (now (text .exit)) ≡ take n (now (text .entry)) ++ stampText key s)
+        × (r ≤ n + (1 + equatedLength)) ⌝ }
 {
-    let w = put_byte(text, 0, SPACE);
+    let w = put_byte(text, n, SPACE);
     put_equated(text, w, key, shown(key, ((s - 1) % VALUES) as u32))
 }
 
-// Forms `+` and the name of the Set in dispute x at the front.
-fn form_name(text: &mut [u8], x: u64) -> usize
-    requires { ⌜ pieceLength ≤ length (now text) ⌝ }
-    ensures { λ r. ⌜ (take r (now (text .exit)) ≡ plus ∷ nameText (nameBy x)) × (r ≤ 1 + dottedLength) ⌝ }
+// Forms `+` and the name of the Set in dispute x behind the first n bytes.
+pub fn form_name(text: &mut [u8], n: usize, x: u64) -> usize
+    requires { ⌜ n + (1 + dottedLength) ≤ length (now text) ⌝ }
+    ensures { λ r. ⌜ (take r (now (text .exit)) ≡ take n (now (text .entry)) ++ (plus ∷ nameText (nameBy x)))
+        × (r ≤ n + (1 + dottedLength)) ⌝ }
 {
     let name = x / NUMBERS;
-    let w = put_byte(text, 0, PLUS);
+    let w = put_byte(text, n, PLUS);
     put_dotted(
         text,
         w,
@@ -61,9 +63,9 @@ fn form(text: &mut [u8], j: usize, v: u64) -> usize
     ensures { λ r. ⌜ (take r (now (text .exit)) ≡ pieceText j v) × (r ≤ pieceMost j) ⌝ }
 {
     if j < ALL_KEYS {
-        return form_setting(text, j as u8, v);
+        return form_setting(text, 0, j as u8, v);
     }
-    form_name(text, v)
+    form_name(text, 0, v)
 }
 
 // Whether the piece in place j is the one that v tells.

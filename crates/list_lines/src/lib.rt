@@ -1,11 +1,10 @@
 // The lines of the printed list by their numbers: line 0, and the line of each version.
+use edit_walk::PLACES;
 use group_step::GROUPS;
 use group_step::OBJECTS;
 use group_step::SETS;
-use list_line::BUFFER;
-use list_line::pieces::PIECE;
-use list_line::pieces::PIECES;
-use list_line::put_line;
+use list_line::LINE;
+use list_line::alone::put_lone_line;
 use list_objects::Gathered;
 use list_objects::gather;
 use list_objects::order::sort_objects;
@@ -20,16 +19,16 @@ use table_output::put_at;
 ghost use mathlib.Core.Path.{_≡_};
 ghost use mathlib.Core.Bool.{true};
 ghost use mathlib.Core.List.{[]};
-ghost use Prim.Native.Nat.{_+_, _≤_, _<_};
+ghost use Prim.Native.Nat.{_≤_, _<_};
 ghost use lib.ListN.{length, getD, take};
 ghost use Rattle.math_lists.specs.NumbersBelow.{sum};
+ghost use Rattle.edit_walk.specs.WalkForms.{Indexed};
 ghost use Rattle.group_step.specs.GroupRows.{mostObjects, mostGroups};
 ghost use Rattle.table_drawing.specs.Tables.{groupsAt, tablesOf};
 ghost use Rattle.table_drawing.specs.AnswerNumbers.{numberOf};
 ghost use Rattle.table_soundness.specs.Sound.{sound};
 ghost use Rattle.table_output.specs.Output.{writing};
 ghost use Rattle.list_line.specs.Line.{lineLength};
-ghost use Rattle.list_line.specs.LineForms.{pieceLength};
 ghost use Rattle.list_lines.specs.List.{linesFor, linesOf};
 ghost use Rattle.list_lines.specs.LineByNumber.{lineOf};
 ghost use Rattle.list_lines.specs.LinesForms.{LongEnough, lineIn, headOf, FoundIn, NumberedAs};
@@ -70,9 +69,17 @@ pub fn head(out: &mut [u8], c: Counters, objects: &[u16]) -> usize
     list_text::put_head(out, c.sites as u32, c.objects as u32, total, c.sum)
 }
 
-// Where the k-th line of a version is found, line 0 left out.
-fn find(c: Counters, records: &[u8], objects: &[u16], groups: &[u64], k: usize) -> LinePlace
-    requires { ⌜ sound (tablesOf c (now records) (now objects) (now groups)) ≡ true ⌝ }
+// Where the k-th line of a version is found, line 0 left out, by the index of the records' places.
+fn find(
+    c: Counters,
+    records: &[u8],
+    objects: &[u16],
+    groups: &[u64],
+    places: &[u16],
+    k: usize,
+) -> LinePlace
+    requires { ⌜ (sound (tablesOf c (now records) (now objects) (now groups)) ≡ true)
+        × Indexed (now records) (c .records) (now places) ⌝ }
     ensures { λ r.
         ⌜ FoundIn (tablesOf c (now (records .entry)) (now (objects .entry)) (now (groups .entry))) k r ⌝ }
 {
@@ -83,6 +90,7 @@ fn find(c: Counters, records: &[u8], objects: &[u16], groups: &[u64], k: usize) 
         c.records as usize,
         objects,
         c.objects as usize,
+        places,
     );
     let mut left = k;
     let mut i: usize = 0;
@@ -118,21 +126,14 @@ fn put_version(
 ) -> usize
     requires { ⌜ LongEnough g (now disputes) (now stamps) (now keyed) (now versions)
         × (v < mostGroups)
-        × (lineLength + pieceLength ≤ length (now out)) ⌝ }
+        × (lineLength ≤ length (now out)) ⌝ }
     ensures { λ r.
         ⌜ (take r (now (out .exit))
         ≡ lineIn g (now (disputes .entry)) (now (stamps .entry)) (getD (now (versions .entry)) v 0))
         × (r ≤ lineLength) ⌝ }
 {
-    // what work space holds at first does not matter; zeros would be set by memset (docs/DECISIONS.md, 24)
-    let mut texts = [1u8; PIECES * PIECE];
-    let mut lens = [0u8; PIECES];
-    let mut told = [0u64; PIECES];
-    put_line(
+    put_lone_line(
         out,
-        &mut texts,
-        &mut lens,
-        &mut told,
         g.site,
         g.seq,
         disputes,
@@ -158,7 +159,7 @@ fn put_found(
     requires { ⌜ (sound (tablesOf c (now records) (now objects) (now groups)) ≡ true)
         × (o < c .objects)
         × (v < length (linesFor (tablesOf c (now records) (now objects) (now groups)) o))
-        × (lineLength + pieceLength ≤ length (now out)) ⌝ }
+        × (lineLength ≤ length (now out)) ⌝ }
     ensures { λ r. ⌜ (take r (now (out .exit))
         ≡ getD (linesFor (tablesOf c (now (records .entry)) (now (objects .entry)) (now (groups .entry))) o) v [])
         × (r ≤ lineLength) ⌝ }
@@ -185,17 +186,19 @@ fn put_found(
     put_version(out, g, &disputes, &stamps, &keyed, &versions, v)
 }
 
-// Puts line k at the front of out, if there is one.
+// Puts line k at the front of out, if there is one, by the index of the records' places.
 fn put_numbered(
     out: &mut [u8],
     c: Counters,
     records: &[u8],
     objects: &[u16],
     groups: &[u64],
+    places: &[u16],
     k: usize,
 ) -> PutLine
     requires { ⌜ (sound (tablesOf c (now records) (now objects) (now groups)) ≡ true)
-        × (lineLength + pieceLength ≤ length (now out)) ⌝ }
+        × Indexed (now records) (c .records) (now places)
+        × (lineLength ≤ length (now out)) ⌝ }
     ensures { λ r. ⌜ NumberedAs
         (linesOf (tablesOf c (now (records .entry)) (now (objects .entry)) (now (groups .entry))))
         k r (now (out .exit)) ⌝ }
@@ -204,7 +207,7 @@ fn put_numbered(
         let bytes = head(out, c, objects);
         return PutLine { ok: true, bytes };
     }
-    let f = find(c, records, objects, groups, k - 1);
+    let f = find(c, records, objects, groups, places, k - 1);
     if !f.ok {
         return PutLine {
             ok: false,
@@ -229,14 +232,16 @@ pub fn print_line(
         ≡ lineOf (tablesOf c (now (records .entry)) (now (objects .entry)) (now (groups .entry))) k
         (now (out .entry)) start ⌝ }
 {
-    if !table_soundness::is_sound(c, records, objects, groups) {
+    // what work space holds at first does not matter; zeros would be set by memset (docs/DECISIONS.md, 24)
+    let mut places = [1u16; PLACES];
+    if !table_soundness::is_sound_with(c, records, objects, groups, &mut places) {
         return Written {
             answer: Answer::Unsound,
             bytes: 0,
         };
     }
-    let mut line = [0u8; BUFFER];
-    let r = put_numbered(&mut line, c, records, objects, groups, k);
+    let mut line = [1u8; LINE];
+    let r = put_numbered(&mut line, c, records, objects, groups, &places, k);
     if !r.ok {
         return Written {
             answer: Answer::NoLine,

@@ -2,37 +2,20 @@
 -- Assumes nothing.
 use mathlib.Core.Path.{_≡_, refl, _∙_}
 use mathlib.Core.Bool.{Bool, true, false, cond}
-use mathlib.Core.List.{List, [], _∷_, _++_, map, map-append}
-use Prim.Native.Nat.{ℕ, _+_, _<_, max}
-use native.Mathlib.Numerals.{add-one}
+use mathlib.Core.List.{List, [], _∷_, _++_}
+use Prim.Native.Nat.{ℕ, max}
 use native.Mathlib.Omega.{arith}
-use lib.ListN.{length, getD, take}
-use lib.Seq.{take-suc}
 use Rattle.math_lists.specs.SortedLists.{insertBy, gatherBy}
 use Rattle.edit_record.specs.declared.Edit.{Edit}
-use Rattle.edit_history.specs.EditsHeld.{recordAt}
 use Rattle.list_objects.specs.ObjectForms.{largestOf}
 
 module _ (f : Edit → ℕ) where
   -- ---- one edit more
 
-  largest-snoc : (es : List Edit) (e : Edit) → largestOf f (es ++ (e ∷ [])) ≡ max (largestOf f es) (f e)
+  pub largest-snoc : (es : List Edit) (e : Edit) → largestOf f (es ++ (e ∷ [])) ≡ max (largestOf f es) (f e)
   unfolding largestOf
   largest-snoc [] e = omega arith
   largest-snoc (x ∷ es) e = rw (largest-snoc es e) (omega arith)
-
-  -- in the places of a table
-  pub largest-more :
-      (rs ps : List ℕ) (i : ℕ) → i < length ps →
-      largestOf f (map (recordAt rs) (take (i + 1) ps))
-      ≡ max (largestOf f (map (recordAt rs) (take i ps))) (f (recordAt rs (getD ps i 0)))
-  largest-more rs ps i l =
-      rw (add-one, take-suc ps i 0 l, map-append (recordAt rs) (take i ps) (getD ps i 0 ∷ []))
-      (largest-snoc (map (recordAt rs) (take i ps)) (recordAt rs (getD ps i 0)))
-
-  pub largest-none : (rs ps : List ℕ) → 0 ≡ largestOf f (map (recordAt rs) (take 0 ps))
-  unfolding largestOf
-  largest-none rs ps = refl
 
   -- ---- put in an order
 

@@ -1,4 +1,5 @@
 pub mod LargestKey
+pub mod TopsByIndex
 pub mod KeysPut
 pub mod KeysByTops
 pub mod GatheredIs

@@ -105,7 +105,8 @@ fn put_object(
     )
 }
 
-// Puts the lines of all objects behind the first n bytes, in their order.
+// Puts the lines of all objects behind the first n bytes, in their order, by the index of the records' places and the
+// chain of the Sets of each object.
 fn put_objects(
     out: &mut [u8],
     line: &mut [u8],
@@ -114,9 +115,11 @@ fn put_objects(
     records: &[u8],
     objects: &[u16],
     groups: &[u64],
+    places: &[u16],
     chain: &[u16],
 ) -> usize
     requires { ⌜ (sound (tablesOf c (now records) (now objects) (now groups)) ≡ true)
+        × Indexed (now records) (c .records) (now places)
         × Chained (now records) (c .records) (now chain)
         × (n + mostObjects * (mostGroups * lineLength) ≤ listLength)
         × (lineLength + pieceLength ≤ length (now line)) ⌝ }
@@ -127,7 +130,7 @@ fn put_objects(
     let m = c.objects as usize;
     // what work space holds at first does not matter; zeros would be set by memset (docs/DECISIONS.md, 24)
     let mut order = [1u16; OBJECTS];
-    sort_objects(&mut order, records, c.records as usize, objects, m);
+    sort_objects(&mut order, records, c.records as usize, objects, m, places);
     let mut texts = [1u8; PIECES * PIECE];
     let mut lens = [0u8; PIECES];
     let mut told = [0u64; PIECES];
@@ -180,7 +183,17 @@ pub fn put_list_by(
     // what work space holds at first does not matter; zeros would be set by memset (docs/DECISIONS.md, 24)
     let mut chain = [1u16; RECORDS];
     table_sets::chain_sets(records, c.records as usize, places, &mut chain);
-    put_objects(out, &mut line, w, c, records, objects, groups, &chain)
+    put_objects(
+        out,
+        &mut line,
+        w,
+        c,
+        records,
+        objects,
+        groups,
+        places,
+        &chain,
+    )
 }
 
 // The same, and the index is made first.

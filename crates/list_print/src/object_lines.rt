@@ -1,4 +1,5 @@
 // The lines of a gathered object, put into the output one behind another where they have room.
+use list_line::alone::put_lone_line;
 use list_line::put_line;
 use list_objects::Gathered;
 use table_output::copy_in;
@@ -70,8 +71,8 @@ fn put_version(
     put_behind(out, n, line, k)
 }
 
-// Puts the lines of all versions behind the first n bytes.
-pub fn put_versions(
+// Puts the lines of all versions behind the first n bytes, one after another.
+fn put_each(
     out: &mut [u8],
     line: &mut [u8],
     texts: &mut [u8],
@@ -114,4 +115,79 @@ pub fn put_versions(
         v += 1;
     }
     w
+}
+
+// Puts the line of the only version of the object gathered behind the first n bytes.
+fn put_alone(
+    out: &mut [u8],
+    line: &mut [u8],
+    n: usize,
+    g: Gathered,
+    disputes: &[u64],
+    stamps: &[u64],
+    keyed: &[u64],
+    versions: &[u64],
+) -> usize
+    requires { ⌜ LongEnough g (now disputes) (now stamps) (now keyed) (now versions)
+        × (n + lineLength ≤ listLength)
+        × (lineLength ≤ length (now line)) ⌝ }
+    ensures { λ r. ⌜ Behind (now (out .entry)) n
+        (lineIn g (now (disputes .entry)) (now (stamps .entry)) (getD (now (versions .entry)) 0 0)) lineLength
+        (now (out .exit)) r ⌝ }
+{
+    let k = put_lone_line(
+        line,
+        g.site,
+        g.seq,
+        disputes,
+        g.disputes,
+        stamps,
+        g.sets,
+        keyed,
+        g.peaks,
+        versions[0],
+    );
+    put_behind(out, n, line, k)
+}
+
+// Puts the lines of all versions behind the first n bytes; of one version alone no piece is kept.
+pub fn put_versions(
+    out: &mut [u8],
+    line: &mut [u8],
+    texts: &mut [u8],
+    lens: &mut [u8],
+    told: &mut [u64],
+    n: usize,
+    g: Gathered,
+    disputes: &[u64],
+    stamps: &[u64],
+    keyed: &[u64],
+    versions: &[u64],
+) -> usize
+    requires { ⌜ LongEnough g (now disputes) (now stamps) (now keyed) (now versions)
+        × (g .count ≤ mostGroups)
+        × (n + mostGroups * lineLength ≤ listLength)
+        × (lineLength + pieceLength ≤ length (now line))
+        × Kept (now texts) (now lens) (now told) ⌝ }
+    ensures { λ r. ⌜ Behind (now (out .entry)) n
+        (joined (map (lineIn g (now (disputes .entry)) (now (stamps .entry)))
+        (take (g .count) (now (versions .entry))))) (g .count * lineLength) (now (out .exit)) r
+        × Kept (now (texts .exit)) (now (lens .exit)) (now (told .exit)) ⌝ }
+{
+    if g.count == 1 {
+        return put_alone(out, line, n, g, disputes, stamps, keyed, versions);
+    }
+    put_each(
+        out,
+        line,
+        texts,
+        lens,
+        told,
+        n,
+        g,
+        disputes,
+        stamps,
+        keyed,
+        versions,
+    )
 }

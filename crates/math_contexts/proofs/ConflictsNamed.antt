@@ -22,13 +22,8 @@ use Rattle.math_contexts.specs.Box.{Box, disputed, disputedBy}
 use Rattle.math_contexts.specs.Contexts.{reachIn}
 use Rattle.math_contexts.specs.SameSets.{SameBelow}
 use Rattle.math_contexts.specs.Versions.{contextBy}
-use Rattle.math_contexts.specs.NamedVersions.{
-  conflictsBy,
-  hasList,
-  versionsNamed,
-  contextsNamed,
-  namesNone,
-}
+use Rattle.math_contexts.specs.NamedVersions.{conflictsBy, hasList, versionsNamed, contextsNamed}
+use Rattle.math_contexts.specs.NamedVersions.{namesNone}
 
 -- ---- what it says, where cs are the contexts
 

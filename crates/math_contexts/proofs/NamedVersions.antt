@@ -21,13 +21,8 @@ use Rattle.math_maximal.proofs.Groups.{below-at, groups-at, groups-on, groups-a
 use Rattle.math_contexts.specs.Box.{Box, disputedBy, Lawful}
 use Rattle.math_contexts.specs.Contexts.{contextIn, contexts, context, conflicts}
 use Rattle.math_contexts.specs.Versions.{namesVersion, Valid, contextBy, AllNamed, Version}
-use Rattle.math_contexts.specs.NamedVersions.{
-  conflictsBy,
-  hasList,
-  versionsNamed,
-  contextsNamed,
-  namesNone,
-}
+use Rattle.math_contexts.specs.NamedVersions.{conflictsBy, hasList, versionsNamed, contextsNamed}
+use Rattle.math_contexts.specs.NamedVersions.{namesNone}
 use Rattle.math_contexts.proofs.ContextMembers.{context-below, reach-in}
 use Rattle.math_contexts.proofs.NamesTest.{names-at, names-on}
 use Rattle.math_contexts.proofs.KnownByDisputed.{names-some, version-is-context}

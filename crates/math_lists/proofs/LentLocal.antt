@@ -21,38 +21,8 @@ use base.Fml.{Lft, GName, Share, Fml, ftrue, fsep, flft, fdead, fres, flent}
 use prog.Wp.{Heap}
 use ghost.Atoms.{Atoms, sem}
 use contract.BorrowLft.{_⊑_, meet-⊑-left, meet-⊑-right}
-use types.Kit.{
-  Given,
-  Item,
-  ‵,
-  raw,
-  _⊛_,
-  some,
-  later,
-  ⋆,
-  _$_,
-  _∵_,
-  !,
-  qed,
-  move,
-  drop,
-  use1,
-  use2,
-  use3,
-  split,
-  pick,
-  apply,
-  fsplit,
-  fjoin,
-  fpick,
-  fpack,
-  frame,
-  await,
-  updating,
-  now as at-once,
-  show,
-  done,
-}
+use types.Kit.{Given, Item, ‵, raw, _⊛_, some, later, ⋆, _$_, _∵_, !, qed, move, drop, use1, use2, use3, split}
+use types.Kit.{pick, apply, fsplit, fjoin, fpick, fpack, frame, await, updating, now as at-once, show, done}
 use types.SemTy.{Body}
 use types.Tokens.{lft-new, lft-end}
 use denote.RattleType.{RattleType}

@@ -7,17 +7,7 @@ use native.Mathlib.Nat.{le-of-lt}
 use native.Mathlib.Numerals.{add-one}
 use native.Mathlib.Omega.{arith}
 use lib.ListN.{length, getD, set, take, drop, length-drop, length-append, List·getD-append}
-use lib.Seq.{
-  length-take-le,
-  take-suc,
-  drop-cons,
-  append-snoc,
-  set-at,
-  getD-take,
-  getD-drop,
-  drop-at,
-  drop-drop,
-}
+use lib.Seq.{length-take-le, take-suc, drop-cons, append-snoc, set-at, getD-take, getD-drop, drop-at, drop-drop}
 
 abbrev pub put : List ℕ → ℕ → ℕ → List ℕ → List ℕ
 put l at w r = take at l ++ (r ++ drop (at + w) l)

@@ -1,7 +1,7 @@
 -- What is judged of an edit where no Set of its object is limited and it is not: document 01's conflicts are all that
--- there are. Assumes nothing.
+-- there are. Where its object is not held, nothing is judged of it. Assumes nothing.
 use mathlib.Core.Path.{_≡_, sym}
-use mathlib.Core.Bool.{true, false, not, _||_}
+use mathlib.Core.Bool.{true, false, not, _&&_, _||_}
 use mathlib.Core.List.{List}
 use Prim.Native.Nat.{ℕ, _<_}
 use lib.ListN.{length, getD}
@@ -24,14 +24,18 @@ module _ (es : List Edit) (e : Edit) (v : Surveyed) (sv : SurveyedOf es e v) whe
   ms = setsOn (e .tsite) (e .tseq) es
 
   pub judged-plainly :
-      not (isLimited e || v .limited) ≡ true →
+      not (v .found && (isLimited e || v .limited)) ≡ true →
       JudgedWhere (v .found) ms e (record { nameless = false; conflicts = v .plain })
   unfolding surveyOf
   judged-plainly h =
-      let (own, others) = neither (isLimited e) (v .limited) (not-true (isLimited e || v .limited) h) in
+      let free : v .found ≡ true → (isLimited e ≡ false) × (v .limited ≡ false)
+      = λ found. neither (isLimited e) (v .limited)
+      (rw found at (not-true (v .found && (isLimited e || v .limited)) h)) in
       record {
-        nameless = λ proper lawful. sym (plain-named ms e own);
+        nameless = λ asked proper lawful.
+            sym (plain-named ms e (off (isLimited e) (λ y. clash y (free (asked y) .0))));
         conflicts = λ found proper lawful named.
+            let (own, others) = free found in
             let is = sv .whole found in
             let none : any isLimited ms ≡ false = rw is at others in
             let each : (i : ℕ) → i < length ms → isLimited (getD ms i noEdit) ≡ false

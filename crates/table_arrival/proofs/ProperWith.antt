@@ -12,12 +12,14 @@ use Rattle.edit_record.specs.declared.Site.{Site}
 use Rattle.edit_record.specs.declared.Seq.{Seq}
 use Rattle.edit_record.specs.declared.Edit.{Edit}
 use Rattle.edit_record.specs.Answer1.{isSet}
+use Rattle.edit_record.proofs.WellFormed.{set-aimed, limited-set}
 use Rattle.edit_causal.specs.Conflict.{boxOn}
 use Rattle.edit_causal.specs.ConflictForms.{NoneItself, Proper}
 use Rattle.edit_causal.proofs.ConflictsAmongSets.{none-itself}
 use Rattle.edit_history.specs.EditsHeld.{setsOn, isTarget}
 use Rattle.edit_history.specs.Answers2to5.{passes}
 use Rattle.edit_history.specs.Answer16.{isNameless}
+use Rattle.edit_history.proofs.RecordsPassed.{passed}
 use Rattle.group_limited.specs.declared.Judged.{Judged}
 use Rattle.group_limited.specs.LimitedForms.{JudgedWhere}
 use Rattle.group_true.proofs.ProperSets.{Orderly, orderly-table, lawful-after, orderly-more}
@@ -57,6 +59,10 @@ module _ (t : Tables) (s : Sound t) where
       JudgedWhere found (matesOf t e) e j → Judges (t .counters .sites) (heldBy t) e j
   judges e j found is of =
       record {
-        nameless = λ pass. of .nameless (proper-held (e .tsite) (e .tseq)) (lawful-with e pass);
+        nameless = λ pass.
+            of .nameless
+            (λ y. is
+            ∙ passed (t .counters .sites) (heldBy t) e pass .aimed (set-aimed e (limited-set e y)))
+            (proper-held (e .tsite) (e .tseq)) (lawful-with e pass);
         conflicts = λ held pass. of .conflicts (is ∙ held) (proper-held (e .tsite) (e .tseq)) (lawful-with e pass);
       }

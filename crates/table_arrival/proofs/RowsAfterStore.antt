@@ -5,18 +5,8 @@ use mathlib.Core.List.{List, [], _∷_, _++_}
 use Prim.Native.Nat.{ℕ, suc, _+_, _-_, _*_, _^_, _≤_, _<_}
 use native.Mathlib.Omega.{arith}
 use native.Mathlib.Decide.{decLt}
-use lib.ListN.{
-  length,
-  getD,
-  take,
-  drop,
-  replicate,
-  length-drop,
-  length-append,
-  length-replicate,
-  getD-replicate,
-  List·getD-append,
-}
+use lib.ListN.{length, getD, take, drop, replicate, length-drop, length-append, length-replicate}
+use lib.ListN.{getD-replicate, List·getD-append}
 use lib.Seq.{length-take-le, getD-take, getD-drop, getD-append-add, take-append-le, take-all, ext-getD}
 use Rattle.math_lists.specs.SortedLists.{elem, Ascending}
 use Rattle.math_lists.proofs.ByPlaces.{elem-place, place-elem, ascending-on, ascending-at}

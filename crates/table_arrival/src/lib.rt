@@ -1,12 +1,12 @@
 // What an arriving edit does to the tables: document 01, 'Numbers given back' and 'Conflict, groups, identifiers'.
 pub mod asked;
+mod judging;
 
 use edit_history::RECORDS;
 use edit_history::Surveyed;
 use edit_record::AT_KIND;
 use edit_record::AT_SITE;
 use edit_record::CREATE;
-use edit_record::LIMITED;
 use edit_record::PLACE;
 use edit_record::RECORD;
 use edit_record::Site;
@@ -22,11 +22,9 @@ ghost use mathlib.Core.List.{[], _∷_};
 ghost use Prim.Native.Nat.{_+_, _≤_, _<_};
 ghost use lib.ListN.{length, getD};
 ghost use Rattle.edit_record.specs.Layout.{twoBytes, recordLength, placeLength};
-ghost use Rattle.edit_record.specs.RecordBytes.{decodeOf, spanOf};
-ghost use Rattle.edit_history.specs.EditsHeld.{mostRecords, editsOf, setsOn};
-ghost use Rattle.edit_history.specs.SurveyForms.{SurveyedOf};
-ghost use Rattle.group_step.specs.GroupRows.{mostObjects, mostSets};
-ghost use Rattle.group_limited.specs.LimitedForms.{JudgedWhere};
+ghost use Rattle.edit_record.specs.RecordBytes.{spanOf};
+ghost use Rattle.edit_history.specs.EditsHeld.{mostRecords};
+ghost use Rattle.group_step.specs.GroupRows.{mostObjects};
 ghost use Rattle.table_drawing.specs.Tables.{tablesOf, recordsLength, objectsLength};
 ghost use Rattle.table_drawing.specs.AnswerNumbers.{outcomeOf, numberOf};
 ghost use Rattle.table_arrival.specs.Answers6and7.{firstOf, inTurn};
@@ -287,31 +285,6 @@ fn take_layer(c: Counters, records: &mut [u8], rec: &[u8], s: Site) -> Counters
     counted_with(c, s, rec, 0)
 }
 
-// What is judged of an arriving record with its survey v, where the first n records are held. Where no Set of its
-// object is limited, and it is not, document 01's conflicts are all that there are; else the places of those Sets are
-// looked for.
-pub fn judge(recs: &[u8], n: usize, rec: &[u8], v: Surveyed) -> Judged
-    requires { ⌜ (n ≤ mostRecords)
-        × (length (setsOn (decodeOf (now rec) .tsite) (decodeOf (now rec) .tseq) (editsOf (now recs) n)) ≤ mostSets)
-        × SurveyedOf (editsOf (now recs) n) (decodeOf (now rec)) v ⌝ }
-    ensures { λ r. ⌜ JudgedWhere (v .found)
-        (setsOn (decodeOf (now (rec .entry)) .tsite) (decodeOf (now (rec .entry)) .tseq)
-        (editsOf (now (recs .entry)) n))
-        (decodeOf (now (rec .entry))) r ⌝ }
-{
-    if !((edit_record::byte_at(rec, AT_KIND) == LIMITED) | v.limited) {
-        return Judged {
-            nameless: false,
-            conflicts: v.plain,
-        };
-    }
-    let e = edit_record::decode(rec);
-    // what work space holds at first does not matter; zeros would be set by memset (docs/DECISIONS.md, 24)
-    let mut places = [1u16; SETS];
-    let k = edit_object::put_places(&mut places, recs, n, e.tsite, e.tseq);
-    group_limited::judge(recs, &places, k, rec)
-}
-
 // An arrival, at tables that are known to be sound, as those that an arrival left are, of a record to which none of 1
 // to 3 is given, with its survey v and what is judged of it, j. Where the rows are known to be apart, as those of true
 // tables are, a Set without conflict is taken faster.
@@ -387,6 +360,6 @@ pub fn arrive(
         };
     }
     let v = asked::survey(c, records, &places, rec);
-    let j = judge(records, c.records as usize, rec, v);
+    let j = judging::judge(records, c.records as usize, rec, v);
     accept(c, records, objects, groups, rec, v, j, false)
 }

@@ -3,17 +3,8 @@
 use mathlib.Core.Path.{_≡_, refl, sym, ap, _∙_}
 use mathlib.Core.Logic.{inl, inr}
 use mathlib.Core.Bool.{Bool, true, false, not, _&&_, _||_, cond}
-use mathlib.Core.List.{
-  List,
-  [],
-  _∷_,
-  _++_,
-  append-nil,
-  append-assoc,
-  List·Memᴰ·not-nil,
-  List·Memᴰ·append-cases,
-  List·Memᴰ·eq-of-singleton,
-}
+use mathlib.Core.List.{List, [], _∷_, _++_, append-nil, append-assoc, List·Memᴰ·not-nil, List·Memᴰ·append-cases}
+use mathlib.Core.List.{List·Memᴰ·eq-of-singleton}
 use Prim.Native.Nat.{ℕ, zero, suc, _≤_, _<_}
 use native.Mathlib.Omega.{arith}
 use native.Mathlib.Decide.{ℕ-discrete}

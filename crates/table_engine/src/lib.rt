@@ -8,11 +8,13 @@ use group_step::GROUPS;
 use group_step::SETS;
 use table_drawing::Answer;
 use table_drawing::Counters;
+use table_sets::by_key::KEY_CHAINS;
+use table_sets::by_key::take_set;
 ghost use mathlib.Core.Path.{_≡_};
 ghost use mathlib.Core.Bool.{false};
 ghost use Prim.Native.Nat.{_≤_};
 ghost use lib.ListN.{length};
-ghost use Rattle.math_lists.specs.SortedLists.{any};
+ghost use Rattle.math_lists.specs.SortedLists.{Asc, any};
 ghost use Rattle.edit_record.specs.Answer1.{isLimited};
 ghost use Rattle.edit_causal.specs.ConflictForms.{Proper};
 ghost use Rattle.edit_history.specs.EditsHeld.{mostRecords, editsOf, setsOn};
@@ -21,6 +23,7 @@ ghost use Rattle.group_engine.specs.SearchForms.{countTold};
 ghost use Rattle.group_limited.specs.LimitedForms.{setsIn};
 ghost use Rattle.table_drawing.specs.Tables.{tablesOf};
 ghost use Rattle.table_drawing.specs.AnswerNumbers.{numberOf};
+ghost use Rattle.table_sets.specs.KeyForms.{Tells};
 ghost use Rattle.table_engine.specs.Enumeration.{mostDecided, enumeration, enumerationIn, enumerationOf};
 ghost use Rattle.table_engine.specs.EngineForms.{groupsIn, MaskedTo};
 
@@ -34,17 +37,22 @@ pub struct Enumerated {
 }
 
 // Puts down for each of the Sets in the k first places which of them conflict with it, where none is limited: document
-// 01's conflicts are all that there are.
+// 01's conflicts are all that there are, and each Set is held against those of its key alone.
 fn put_plainly(recs: &[u8], places: &[u16], k: usize, masks: &mut [u64])
     requires { ⌜ (k ≤ length (now places))
         × (k ≤ mostDecided)
         × (k ≤ length (now masks))
-        × (any isLimited (setsIn (now recs) (now places) k) ≡ false) ⌝ }
+        × (any isLimited (setsIn (now recs) (now places) k) ≡ false)
+        × Asc Tells (setsIn (now recs) (now places) k) ⌝ }
     ensures { λ r. ⌜ MaskedTo k (setsIn (now (recs .entry)) (now (places .entry)) k) (now (masks .exit)) ⌝ }
 {
+    let mut latest = [0u8; KEY_CHAINS];
+    // what work space holds at first does not matter; zeros would be set by memset (docs/DECISIONS.md, 24)
+    let mut earlier = [1u8; DECIDED];
+    let mut tolds = [1u64; DECIDED];
     let mut i: usize = 0;
     while i < k {
-        let row = table_index::marks_at(recs, places, i, places[i]);
+        let row = take_set(&mut latest, &mut earlier, &mut tolds, recs, places, i);
         group_limited::put_row(masks, i, row);
         i += 1;
     }
@@ -73,7 +81,8 @@ fn put_masks(recs: &[u8], places: &[u16], k: usize, masks: &mut [u64])
     requires { ⌜ (k ≤ length (now places))
         × (k ≤ mostDecided)
         × (k ≤ length (now masks))
-        × Proper (setsIn (now recs) (now places) k) ⌝ }
+        × Proper (setsIn (now recs) (now places) k)
+        × Asc Tells (setsIn (now recs) (now places) k) ⌝ }
     ensures { λ r. ⌜ MaskedTo k (setsIn (now (recs .entry)) (now (places .entry)) k) (now (masks .exit)) ⌝ }
 {
     if group_limited::is_any_limited(recs, places, k) {
@@ -89,7 +98,8 @@ fn put_groups(recs: &[u8], places: &[u16], k: usize, out: &mut [u64]) -> usize
     requires { ⌜ (k ≤ length (now places))
         × (k ≤ mostDecided)
         × (length (now out) ≡ mostGroups)
-        × Proper (setsIn (now recs) (now places) k) ⌝ }
+        × Proper (setsIn (now recs) (now places) k)
+        × Asc Tells (setsIn (now recs) (now places) k) ⌝ }
     ensures { λ r. ⌜ (r ≡ countTold (groupsIn (now (recs .entry)) (now (places .entry)) k))
         × (now (out .exit)
         ≡ settled (groupsIn (now (recs .entry)) (now (places .entry)) k) (now (out .entry))) ⌝ }
@@ -105,7 +115,8 @@ fn enumerate_held(recs: &[u8], n: usize, s: Site, q: Seq, out: &mut [u64]) -> En
     requires { ⌜ (n ≤ mostRecords)
         × (length (setsOn s q (editsOf (now recs) n)) ≤ mostSets)
         × (length (now out) ≡ mostGroups)
-        × Proper (setsOn s q (editsOf (now recs) n)) ⌝ }
+        × Proper (setsOn s q (editsOf (now recs) n))
+        × Asc Tells (setsOn s q (editsOf (now recs) n)) ⌝ }
     ensures { λ r. ⌜ enumeration (numberOf (r .answer)) (r .count) (now (out .exit))
         ≡ enumerationIn (editsOf (now (recs .entry)) n) s q (now (out .entry)) ⌝ }
 {

@@ -26,7 +26,7 @@ ghost use Rattle.table_index.specs.IndexForms.{linkedIn, Arriving, unsee
 // The chains have the place of the latest Set of each object and key; then, from here on, for each Set the place of the
 // one before it in its chain; and then for each object whether a Set of it is limited. 0 is none: the first record is a
 // Create.
-const LINKS: usize = OBJECTS * KEYS as usize;
+pub const LINKS: usize = OBJECTS * KEYS as usize;
 
 pub const LIMITS: usize = LINKS + RECORDS;
 

@@ -9,7 +9,6 @@ use edit_record::AT_KEY;
 use edit_record::AT_TARGET;
 use edit_record::AT_TARGET_SEQ;
 use edit_record::CREATE;
-use edit_record::Edit;
 use edit_record::PLACE;
 use edit_record::RECORD;
 use edit_record::Seq;
@@ -146,32 +145,6 @@ pub fn build(
     }
 }
 
-// Whether the edit in place p conflicts with e. Most edits are told by their keys.
-pub fn is_conflict_at(recs: &[u8], p: u16, e: Edit) -> bool
-    ensures { λ r. ⌜ r ≡ doConflict (recordAt (now (recs .entry)) p) e ⌝ }
-{
-    if edit_record::byte_at(recs, p as usize * PLACE + AT_KEY) != e.key {
-        return false;
-    }
-    let a = edit_history::decode_at(recs, p as usize);
-    edit_causal::is_conflict(a, e)
-}
-
-// Which of the edits in the k first places conflict with e by document 01's rule, bit i for the i-th.
-pub fn plain_marks(recs: &[u8], places: &[u16], k: usize, e: Edit) -> u64
-    requires { ⌜ (k ≤ length (now places)) × (k ≤ mostSets) ⌝ }
-    ensures { λ r. ⌜ r ≡ plainMarks e (setsIn (now (recs .entry)) (now (places .entry)) k) ⌝ }
-{
-    let mut marks: u64 = 0;
-    let mut i: usize = 0;
-    while i < k {
-        let b = is_conflict_at(recs, places[i], e);
-        marks = edit_history::marked_if(b, marks, i);
-        i += 1;
-    }
-    marks
-}
-
 // Whether the edit in place p conflicts with that of rec, a record that is there whole. Where the other is there whole
 // too, both are read where they stand.
 fn is_conflict_with(recs: &[u8], p: u16, rec: &[u8]) -> bool
@@ -201,20 +174,6 @@ fn marks_with(recs: &[u8], places: &[u16], k: usize, rec: &[u8]) -> u64
         i += 1;
     }
     marks
-}
-
-// The same for the edit in place p.
-pub fn marks_at(recs: &[u8], places: &[u16], k: usize, p: u16) -> u64
-    requires { ⌜ (k ≤ length (now places)) × (k ≤ mostSets) ⌝ }
-    ensures { λ r. ⌜ r
-        ≡ plainMarks (recordAt (now (recs .entry)) p) (setsIn (now (recs .entry)) (now (places .entry)) k) ⌝ }
-{
-    let at = p as usize * PLACE;
-    if at + RECORD <= recs.len() {
-        return marks_with(recs, places, k, &recs[at..]);
-    }
-    let e = edit_history::decode_at(recs, p as usize);
-    plain_marks(recs, places, k, e)
 }
 
 // The same, and whether one of those edits is limited.

@@ -2,15 +2,15 @@
 -- index of the tables after it. Assumes nothing.
 use mathlib.Core.Path.{_≡_, refl, sym, ap, ap₂, subst, _∙_}
 use mathlib.Core.Logic.{inl, inr}
-use mathlib.Core.Bool.{true, false}
+use mathlib.Core.Bool.{true, false, cond}
 use mathlib.Core.List.{List}
-use Prim.Native.Nat.{ℕ, suc, _+_, _≤_, _<_}
+use Prim.Native.Nat.{ℕ, suc, _+_, _<_}
 use native.Mathlib.Omega.{arith}
 use native.Mathlib.Numerals.{add-one}
 use lib.Dec.{eqb}
 use lib.ListN.{length, getD, set}
 use borrow.Author.Tests.{eqb-true}
-use Rattle.math_lists.proofs.Booleans.{clash, either}
+use Rattle.math_lists.proofs.Booleans.{clash, decide, either, or-left, or-off}
 use Rattle.edit_record.specs.declared.Edit.{Edit}
 use Rattle.edit_record.specs.Layout.{recordLength, setKind}
 use Rattle.edit_record.specs.RecordBytes.{decodeOf, spanOf}
@@ -20,7 +20,6 @@ use Rattle.edit_history.specs.EditsHeld.{recordAt}
 use Rattle.edit_history.specs.SurveyForms.{bump}
 use Rattle.edit_sum.specs.WordSum.{recordWords, wrapped, sumOf}
 use Rattle.edit_walk.specs.WalkForms.{placesLength, slotOf, placeOf, Spaced, SameStarts, countIn}
-use Rattle.group_step.specs.GroupRows.{mostGroups}
 use Rattle.table_drawing.specs.Tables.{Tables, tablesOf}
 use Rattle.table_drawing.specs.AnswerNumbers.{outcomeOf}
 use Rattle.table_soundness.proofs.SoundFacts.{Sound, sound-at}
@@ -28,13 +27,13 @@ use Rattle.table_index.specs.IndexForms.{numberAt, IndexOf, Holds, countersOf, 
 use Rattle.table_index.specs.declared.Looked.{Looked}
 use Rattle.table_index.proofs.OneRecordMore.{spot-low, starts-kept, create-added, place-added, set-added, target-at}
 use Rattle.table_index.proofs.OneRecordMore.{on-target}
-use Rattle.table_arrival.specs.Arrival.{putRecord, putCounts, putEntry, acceptanceOf}
+use Rattle.table_arrival.specs.Arrival.{putRecord, acceptanceOf}
 use Rattle.table_arrival.proofs.CodeInHand.{holds}
 use Rattle.table_arrival.proofs.PlainTaken.{fit-admitted, site-count, create-stored, layer-stored, set-stored, row-kept}
 use Rattle.table_arrival.proofs.PlainTaken.{object-few, used-few, used-ascends, used-small, used-apart, zero-behind}
 use Rattle.table_arrival.proofs.RecordsOneMore.{put-here}
-use Rattle.table_plain.specs.TakingForms.{TakesPlain, LeavesPlain, spotOf, Enters, steppedBy, Steps}
-use Rattle.table_plain.specs.TakingForms.{rowsBy}
+use Rattle.table_plain.specs.TakingForms.{TakesPlain, LeavesPlain, spotOf}
+use Rattle.table_plain.specs.TakingForms.{Enters, Steps, StoresBeside, StoredBeside}
 use Rattle.table_plain.proofs.IndexGoesAlong.{counted-on, grown, has-room, room-on, holds-on, index-on}
 use Rattle.table_plain.proofs.IndexGoesAlong.{numbered-on}
 
@@ -203,16 +202,7 @@ module _
 
     -- ---- what the code asks
 
-    pub create-enters : isCreate e ≡ true → Enters held rs n ps b
-    create-enters k = enter-asks _ (create-stored t b s whole (p .few) ps ns cs r f k)
-
-    pub layer-enters : isCreate e ≡ false → isSet e ≡ false → Enters held rs n ps b
-    layer-enters c k = enter-asks _ (layer-stored t b s whole (p .few) ps ns cs r f c k)
-
-    pub set-enters : isSet e ≡ true → length (steppedBy os gs r) ≤ mostGroups → Enters held rs n ps b
-    set-enters k few = enter-asks _ (set-stored t b s whole (p .few) ps ns cs r f k few)
-
-    pub set-steps : isSet e ≡ true → Steps os gs ns cs hs (e .key) r
+    set-steps : isSet e ≡ true → Steps os gs ns cs hs (e .key) r
     set-steps k =
         record {
           object = object-few t b s whole (p .few) ps ns cs r f k;
@@ -231,53 +221,95 @@ module _
           count = rw (← f .set k .count) (f .set k .room);
         }
 
-    -- ---- what it leaves
+    set-by-kind : eqb (e .kind) setKind ≡ true → isSet e ≡ true
+    set-by-kind = or-left (eqb (e .kind) setKind) (isLimited e)
 
-    -- where there is no room for the groups
-    pub set-kept :
-        isSet e ≡ true → mostGroups < length (steppedBy os gs r) → (os′ gs′ ns′ cs′ hs′ : List ℕ) → os′ ≡ os →
-        gs′ ≡ rowsBy os gs r → ns′ ≡ ns → cs′ ≡ cs → hs′ ≡ hs →
-        LeavesPlain t b false (tablesOf (countersOf sites n m held sum) rs os′ gs′) ps ns cs hs ps ns′ cs′ hs′
-    set-kept k many os′ gs′ ns′ cs′ hs′ o g a c h =
+    no-set-by-kind : eqb (e .kind) setKind ≡ false → isSet e ≡ false
+    no-set-by-kind k = or-off (eqb (e .kind) setKind) (isLimited e) k (f .plain)
+
+    pub store-asks : StoresBeside m os gs ns cs hs e r
+    store-asks =
         record {
-          plain = λ y. clash y refl;
-          taken = λ y. clash y refl;
-          tables = λ y. rw (o, g, row-kept t b s whole (p .few) ps ns cs r f k many);
-          index = λ y. (refl, a, c, h);
+          of-set = λ k. set-steps (set-by-kind k);
+          of-create = f .create-room;
+          objects-long = s .objects-long;
+          numbers-long = p .index .numbers-long;
         }
 
-    module _
-        (held′ rs′ ps′ : List ℕ)
-        (sum′ : ℕ)
-        (bumped : held′ ≡ bump held (e .site))
-        (put : rs′ ≡ putRecord rs n b)
-        (placed : ps′ ≡ set ps (spotOf ps b) n)
-        (added : sum′ ≡ wrapped (sum + sumOf (recordWords b) b)) where
-      pub create-left :
-          isCreate e ≡ true → (os′ ns′ : List ℕ) → os′ ≡ putEntry os m n 0 1 → ns′ ≡ set ns n m →
-          LeavesPlain t b true (tablesOf (countersOf sites (n + 1) (m + 1) held′ sum′) rs′ os′ gs) ps ns cs hs ps′
-          ns′ cs hs
-      create-left k os′ ns′ o a =
-          rw (bumped, put, placed, added, o, a)
-          (create-leaves _ (create-stored t b s whole (p .few) ps ns cs r f k) k)
+    -- ---- what it leaves
 
-      pub layer-left :
-          isCreate e ≡ false → isSet e ≡ false →
-          LeavesPlain t b true (tablesOf (countersOf sites (n + 1) m held′ sum′) rs′ os gs) ps ns cs hs ps′ ns cs hs
-      layer-left c k =
-          let same : m + 0 ≡ m = omega arith in
-          rw (bumped, put, placed, added)
-          (rw same at (layer-leaves _ (layer-stored t b s whole (p .few) ps ns cs r f c k) c k))
+    module _ (os′ gs′ ns′ cs′ hs′ : List ℕ) where
+      -- where there is no room for the groups of its object
+      pub not-stored :
+          StoredBeside n m e r false os gs ns cs hs os′ gs′ ns′ cs′ hs′ →
+          LeavesPlain t b false (tablesOf (countersOf sites n m held sum) rs os′ gs′) ps ns cs hs ps ns′ cs′ hs′
+      not-stored st = elim (decide (eqb (e .kind) setKind)) [
+        | inl k ↦
+            (let (g, _, crowded) = st .of-set k in
+            let (many, o, a, c, h) = crowded refl in
+            record {
+              plain = λ y. clash y refl;
+              taken = λ y. clash y refl;
+              tables =
+                  λ y. rw (o, g, row-kept t b s whole (p .few) ps ns cs r f (set-by-kind k) many);
+              index = λ y. (refl, a, c, h);
+            })
+        | inr k ↦ clash (st .no-set k .0) refl
+      ]
 
-      pub set-left :
-          isSet e ≡ true → length (steppedBy os gs r) ≤ mostGroups → (os′ gs′ ns′ cs′ hs′ : List ℕ) →
-          os′ ≡ putCounts os (r .object) (r .sets + 1) (length (steppedBy os gs r)) → gs′ ≡ rowsBy os gs r →
-          ns′ ≡ set ns n (getD cs (r .object) 0) →
-          cs′ ≡ set cs (r .object) (getD cs (r .object) 0 + 1) →
-          hs′ ≡ linkedIn hs n (r .object) setKind (e .key) →
-          LeavesPlain t b true (tablesOf (countersOf sites (n + 1) m held′ sum′) rs′ os′ gs′) ps ns cs hs ps′ ns′ cs′
-          hs′
-      set-left k few os′ gs′ ns′ cs′ hs′ o g a c h =
-          let same : m + 0 ≡ m = omega arith in
-          rw (bumped, put, placed, added, o, g, a, c, h)
-          (rw same at (set-leaves _ (set-stored t b s whole (p .few) ps ns cs r f k few) k))
+      module _ (st : StoredBeside n m e r true os gs ns cs hs os′ gs′ ns′ cs′ hs′) where
+        pub enters : Enters held rs n ps b
+        enters = elim (decide (eqb (e .kind) setKind)) [
+          | inl k ↦ enter-asks _ (set-stored t b s whole (p .few) ps ns cs r f (set-by-kind k) (st .of-set k .1
+              refl .0))
+          | inr k ↦ elim (decide (isCreate e)) [
+            | inl c ↦ enter-asks _ (create-stored t b s whole (p .few) ps ns cs r f c)
+            | inr c ↦ enter-asks _ (layer-stored t b s whole (p .few) ps ns cs r f c (no-set-by-kind k))
+          ]
+        ]
+
+        module _
+            (held′ rs′ ps′ : List ℕ)
+            (m′ sum′ : ℕ)
+            (bumped : held′ ≡ bump held (e .site))
+            (put : rs′ ≡ putRecord rs n b)
+            (placed : ps′ ≡ set ps (spotOf ps b) n)
+            (made : m′ ≡ m + cond (isCreate e) 1 0)
+            (added : sum′ ≡ wrapped (sum + sumOf (recordWords b) b)) where
+          abbrev Left : Type 0
+          Left =
+              LeavesPlain t b true (tablesOf (countersOf sites (n + 1) m′ held′ sum′) rs′ os′ gs′) ps ns cs hs ps′ ns′
+              cs′ hs′
+
+          create-left : isCreate e ≡ true → eqb (e .kind) setKind ≡ false → Left
+          create-left c k =
+              let (_, g, d, h) = st .no-set k in
+              let (o, a) = st .of-create c in
+              rw (bumped, put, placed, made, added, o, g, a, d, h, c)
+              (create-leaves _ (create-stored t b s whole (p .few) ps ns cs r f c) c)
+
+          layer-left : isCreate e ≡ false → eqb (e .kind) setKind ≡ false → Left
+          layer-left c k =
+              let (_, g, d, h) = st .no-set k in
+              let (o, a) = st .of-layer c k in
+              let no-set = no-set-by-kind k in
+              rw (bumped, put, placed, made, added, o, g, a, d, h, c)
+              (layer-leaves _ (layer-stored t b s whole (p .few) ps ns cs r f c no-set) c no-set)
+
+          set-left : eqb (e .kind) setKind ≡ true → Left
+          set-left k =
+              let is = set-by-kind k in
+              let (g, fits, _) = st .of-set k in
+              let (few, o, a, d, h) = fits refl in
+              let no-create : isCreate e ≡ false = rw (eqb-true (e .kind) setKind k) refl in
+              rw (bumped, put, placed, made, added, o, g, a, d, h, no-create)
+              (set-leaves _ (set-stored t b s whole (p .few) ps ns cs r f is few) is)
+
+          pub stored-left : Left
+          stored-left = elim (decide (eqb (e .kind) setKind)) [
+            | inl k ↦ set-left k
+            | inr k ↦ elim (decide (isCreate e)) [
+              | inl c ↦ create-left c k
+              | inr c ↦ layer-left c k
+            ]
+          ]

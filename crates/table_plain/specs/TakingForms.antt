@@ -1,14 +1,16 @@
 -- Forms that the code uses: what a record is taken by, and what that leaves. No one need believe them: laws in proofs/
 -- tie them to `Replay`. Assumes nothing.
-use Prim.Native.Nat.{ℕ, _-_, _^_, _≤_, _<_}
+use Prim.Native.Nat.{ℕ, _+_, _-_, _^_, _≤_, _<_}
 use mathlib.Core.Path.{_≡_}
 use mathlib.Core.Bool.{Bool, true, false}
 use mathlib.Core.List.{List, [], _∷_, _++_}
-use lib.ListN.{length, getD, take, drop, replicate}
+use lib.Dec.{eqb}
+use lib.ListN.{length, getD, set, take, drop, replicate}
 use Rattle.math_lists.specs.SortedLists.{elem, Ascending}
 use Rattle.math_maximal.specs.Step.{step}
-use Rattle.edit_record.specs.Layout.{mostSites, keys}
-use Rattle.edit_record.specs.Answer1.{isLimited}
+use Rattle.edit_record.specs.declared.Edit.{Edit}
+use Rattle.edit_record.specs.Layout.{mostSites, keys, recordLength, setKind}
+use Rattle.edit_record.specs.Answer1.{isCreate, isLimited}
 use Rattle.edit_record.specs.RecordBytes.{decodeOf}
 use Rattle.edit_history.specs.EditsHeld.{mostRecords, countFrom}
 use Rattle.edit_walk.specs.WalkForms.{Spaced, SameStarts, slotOf}
@@ -17,9 +19,9 @@ use Rattle.group_step.specs.StepForms.{Apart}
 use Rattle.table_drawing.specs.Tables.{Tables, heldBy, groupsAt, recordsLength, objectsLength, groupsLength}
 use Rattle.table_drawing.specs.AnswerNumbers.{outcomeOf}
 use Rattle.table_soundness.specs.Sound.{sound}
-use Rattle.table_index.specs.IndexForms.{IndexOf, chainsLength}
+use Rattle.table_index.specs.IndexForms.{IndexOf, chainsLength, linkedIn}
 use Rattle.table_index.specs.declared.Looked.{Looked}
-use Rattle.table_arrival.specs.Arrival.{acceptanceOf}
+use Rattle.table_arrival.specs.Arrival.{putCounts, putEntry, acceptanceOf}
 use Rattle.table_arrival.specs.ArrivalForms.{RowsApart}
 
 -- what taking the record b asks of the tables t and of the index of their records, which has room for it
@@ -94,3 +96,40 @@ pub record Steps (os gs ns cs hs : List ℕ) (key : ℕ) (r : Looked) : Type 0 w
 -- the groups of its object after it
 abbrev pub rowsBy : List ℕ → List ℕ → Looked → List ℕ
 rowsBy os gs r = putRow (r .object) gs (settled (steppedBy os gs r) (row (r .object) gs))
+
+-- what storing it leaves: where there is room for the groups its object's entry, its number and the chain of its key go
+-- along, and where there is none all is as it was
+abbrev pub SetStored :
+    ℕ → ℕ → Looked → Bool → List ℕ → List ℕ → List ℕ → List ℕ → List ℕ → List ℕ → List ℕ → List ℕ → List ℕ → List ℕ →
+    Type 0
+SetStored n key r ok os gs ns cs hs os′ gs′ ns′ cs′ hs′ =
+    (gs′ ≡ rowsBy os gs r)
+    × (ok ≡ true →
+    (length (steppedBy os gs r) ≤ mostGroups)
+    × (os′ ≡ putCounts os (r .object) (r .sets + 1) (length (steppedBy os gs r)))
+    × (ns′ ≡ set ns n (getD cs (r .object) 0))
+    × (cs′ ≡ set cs (r .object) (getD cs (r .object) 0 + 1))
+    × (hs′ ≡ linkedIn hs n (r .object) setKind key))
+    × (ok ≡ false →
+    (mostGroups < length (steppedBy os gs r)) × (os′ ≡ os) × (ns′ ≡ ns) × (cs′ ≡ cs) × (hs′ ≡ hs))
+
+-- ---- what a record changes beside itself
+
+-- what it asks, where the edit e is not limited, r was found of it and there are m objects
+pub record StoresBeside (m : ℕ) (os gs ns cs hs : List ℕ) (e : Edit) (r : Looked) : Type 0 where
+  pub of-set : eqb (e .kind) setKind ≡ true → Steps os gs ns cs hs (e .key) r
+  pub of-create : isCreate e ≡ true → m < mostObjects
+  pub objects-long : length os ≡ objectsLength
+  pub numbers-long : length ns ≡ mostRecords
+
+-- and leaves, where the record has place n
+pub record StoredBeside (n m : ℕ) (e : Edit) (r : Looked) (ok : Bool) (os gs ns cs hs os′ gs′ ns′ cs′ hs′ : List ℕ) :
+    Type 0 where
+  pub of-set : eqb (e .kind) setKind ≡ true → SetStored n (e .key) r ok os gs ns cs hs os′ gs′ ns′ cs′ hs′
+  pub no-set : eqb (e .kind) setKind ≡ false → (ok ≡ true) × (gs′ ≡ gs) × (cs′ ≡ cs) × (hs′ ≡ hs)
+  pub of-create : isCreate e ≡ true → (os′ ≡ putEntry os m n 0 1) × (ns′ ≡ set ns n m)
+  pub of-layer : isCreate e ≡ false → eqb (e .kind) setKind ≡ false → (os′ ≡ os) × (ns′ ≡ ns)
+
+-- the record b stands in s too, maybe with more behind it, unless it is limited
+abbrev pub StandsAs : List ℕ → List ℕ → Type 0
+StandsAs s b = (recordLength ≤ length s) × (isLimited (decodeOf s) ≡ false → decodeOf s ≡ decodeOf b)

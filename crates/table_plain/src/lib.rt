@@ -12,23 +12,26 @@ use edit_record::Site;
 use group_step::GROUPS;
 use table_drawing::ENTRY;
 use table_index::Looked;
+use table_index::plain::look;
 ghost use mathlib.Core.Path.{_≡_};
 ghost use mathlib.Core.Bool.{true, false, cond};
 ghost use Prim.Native.Nat.{ℕ, _+_, _-_, _*_, _^_, _≤_, _<_};
-ghost use lib.ListN.{length, getD, set, take, drop, replicate};
+ghost use lib.ListN.{length, set, take, drop, replicate};
 ghost use Rattle.math_lists.specs.SortedLists.{elem, Ascending};
 ghost use Rattle.math_maximal.specs.Step.{step};
-ghost use Rattle.edit_record.specs.RecordBytes.{decodeOf};
-ghost use Rattle.edit_record.specs.Layout.{setKind};
+ghost use Rattle.edit_record.specs.Layout.{recordLength};
+ghost use Rattle.edit_record.specs.RecordBytes.{decodeOf, spanOf};
+ghost use Rattle.edit_record.specs.Answer1.{isCreate};
 ghost use Rattle.edit_history.specs.EditsHeld.{mostRecords};
 ghost use Rattle.edit_history.specs.SurveyForms.{bump};
+ghost use Rattle.edit_sum.specs.WordSum.{wrapped, recordWords, sumOf};
 ghost use Rattle.group_step.specs.GroupRows.{mostObjects, mostSets, mostGroups, row, putRow, settled};
 ghost use Rattle.group_step.specs.StepForms.{Apart};
 ghost use Rattle.table_drawing.specs.Tables.{tablesOf, objectsLength};
-ghost use Rattle.table_index.specs.IndexForms.{countersOf, linkedIn};
-ghost use Rattle.table_arrival.specs.Arrival.{putRecord, putCounts, putEntry};
-ghost use Rattle.table_plain.specs.TakingForms.{TakesPlain, LeavesPlain, spotOf, Enters};
-ghost use Rattle.table_plain.specs.TakingForms.{steppedBy, Steps, rowsBy};
+ghost use Rattle.table_index.specs.IndexForms.{countersOf};
+ghost use Rattle.table_arrival.specs.Arrival.{putRecord, putEntry};
+ghost use Rattle.table_plain.specs.TakingForms.{TakesPlain, LeavesPlain, spotOf, Enters, Steps, SetStored};
+ghost use Rattle.table_plain.specs.TakingForms.{StoresBeside, StoredBeside, StandsAs};
 
 // Whether a record was taken, how many objects there are then, and the sum.
 pub struct Took {
@@ -102,22 +105,9 @@ fn store_set(
 ) -> bool
     requires { ⌜ (n < mostRecords)
         × Steps (now objects) (now groups) (now numbers) (now counts) (now chains) key a ⌝ }
-    ensures { λ r. ⌜ (now (groups .exit) ≡ rowsBy (now (objects .entry)) (now (groups .entry)) a)
-        × (r ≡ true →
-        (length (steppedBy (now (objects .entry)) (now (groups .entry)) a) ≤ mostGroups)
-        × (now (objects .exit)
-        ≡ putCounts (now (objects .entry)) (a .object) (a .sets + 1)
-        (length (steppedBy (now (objects .entry)) (now (groups .entry)) a)))
-        × (now (numbers .exit) ≡ set (now (numbers .entry)) n (getD (now (counts .entry)) (a .object) 0))
-        × (now (counts .exit)
-        ≡ set (now (counts .entry)) (a .object) (getD (now (counts .entry)) (a .object) 0 + 1))
-        × (now (chains .exit) ≡ linkedIn (now (chains .entry)) n (a .object) setKind key))
-        × (r ≡ false →
-        (mostGroups < length (steppedBy (now (objects .entry)) (now (groups .entry)) a))
-        × (now (objects .exit) ≡ now (objects .entry))
-        × (now (numbers .exit) ≡ now (numbers .entry))
-        × (now (counts .exit) ≡ now (counts .entry))
-        × (now (chains .exit) ≡ now (chains .entry))) ⌝ }
+    ensures { λ r. ⌜ SetStored n key a r
+        (now (objects .entry)) (now (groups .entry)) (now (numbers .entry)) (now (counts .entry)) (now (chains .entry))
+        (now (objects .exit)) (now (groups .exit)) (now (numbers .exit)) (now (counts .exit)) (now (chains .exit)) ⌝ }
 {
     let o = a.object;
     let k = a.sets;
@@ -131,8 +121,73 @@ fn store_set(
     true
 }
 
+// Puts what a record in place n, of which a was found, changes beside itself: of a Set its object's groups, entry and
+// chain, of a Create the entry and the number of object m. Says whether there is room for the groups; where there is
+// none, nothing is changed.
+fn store(
+    n: usize,
+    m: u16,
+    objects: &mut [u16],
+    groups: &mut [u64],
+    numbers: &mut [u8],
+    counts: &mut [u16],
+    chains: &mut [u8],
+    rec: [u8; RECORD],
+    a: Looked,
+) -> bool
+    requires { ⌜ (n < mostRecords)
+        × StoresBeside m (now objects) (now groups) (now numbers) (now counts) (now chains) (decodeOf rec) a ⌝ }
+    ensures { λ r. ⌜ StoredBeside n m (decodeOf rec) a r
+        (now (objects .entry)) (now (groups .entry)) (now (numbers .entry)) (now (counts .entry)) (now (chains .entry))
+        (now (objects .exit)) (now (groups .exit)) (now (numbers .exit)) (now (counts .exit)) (now (chains .exit)) ⌝ }
+{
+    let kind = rec[AT_KIND];
+    if kind == SET {
+        let key = rec[AT_KEY];
+        return store_set(n, objects, groups, numbers, counts, chains, key, a);
+    }
+    if kind == CREATE {
+        put_create(n, m, objects, numbers);
+    }
+    true
+}
+
+// What is said of a record that is not taken: there are as many objects as before, and the sum is as it was.
+fn not_taken(m: u16, sum: u32) -> Took
+    ensures { λ r. ⌜ (r .ok ≡ false) × (r .objects ≡ m) × (r .sum ≡ sum) ⌝ }
+{
+    Took {
+        ok: false,
+        objects: m,
+        sum,
+    }
+}
+
+// And of one that is.
+fn taken(m: u16, sum: u32, rec: [u8; RECORD]) -> Took
+    requires { ⌜ (spanOf rec ≡ recordLength) × (isCreate (decodeOf rec) ≡ true → m < mostObjects) ⌝ }
+    ensures { λ r. ⌜ (r .ok ≡ true)
+        × (r .objects ≡ m + cond (isCreate (decodeOf rec)) 1 0)
+        × (r .sum ≡ wrapped (sum + sumOf (recordWords rec) rec)) ⌝ }
+{
+    let after = edit_sum::added(sum, edit_sum::sum_record(&rec));
+    if rec[AT_KIND] == CREATE {
+        return Took {
+            ok: true,
+            objects: m + 1,
+            sum: after,
+        };
+    }
+    Took {
+        ok: true,
+        objects: m,
+        sum: after,
+    }
+}
+
 // Takes a record, unless it is limited, it or another Set of its object, or is refused: then nothing is changed. There
-// are n records, m objects and so many edits of each site, and this sum; the index has room for the record.
+// are n records, m objects and so many edits of each site, and this sum; the index has room for the record. What is
+// asked of it is read where it stands, and it is stored from a copy.
 pub fn take_plain(
     sites: u8,
     n: usize,
@@ -147,10 +202,12 @@ pub fn take_plain(
     counts: &mut [u16],
     chains: &mut [u8],
     rec: [u8; RECORD],
+    stands: &[u8],
 ) -> Took
     requires { ⌜ TakesPlain
         (tablesOf (countersOf sites n m (now held) sum) (now records) (now objects) (now groups))
-        (now places) (now numbers) (now counts) (now chains) rec ⌝ }
+        (now places) (now numbers) (now counts) (now chains) rec
+        × StandsAs (now stands) rec ⌝ }
     ensures { λ r. ⌜ LeavesPlain
         (tablesOf (countersOf sites n m (now (held .entry)) sum) (now (records .entry)) (now (objects .entry))
         (now (groups .entry)))
@@ -160,7 +217,7 @@ pub fn take_plain(
         (now (places .entry)) (now (numbers .entry)) (now (counts .entry)) (now (chains .entry))
         (now (places .exit)) (now (numbers .exit)) (now (counts .exit)) (now (chains .exit)) ⌝ }
 {
-    let a = table_index::plain::look(
+    let a = look(
         sites,
         held,
         records,
@@ -170,46 +227,14 @@ pub fn take_plain(
         numbers,
         counts,
         chains,
-        &rec,
+        stands,
     );
     if !a.ok {
-        return Took {
-            ok: false,
-            objects: m,
-            sum,
-        };
+        return not_taken(m, sum);
     }
-    let kind = rec[AT_KIND];
-    let after = edit_sum::added(sum, edit_sum::sum_record(&rec));
-    if kind == SET {
-        let key = rec[AT_KEY];
-        if !store_set(n, objects, groups, numbers, counts, chains, key, a) {
-            return Took {
-                ok: false,
-                objects: m,
-                sum,
-            };
-        }
-        enter(held, records, n, places, rec);
-        return Took {
-            ok: true,
-            objects: m,
-            sum: after,
-        };
-    }
-    if kind == CREATE {
-        put_create(n, m, objects, numbers);
-        enter(held, records, n, places, rec);
-        return Took {
-            ok: true,
-            objects: m + 1,
-            sum: after,
-        };
+    if !store(n, m, objects, groups, numbers, counts, chains, rec, a) {
+        return not_taken(m, sum);
     }
     enter(held, records, n, places, rec);
-    Took {
-        ok: true,
-        objects: m,
-        sum: after,
-    }
+    taken(m, sum, rec)
 }

@@ -2,16 +2,21 @@
 -- where the replay stood. Assumes nothing.
 use mathlib.Core.Path.{_≡_, sym, ap, ap₂, subst, _∙_}
 use mathlib.Core.Bool.{Bool, true, false, cond}
-use mathlib.Core.List.{List}
+use mathlib.Core.List.{List, [], _∷_, _++_}
 use Prim.Native.Nat.{ℕ, _+_}
 use native.Mathlib.Omega.{arith}
 use native.Mathlib.Numerals.{add-one}
+use Rattle.edit_record.specs.declared.Edit.{Edit}
+use Rattle.edit_record.specs.RecordBytes.{decodeOf}
 use Rattle.table_drawing.specs.Tables.{Tables, tablesOf, sitesRight}
 use Rattle.table_drawing.specs.AnswerNumbers.{outcomeOf}
 use Rattle.table_index.specs.IndexForms.{countersOf}
 use Rattle.table_arrival.specs.Arrival.{acceptanceOf}
 use Rattle.table_arrival.proofs.Admitted.{was-taken, taken-records}
+use Rattle.table_kept.specs.BoxForms.{KeptFor}
+use Rattle.table_kept.proofs.KeptAlong.{kept-more}
 use Rattle.table_plain.specs.TakingForms.{Takes, Leaves, LeavesPlain}
+use Rattle.table_given.specs.Replay.{editsIn}
 use Rattle.table_given.proofs.ReplayGoes.{Going, going-on}
 
 module _
@@ -76,3 +81,20 @@ parts-after t u b ok =
     (u .records) (u .objects) (u .groups))
     (ap (λ (x : Tables). x .counters .sites) is ∙ sites-are)
     (ap (λ (x : Tables). x .counters .records) is ∙ count)
+
+-- what is kept of a box is right after one record more, which it does not tell of
+pub kept-next :
+    (rs : ℕ → List ℕ) (i : ℕ) (ns rows : List ℕ) → KeptFor (editsIn rs i) ns rows → KeptFor (editsIn rs (i + 1)) ns rows
+unfolding editsIn
+kept-next rs i ns rows h =
+    subst (λ (k : ℕ). KeptFor (editsIn rs k) ns rows) (sym (add-one i))
+    (kept-more (editsIn rs i) (decodeOf (rs i)) ns rows h)
+
+-- or which it tells of
+pub kept-after :
+    (rs : ℕ → List ℕ) (i : ℕ) (ns rows : List ℕ) (es : List Edit) (e : Edit) → es ≡ editsIn rs i → e ≡ decodeOf (rs i) →
+    KeptFor (es ++ (e ∷ [])) ns rows → KeptFor (editsIn rs (i + 1)) ns rows
+unfolding editsIn
+kept-after rs i ns rows es e held own h =
+    subst (λ (k : ℕ). KeptFor (editsIn rs k) ns rows) (sym (add-one i))
+    (subst (λ (x : List Edit). KeptFor x ns rows) (ap₂ (λ (x : List Edit) (y : Edit). x ++ (y ∷ [])) held own) h)

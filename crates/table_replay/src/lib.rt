@@ -3,25 +3,30 @@ use edit_form::OLD;
 use edit_history::RECORDS;
 use edit_record::SITES;
 use edit_walk::PLACES;
+use group_kept::ROWS;
 use group_step::OBJECTS;
 use table_arrival::Arrived;
 use table_arrival::asked;
 use table_drawing::Answer;
 use table_drawing::Counters;
 use table_index::chain::CHAINS;
+use table_kept::NAMES;
 ghost use mathlib.Core.Path.{_≡_};
 ghost use mathlib.Core.Bool.{true};
+ghost use mathlib.Core.List.{[], _∷_, _++_};
 ghost use Prim.Native.Nat.{_≤_};
 ghost use lib.ListN.{length, replicate};
 ghost use Rattle.edit_record.specs.Layout.{mostSites};
+ghost use Rattle.edit_record.specs.RecordBytes.{decodeOf};
 ghost use Rattle.edit_form.specs.OldForm.{lengthFrom, longFrom, startOf, storedIn};
-ghost use Rattle.edit_history.specs.EditsHeld.{mostRecords, countFrom};
+ghost use Rattle.edit_history.specs.EditsHeld.{mostRecords, editsOf, countFrom};
 ghost use Rattle.edit_history.specs.SurveyForms.{Counted};
 ghost use Rattle.edit_walk.specs.WalkForms.{Spaced};
 ghost use Rattle.table_drawing.specs.Tables.{tablesOf, emptyDrawing, lengthsRight, sitesRight};
 ghost use Rattle.table_drawing.specs.AnswerNumbers.{numberOf};
 ghost use Rattle.table_index.specs.IndexForms.{IndexOf, countersOf};
 ghost use Rattle.table_given.specs.Replay.{replayed, replayOf, editsIn};
+ghost use Rattle.table_kept.specs.BoxForms.{KeptFor};
 ghost use Rattle.table_plain.specs.TakingForms.{Takes, Leaves};
 
 // The answer to the first refused record and its index, or 0 and 0; and the counters after the records before it.
@@ -31,8 +36,8 @@ pub struct Taken {
     pub counters: Counters,
 }
 
-// Takes one record at tables that are sound, by the index of their records, and puts it into the index if it is taken.
-// The index has room for it.
+// Takes one record at tables that are sound, by the index of their records and by what is kept of a box with a limited
+// Set, and puts it into the index if it is taken. The index has room for it.
 fn take_next(
     c: Counters,
     records: &mut [u8],
@@ -42,14 +47,19 @@ fn take_next(
     numbers: &mut [u8],
     counts: &mut [u16],
     chains: &mut [u8],
+    rows: &mut [u64],
+    names: &mut [u32],
     rec: &[u8],
 ) -> Arrived
     requires { ⌜ Takes (tablesOf c (now records) (now objects) (now groups)) (now places) (now numbers) (now counts)
-        (now chains) (now rec) ⌝ }
+        (now chains) (now rec)
+        × KeptFor (editsOf (now records) (c .records)) (now names) (now rows) ⌝ }
     ensures { λ r. ⌜ Leaves (tablesOf c (now (records .entry)) (now (objects .entry)) (now (groups .entry)))
         (now (rec .entry)) (numberOf (r .answer))
         (tablesOf (r .counters) (now (records .exit)) (now (objects .exit)) (now (groups .exit)))
-        (now (places .entry)) (now (places .exit)) (now (numbers .exit)) (now (counts .exit)) (now (chains .exit)) ⌝ }
+        (now (places .entry)) (now (places .exit)) (now (numbers .exit)) (now (counts .exit)) (now (chains .exit))
+        × KeptFor (editsOf (now (records .entry)) (c .records) ++ (decodeOf (now (rec .entry)) ∷ []))
+        (now (names .exit)) (now (rows .exit)) ⌝ }
 {
     let early = asked::one_to_three(c, rec);
     if table_drawing::number(early) != 0 {
@@ -59,7 +69,17 @@ fn take_next(
         };
     }
     let v = table_index::survey(c, records, places, numbers, counts, chains, rec);
-    let j = table_arrival::judge(records, c.records as usize, rec, v);
+    let j = table_kept::judge(
+        rows,
+        names,
+        records,
+        c.records as usize,
+        places,
+        numbers,
+        chains,
+        rec,
+        v,
+    );
     let a = table_arrival::accept(c, records, objects, groups, rec, v, j, true);
     let answer = a.answer;
     if table_drawing::number(answer) == 0 {
@@ -87,16 +107,21 @@ fn take_one(
     numbers: &mut [u8],
     counts: &mut [u16],
     chains: &mut [u8],
+    rows: &mut [u64],
+    names: &mut [u32],
     rest: &[u8],
     form: u8,
 ) -> Arrived
     requires { ⌜ Takes (tablesOf c (now records) (now objects) (now groups)) (now places) (now numbers) (now counts)
         (now chains) (longFrom form (now rest))
-        × (lengthFrom form (now rest) ≤ length (now rest)) ⌝ }
+        × (lengthFrom form (now rest) ≤ length (now rest))
+        × KeptFor (editsOf (now records) (c .records)) (now names) (now rows) ⌝ }
     ensures { λ r. ⌜ Leaves (tablesOf c (now (records .entry)) (now (objects .entry)) (now (groups .entry)))
         (longFrom form (now (rest .entry))) (numberOf (r .answer))
         (tablesOf (r .counters) (now (records .exit)) (now (objects .exit)) (now (groups .exit)))
-        (now (places .entry)) (now (places .exit)) (now (numbers .exit)) (now (counts .exit)) (now (chains .exit)) ⌝ }
+        (now (places .entry)) (now (places .exit)) (now (numbers .exit)) (now (counts .exit)) (now (chains .exit))
+        × KeptFor (editsOf (now (records .entry)) (c .records) ++ (decodeOf (longFrom form (now (rest .entry))) ∷ []))
+        (now (names .exit)) (now (rows .exit)) ⌝ }
 {
     if form == OLD {
         let wide = edit_form::widened_from(rest);
@@ -109,6 +134,8 @@ fn take_one(
             numbers,
             counts,
             chains,
+            rows,
+            names,
             &wide,
         );
     }
@@ -123,6 +150,8 @@ fn take_one(
         numbers,
         counts,
         chains,
+        rows,
+        names,
         rec,
     )
 }
@@ -159,6 +188,8 @@ fn take_records(
     numbers: &mut [u8],
     counts: &mut [u16],
     chains: &mut [u8],
+    rows: &mut [u64],
+    names: &mut [u32],
     recs: &[u8],
     form: u8,
     n: usize,
@@ -169,7 +200,8 @@ fn take_records(
         × Spaced (λ s. countFrom s (editsIn (storedIn form (now recs)) n)) (now places)
         × (sitesRight sites ≡ true)
         × (n ≤ mostRecords)
-        × (startOf form (now recs) n ≤ length (now recs)) ⌝ }
+        × (startOf form (now recs) n ≤ length (now recs))
+        × KeptFor [] (now names) (now rows) ⌝ }
     ensures { λ r. ⌜ replayed (numberOf (r .answer)) (r .index)
         (tablesOf (r .counters) (now (records .exit)) (now (objects .exit)) (now (groups .exit)))
         ≡ replayOf sites (storedIn form (now (recs .entry))) n ⌝ }
@@ -183,6 +215,8 @@ fn take_records(
         let rest = &recs[at..];
         at = at + edit_form::length_from(rest, form);
         let front = edit_form::front_from(rest, form);
+        let stored = front;
+        let stands = edit_form::long_in(rest, form, &front);
         let t = table_plain::take_plain(
             sites,
             i,
@@ -196,7 +230,8 @@ fn take_records(
             numbers,
             counts,
             chains,
-            front,
+            stored,
+            stands,
         );
         m = t.objects;
         sum = t.sum;
@@ -220,6 +255,8 @@ fn take_records(
             numbers,
             counts,
             chains,
+            rows,
+            names,
             rest,
             form,
         );
@@ -285,6 +322,8 @@ pub fn replay(
     let mut numbers = [1u8; RECORDS];
     let mut counts = [0u16; OBJECTS];
     let mut chains = [0u8; CHAINS];
+    let mut rows = [1u64; ROWS];
+    let mut names = [0u32; NAMES];
     let by_site = count_stretch(recs, form, n);
     edit_walk::space_places(by_site, &mut places);
     take_records(
@@ -296,6 +335,8 @@ pub fn replay(
         &mut numbers,
         &mut counts,
         &mut chains,
+        &mut rows,
+        &mut names,
         recs,
         form,
         n,

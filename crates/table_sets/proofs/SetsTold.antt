@@ -65,6 +65,16 @@ told-on s q a b on on′ l =
     (shape (hasSeen (b .vector) (a .site) (a .seq)) (eqb (a .key) (b .key))
     (not (eqb (shownValue (a .key) (a .value)) (shownValue (b .key) (b .value)))))
 
+-- where Sets that are told stand in the first k of the places ps
+pub tells-in-places :
+    (rs ps : List ℕ) (k : ℕ) → k ≤ length ps → Asc Tells (setsIn rs ps k) → TellsIn rs ps k
+tells-in-places rs ps k l told i j m b =
+    let pair = pairs-at Tells noEdit (setsIn rs ps k) told j i b (omega (arith, sets-length rs ps k l)) in
+    subst (λ (x : Edit). Tells x (setAt rs ps i)) (set-place rs ps k l j (omega arith))
+    (subst (Tells (getD (setsIn rs ps k) j noEdit)) (set-place rs ps k l i m) pair)
+
+-- ---- the Sets of an object in sound tables
+
 module _ (t : Tables) (s : Sound t) where
   abbrev rs : List ℕ
   rs = t .records
@@ -96,7 +106,7 @@ module _ (t : Tables) (s : Sound t) where
         key′ = formed-at sites rs n (s .pass) q m .key;
       })
 
-  sets-told : (c : Site) (q : Seq) → Asc Tells (setsOn c q (heldBy t))
+  pub sets-told : (c : Site) (q : Seq) → Asc Tells (setsOn c q (heldBy t))
   unfolding setsOn
   sets-told c q =
       let f = isSetOn c q in
@@ -104,12 +114,7 @@ module _ (t : Tables) (s : Sound t) where
       (λ a b m k. told-on c q a b (chosen-at f a (heldBy t) m .1) (chosen-at f b (heldBy t) k .1))
       (pairs-chosen Later f (heldBy t) later)
 
-  -- where these stand in the first k of the places ps
   pub tells-in :
       (c : Site) (q : Seq) (ps : List ℕ) (k : ℕ) → k ≤ length ps → setsIn rs ps k ≡ setsOn c q (heldBy t) →
       TellsIn rs ps k
-  tells-in c q ps k l e i j m b =
-      let told = subst (Asc Tells) (sym e) (sets-told c q) in
-      let pair = pairs-at Tells noEdit (setsIn rs ps k) told j i b (omega (arith, sets-length rs ps k l)) in
-      subst (λ (x : Edit). Tells x (setAt rs ps i)) (set-place rs ps k l j (omega arith))
-      (subst (Tells (getD (setsIn rs ps k) j noEdit)) (set-place rs ps k l i m) pair)
+  tells-in c q ps k l e = tells-in-places rs ps k l (subst (Asc Tells) (sym e) (sets-told c q))

@@ -21,65 +21,12 @@ use ghost.Atoms.{Atoms, sem}
 use contract.Lifetimes.{Lfts, Shares, AllOutlive}
 use contract.Monad.{Fun, fact}
 use contract.Running.{givenOf, tables, tablesOf}
-use types.Kit.{
-  Given,
-  Item,
-  ‵,
-  raw,
-  _⊛_,
-  given,
-  some,
-  later,
-  ⋆,
-  _$_,
-  _∵_,
-  !,
-  qed,
-  by,
-  move,
-  drop,
-  use1,
-  use2,
-  split,
-  join,
-  learn,
-  pick,
-  rewrite,
-  fsplit,
-  fsplit3,
-  fjoin,
-  fjoin3,
-  feqI,
-  suffices,
-  frame,
-  await,
-  done,
-}
+use types.Kit.{Given, Item, ‵, raw, _⊛_, given, some, later, ⋆, _$_, _∵_, !, qed, by, move, drop, use1, use2}
+use types.Kit.{split, join, learn, pick, rewrite, fsplit, fsplit3, fjoin, fjoin3, feqI, suffices, frame, await}
+use types.Kit.{done}
 use types.Part.{whole, sub, look-in, store-in}
-use types.Run.{
-  look,
-  init,
-  forget,
-  stop,
-  hop,
-  fld,
-  from,
-  load,
-  of-opd,
-  and-then,
-  no-more,
-  assigns,
-  land,
-  returns,
-  enter,
-  alloc1,
-  alloc0,
-  params1,
-  pass1,
-  pass0,
-  free1,
-  free0,
-}
+use types.Run.{look, init, forget, stop, hop, fld, from, load, of-opd, and-then, no-more, assigns, land}
+use types.Run.{returns, enter, alloc1, alloc0, params1, pass1, pass0, free1, free0}
 use types.SemTy.{Body}
 use sound.WpLaws.{FmC, fmOf, WpFn-mono}
 use denote.RattleType.{RattleType, owns}

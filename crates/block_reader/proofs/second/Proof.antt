@@ -19,58 +19,10 @@ use ghost.Atoms.{Atoms, sem}
 use contract.Lifetimes.{Lfts, Shares}
 use contract.Monad.{Fun, fact}
 use contract.Running.{givenOf, tables, tablesOf}
-use types.Kit.{
-  Given,
-  Item,
-  ‵,
-  raw,
-  _⊛_,
-  some,
-  later,
-  ⋆,
-  _$_,
-  _∵_,
-  !,
-  qed,
-  by,
-  move,
-  drop,
-  use1,
-  use2,
-  use3,
-  split,
-  join,
-  pick,
-  fsplit,
-  fjoin,
-  suffices,
-  frame,
-  await,
-  done,
-}
-use types.Run.{
-  look,
-  init,
-  forget,
-  stop,
-  from,
-  load,
-  addr,
-  of-opd,
-  and-then,
-  no-more,
-  assigns,
-  land,
-  returns,
-  enter,
-  alloc1,
-  alloc0,
-  params1,
-  pass1,
-  pass0,
-  free1,
-  free0,
-}
+use types.Kit.{Given, Item, ‵, raw, _⊛_, some, later, ⋆, _$_, _∵_, !, qed, by, move, drop, use1, use2, use3}
+use types.Kit.{split, join, pick, fsplit, fjoin, suffices, frame, await, done}
+use types.Run.{look, init, forget, stop, from, load, addr, of-opd, and-then, no-more, assigns, land, returns}
+use types.Run.{enter, alloc1, alloc0, params1, pass1, pass0, free1, free0}
 use sound.WpLaws.{FmC, fmOf, WpFn-mono}
 use denote.RattleType.{RattleType, owns}
 use denote.Laws.{Is, shows}

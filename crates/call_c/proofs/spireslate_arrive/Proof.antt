@@ -23,66 +23,10 @@ use ghost.Atoms.{Atoms}
 use contract.Lifetimes.{Lfts, Shares, AllOutlive}
 use contract.Monad.{Fun, fact}
 use contract.Running.{givenOf, tables, tablesOf}
-use types.Kit.{
-  Given,
-  Item,
-  ‵,
-  raw,
-  _⊛_,
-  some,
-  later,
-  ⋆,
-  _$_,
-  _∵_,
-  !,
-  qed,
-  by,
-  move,
-  drop,
-  use1,
-  use2,
-  split,
-  join,
-  pick,
-  rewrite,
-  fsplit,
-  fsplit3,
-  fjoin,
-  fjoin3,
-  feqL,
-  feqI,
-  suffices,
-  frame,
-  await,
-  done,
-}
-use types.Run.{
-  look,
-  look-raw,
-  init,
-  store-raw,
-  forget,
-  stop,
-  hop,
-  fld,
-  from,
-  load,
-  addr,
-  of-opd,
-  and-then,
-  no-more,
-  assigns,
-  land,
-  returns,
-  enter,
-  alloc1,
-  alloc0,
-  params1,
-  pass1,
-  pass0,
-  free1,
-  free0,
-}
+use types.Kit.{Given, Item, ‵, raw, _⊛_, some, later, ⋆, _$_, _∵_, !, qed, by, move, drop, use1, use2, split}
+use types.Kit.{join, pick, rewrite, fsplit, fsplit3, fjoin, fjoin3, feqL, feqI, suffices, frame, await, done}
+use types.Run.{look, look-raw, init, store-raw, forget, stop, hop, fld, from, load, addr, of-opd, and-then}
+use types.Run.{no-more, assigns, land, returns, enter, alloc1, alloc0, params1, pass1, pass0, free1, free0}
 use types.Part.{agg, whole, sub, look-in}
 use types.SemTy.{Body}
 use sound.WpLaws.{FmC, fmOf, WpFn-mono}
@@ -92,16 +36,8 @@ use denote.Laws.{Is, shows}
 use denote.Plain.{uint-makes}
 use denote.Builtin.{u16, u64, u8}
 use denote.Ref.{MutRef, now, ptr-vals, mut-tells}
-use denote.Slice.{
-  MutSlice,
-  ShrSlice,
-  finally,
-  slice-vals,
-  mut-slice-tells,
-  shr-slice-tells,
-  mut-slice-lawful,
-  shr-slice-lawful,
-}
+use denote.Slice.{MutSlice, ShrSlice, finally, slice-vals, mut-slice-tells, shr-slice-tells, mut-slice-lawful}
+use denote.Slice.{shr-slice-lawful}
 use denote.Steps.{only, opens, closes, owned, peeks, heard}
 use denote.Struct.Steps.{spelt}
 use denote.Struct.Laws as LL
@@ -112,22 +48,8 @@ use denote.Triple.Statement.{Contract, Triple}
 use denote.Triple.Call.{calls-at}
 use denote.Triple.Clauses.{Lasts, ensured, lasts}
 use denote.Triple.Table.{entered, cited}
-use denote.Triple.Walked.{
-  says,
-  Stays,
-  stay-ref,
-  gave-slice,
-  stay-dropped,
-  walkOf,
-  AllGo,
-  goes-ref,
-  goes-gave-slice,
-  goes-dropped,
-  Walks,
-  ends-at,
-  walked,
-  walk-meets,
-}
+use denote.Triple.Walked.{says, Stays, stay-ref, gave-slice, stay-dropped, walkOf, AllGo, goes-ref}
+use denote.Triple.Walked.{goes-gave-slice, goes-dropped, Walks, ends-at, walked, walk-meets}
 use denote.Exit.{yes}
 use Rattle.table_drawing.specs.AnswerNumbers.{outcomeOf}
 use Rattle.table_drawing.specs.Tables.{tablesOf as tables-of}

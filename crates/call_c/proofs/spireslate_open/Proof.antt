@@ -23,66 +23,10 @@ use ghost.Atoms.{Atoms}
 use contract.Lifetimes.{Lfts, Shares, AllOutlive}
 use contract.Monad.{Fun, fact}
 use contract.Running.{givenOf, tables, tablesOf}
-use types.Kit.{
-  Given,
-  Item,
-  ‵,
-  raw,
-  _⊛_,
-  some,
-  later,
-  ⋆,
-  _$_,
-  _∵_,
-  !,
-  qed,
-  by,
-  move,
-  drop,
-  use1,
-  use2,
-  split,
-  join,
-  pick,
-  rewrite,
-  fsplit,
-  fsplit3,
-  fjoin,
-  fjoin3,
-  feqL,
-  feqI,
-  suffices,
-  frame,
-  await,
-  done,
-}
-use types.Run.{
-  look,
-  look-raw,
-  init,
-  store-raw,
-  forget,
-  stop,
-  hop,
-  fld,
-  from,
-  load,
-  addr,
-  of-opd,
-  and-then,
-  no-more,
-  assigns,
-  land,
-  returns,
-  enter,
-  alloc1,
-  alloc0,
-  params1,
-  pass1,
-  pass0,
-  free1,
-  free0,
-}
+use types.Kit.{Given, Item, ‵, raw, _⊛_, some, later, ⋆, _$_, _∵_, !, qed, by, move, drop, use1, use2, split}
+use types.Kit.{join, pick, rewrite, fsplit, fsplit3, fjoin, fjoin3, feqL, feqI, suffices, frame, await, done}
+use types.Run.{look, look-raw, init, store-raw, forget, stop, hop, fld, from, load, addr, of-opd, and-then}
+use types.Run.{no-more, assigns, land, returns, enter, alloc1, alloc0, params1, pass1, pass0, free1, free0}
 use types.Part.{agg, whole, sub, look-in}
 use types.SemTy.{Body}
 use sound.WpLaws.{FmC, fmOf, WpFn-mono}
@@ -103,22 +47,8 @@ use denote.Triple.Statement.{Contract, Triple}
 use denote.Triple.Call.{calls-at}
 use denote.Triple.Clauses.{Lasts, ensured, lasts}
 use denote.Triple.Table.{entered, cited}
-use denote.Triple.Walked.{
-  says,
-  Stays,
-  stay-ref,
-  gave-slice,
-  stay-dropped,
-  walkOf,
-  AllGo,
-  goes-ref,
-  goes-gave-slice,
-  goes-dropped,
-  Walks,
-  ends-at,
-  walked,
-  walk-meets,
-}
+use denote.Triple.Walked.{says, Stays, stay-ref, gave-slice, stay-dropped, walkOf, AllGo, goes-ref}
+use denote.Triple.Walked.{goes-gave-slice, goes-dropped, Walks, ends-at, walked, walk-meets}
 use denote.Exit.{yes}
 use Rattle.table_drawing.specs.AnswerNumbers.{outcomeOf}
 use Rattle.table_drawing.specs.Tables.{tablesOf as tables-of}

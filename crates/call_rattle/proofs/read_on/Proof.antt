@@ -19,62 +19,10 @@ use ghost.Atoms.{Atoms}
 use contract.Lifetimes.{Lfts, Shares}
 use contract.Monad.{Fun, fact}
 use contract.Running.{givenOf, tables, tablesOf}
-use types.Kit.{
-  Given,
-  Item,
-  ‵,
-  raw,
-  _⊛_,
-  some,
-  later,
-  ⋆,
-  _$_,
-  _∵_,
-  !,
-  qed,
-  by,
-  move,
-  drop,
-  use1,
-  use2,
-  use3,
-  split,
-  join,
-  pick,
-  rewrite,
-  fsplit,
-  fjoin,
-  feqL,
-  suffices,
-  frame,
-  await,
-  done,
-}
-use types.Run.{
-  look,
-  init,
-  forget,
-  stop,
-  hop,
-  fld,
-  from,
-  load,
-  addr,
-  of-opd,
-  and-then,
-  no-more,
-  assigns,
-  land,
-  returns,
-  enter,
-  alloc1,
-  alloc0,
-  params1,
-  pass1,
-  pass0,
-  free1,
-  free0,
-}
+use types.Kit.{Given, Item, ‵, raw, _⊛_, some, later, ⋆, _$_, _∵_, !, qed, by, move, drop, use1, use2, use3}
+use types.Kit.{split, join, pick, rewrite, fsplit, fjoin, feqL, suffices, frame, await, done}
+use types.Run.{look, init, forget, stop, hop, fld, from, load, addr, of-opd, and-then, no-more, assigns, land}
+use types.Run.{returns, enter, alloc1, alloc0, params1, pass1, pass0, free1, free0}
 use types.Part.{agg, whole, sub, look-in}
 use types.SemTy.{Body}
 use sound.WpLaws.{FmC, fmOf, WpFn-mono}
@@ -83,16 +31,8 @@ use denote.Memory.{mem, cellAt, partAt}
 use denote.Laws.{Is, shows}
 use denote.Builtin.{u16, u64, u8}
 use denote.Ref.{MutRef, now}
-use denote.Slice.{
-  MutSlice,
-  ShrSlice,
-  finally,
-  slice-vals,
-  mut-slice-tells,
-  shr-slice-tells,
-  mut-slice-lawful,
-  shr-slice-lawful,
-}
+use denote.Slice.{MutSlice, ShrSlice, finally, slice-vals, mut-slice-tells, shr-slice-tells, mut-slice-lawful}
+use denote.Slice.{shr-slice-lawful}
 use denote.Steps.{only, owned, peeks, heard, nothing}
 use denote.Struct.Laws as LL
 use denote.Signature.{plain, shrSliceOf}
@@ -102,20 +42,8 @@ use denote.Triple.Statement.{Contract, Triple}
 use denote.Triple.Call.{calls-at}
 use denote.Triple.Clauses.{Lasts, ensured, lasts}
 use denote.Triple.Table.{entered, cited}
-use denote.Triple.Walked.{
-  says,
-  Stays,
-  gave-slice,
-  stay-dropped,
-  walkOf,
-  AllGo,
-  goes-gave-slice,
-  goes-dropped,
-  Walks,
-  ends-at,
-  walked,
-  walk-meets,
-}
+use denote.Triple.Walked.{says, Stays, gave-slice, stay-dropped, walkOf, AllGo, goes-gave-slice, goes-dropped}
+use denote.Triple.Walked.{Walks, ends-at, walked, walk-meets}
 use denote.Exit.{yes}
 use types.Tokens.{lft-new, lft-end}
 use denote.Lend.{lends-ref, ref-back}

@@ -1,15 +1,13 @@
 -- `edit_form::front_from` meets its contract: an old record is widened, and of a long one the front is copied. Assumes
 -- nothing.
-use mathlib.Core.Path.{_≡_, sym, _∙_}
+use mathlib.Core.Path.{sym, _∙_}
 use native.Mathlib.Omega.{arith}
-use lib.ListN.{take}
 use denote.Ref.{now}
 use borrow.Author.Needs.{needs}
 use borrow.Author.Tests.{eq-eqb, ne-eqb}
-use Rattle.edit_record.specs.Layout.{recordLength}
 use Rattle.edit_form.specs.OldForm.{oldForm}
-use Rattle.edit_form.proofs.CopiedParts.{length-least, front-there, front-copied, front-whole}
-use Rattle.edit_form.proofs.OldRecords.{long-old}
+use Rattle.edit_form.proofs.CopiedParts.{length-least, front-there, front-copied}
+use Rattle.edit_form.proofs.OldRecords.{long-old, front-old, front-long}
 use Rattle.edit_form.proofs.front_from.Statement.{statement}
 use Rattle.edit_form.proofs.front_from.Tie as tie
 
@@ -20,12 +18,11 @@ widened-from-requires c κs =
 
 returns : tie.Need-returns
 returns c =
-    let w = c .widened-from in
-    let a = c .before .before .before .args in (
-      search needs,
-      λ plain. w .ensures
-          ∙ sym (long-old (a .form) (now (a .rest)) (eq-eqb (a .form) oldForm (c .before .if1 .taken))),
-    )
+    let a = c .before .before .before .args in
+    let rest = now (a .rest) in
+    let old = eq-eqb (a .form) oldForm (c .before .if1 .taken) in
+    c .widened-from .ensures ∙ sym (long-old (a .form) rest old)
+    ∙ sym (front-old (a .form) rest old (omega (arith, length-least (a .form) rest, c .before .before .before .pre)))
 
 with-part-requires : tie.Need-with-part-requires
 with-part-requires c κs =
@@ -38,11 +35,7 @@ returns-2 c =
     let a = c .before .before .before .args in
     let rest = now (a .rest) in
     let long = ne-eqb (a .form) oldForm (c .before .if1 .left) in
-    let there = front-there (a .form) rest long (c .before .before .before .pre) in
-    let is : c .with-part .result ≡ take recordLength rest = c .with-part .ensures ∙ front-copied rest in (
-      search needs,
-      λ plain. is ∙ front-whole (a .form) rest long there (rw is at plain),
-    )
+    c .with-part .ensures ∙ front-copied rest ∙ sym (front-long (a .form) rest long)
 
 pub front-from-spec : {M : Type 1} → statement M
 front-from-spec = tie.close (tie.spec widened-from-requires returns with-part-requires returns-2)

@@ -43,37 +43,29 @@ cast-j c =
 row-at-requires : tie.Need-row-at-requires Inv-loop μ-loop
 row-at-requires c κs = search needs
 
-only-requires : tie.Need-only-requires Inv-loop μ-loop
-only-requires c κs =
-    let l = c .before .before .loop in
-    let s = c .before .before .before .before in
-    let fits = s .fits .m .fits in
-    let (_, few) = first-left {n = 64} (c .before .loop-test .taken) (l .inv .0) fits fits in
-    few
-
-without-requires : tie.Need-without-requires Inv-loop μ-loop
-without-requires c κs = search needs
+but-first-requires : tie.Need-but-first-requires Inv-loop μ-loop
+but-first-requires c κs = omega (arith, c .before .loop-test .taken)
 
 loop-less : tie.Need-loop-less Inv-loop μ-loop
 loop-less c =
-    let l = c .before .before .before .before .loop in
-    let s = c .before .before .before .before .before .before in
-    let some = c .before .before .before .loop-test .taken in
+    let l = c .before .before .before .loop in
+    let s = c .before .before .before .before .before in
+    let some = c .before .before .loop-test .taken in
     let (here, _) = first-left {n = 64} some (l .inv .0) (s .fits .m .fits) (s .fits .m .fits) in
-    rw (c .without .ensures, c .before .only .ensures) (less-left (l .left) _ some here)
+    rw (c .but-first .ensures) (less-left (l .left) _ some here)
 
 loop-again : tie.Need-loop-again Inv-loop μ-loop
 loop-again c =
-    let l = c .before .before .before .before .loop in
-    let s = c .before .before .before .before .before .before in
+    let l = c .before .before .before .loop in
+    let s = c .before .before .before .before .before in
     let a = s .args in
     let ps = now (a .plain) in
-    let some = c .before .before .before .loop-test .taken in
+    let some = c .before .before .loop-test .taken in
     let (here, few) = first-left {n = 64} some (l .inv .0) (s .fits .m .fits) (s .fits .m .fits) in
     let i = trailingZeros 64 (l .left) in
     let its = l .inv .1 i here in
-    let row = c .before .before .row-at in
-    rw (c .without .ensures, c .before .only .ensures) (
+    let row = c .before .row-at in
+    rw (c .but-first .ensures) (
       omega (arith, l .inv .0),
       λ j h. l .inv .1 j (still-left (l .left) i j h),
       λ y. bit-or (l .foes) (row .result) y
@@ -97,8 +89,7 @@ foes-of-spec =
     loop-holds
     cast-j
     row-at-requires
-    only-requires
-    without-requires
+    but-first-requires
     loop-less
     loop-again
     returns)

@@ -19,7 +19,7 @@ use Rattle.group_engine.proofs.Searching.{Searching, search-starts, sea
 use Rattle.group_engine.proofs.decide_rest.Reads as decide-rest
 use Rattle.group_engine.proofs.decide_rest.Kinds as decide-rest-kinds
 use Rattle.group_engine.proofs.+decide_rest.Lts-decide_rest as lts
-use Rattle.group_engine.proofs.highest.Reads as highest-reads
+use Rattle.group_step.proofs.highest.Reads as highest-reads
 use Rattle.group_engine.proofs.is_stuck.Reads as is-stuck-reads
 use Rattle.group_engine.proofs.put_group.Reads as put-group-reads
 use Rattle.group_step.proofs.only.Reads as only-reads

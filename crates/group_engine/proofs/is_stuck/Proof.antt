@@ -9,7 +9,7 @@ use borrow.Author.Tests.{eq-eqb}
 use Rattle.math_lists.proofs.Booleans.{clash}
 use Rattle.math_maximal.specs.Groups.{bit}
 use Rattle.math_maximal.proofs.FirstMember.{first-member}
-use Rattle.group_engine.proofs.FirstAndLast.{fewer, still-member}
+use Rattle.group_engine.proofs.WithoutFirst.{fewer, still-member}
 use Rattle.group_engine.proofs.is_stuck.Statement.{statement}
 use Rattle.group_engine.proofs.is_stuck.Tie as tie
 use Rattle.group_engine.proofs.is_stuck.Reads as reads

@@ -61,32 +61,25 @@ slice-write-plain c =
     let (b, few) = first-left (c .before .loop-test .taken) (l .inv .0) (s .pre .2) (s .fits .row .fits) in
     omega (arith, l .inv .1)
 
-only-requires-2 : tie.Need-only-requires-2 Inv-loop μ-loop
-only-requires-2 c κs =
-    let l = c .before .before .loop in
-    let s = c .before .before .before .before .before in
-    let (b, few) = first-left (c .before .loop-test .taken) (l .inv .0) (s .pre .2) (s .fits .row .fits) in
-    omega (arith, l .inv .1)
-
-without-requires : tie.Need-without-requires Inv-loop μ-loop
-without-requires c κs = search needs
+but-first-requires : tie.Need-but-first-requires Inv-loop μ-loop
+but-first-requires c κs = omega (arith, c .before .loop-test .taken)
 
 loop-less : tie.Need-loop-less Inv-loop μ-loop
 loop-less c =
-    let l = c .before .before .before .before .loop in
-    let s = c .before .before .before .before .before .before .before in
-    let some = c .before .before .before .loop-test .taken in
+    let l = c .before .before .before .loop in
+    let s = c .before .before .before .before .before .before in
+    let some = c .before .before .loop-test .taken in
     let (b, few) = first-left some (l .inv .0) (s .pre .2) (s .fits .row .fits) in
-    rw (c .without .ensures, c .before .only2 .ensures) (less-left (l .left) _ some b)
+    rw (c .but-first .ensures) (less-left (l .left) _ some b)
 
 loop-again : tie.Need-loop-again Inv-loop μ-loop
 loop-again c =
-    let l = c .before .before .before .before .loop in
-    let s = c .before .before .before .before .before .before .before in
-    let some = c .before .before .before .loop-test .taken in
+    let l = c .before .before .before .loop in
+    let s = c .before .before .before .before .before .before in
+    let some = c .before .before .loop-test .taken in
     let (b, few) = first-left some (l .inv .0) (s .pre .2) (s .fits .row .fits) in
-    let own = c .before .before .before .before .before .only in
-    rw (c .without .ensures, c .before .only2 .ensures) (
+    let own = c .before .before .before .before .only in
+    rw (c .but-first .ensures) (
       omega (arith, l .inv .0),
       simp length-set (l .inv .1),
       marked-one-more (l .left) (s .args .n) (s .args .row) _ _ (s .args .plain .now) (l .plain)
@@ -114,8 +107,7 @@ mark-in-rows-spec =
     slice-read-plain
     mul-plain-2
     slice-write-plain
-    only-requires-2
-    without-requires
+    but-first-requires
     loop-less
     loop-again
     same-length

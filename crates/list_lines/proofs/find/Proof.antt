@@ -11,19 +11,20 @@ use Rattle.table_soundness.proofs.SoundFacts.{sound-at}
 use Rattle.list_lines.specs.List.{linesFor}
 use Rattle.list_lines.specs.LinesForms.{LeftOf}
 use Rattle.list_objects.proofs.KeysByTops.{in-order}
+use Rattle.list_objects.proofs.TopsByIndex.{tops-aimed, creates-held}
 use Rattle.list_lines.proofs.LineFound.{all-left, passed-over, found-at, not-found}
 use borrow.Author.Needs.{needs}
 use Rattle.list_lines.proofs.find.Statement.{statement}
 use Rattle.list_lines.proofs.find.Tie as tie
 
 abbrev Inv-loop : tie.InvT-loop
-Inv-loop c records objects groups k order left₀ i₀ left i =
+Inv-loop c records objects groups places k order left₀ i₀ left i =
     (i ≤ c .objects)
     × LeftOf (linesFor (tablesOf c records objects groups)) (take (c .objects) order) k
     (slice i (c .objects) order) left
 
 abbrev μ-loop : tie.MeasureT-loop
-μ-loop c records objects groups k order left₀ i₀ left i = c .objects - i
+μ-loop c records objects groups places k order left₀ i₀ left i = c .objects - i
 
 slice-aggregate-sort-objects : tie.Need-slice-aggregate-sort-objects Inv-loop μ-loop
 slice-aggregate-sort-objects c = search needs
@@ -36,19 +37,19 @@ cast-sort-objects-2 c = search needs
 
 sort-objects-requires : tie.Need-sort-objects-requires Inv-loop μ-loop
 sort-objects-requires c κs =
-    let s = c .before .before .before .before .before .before in
+    let s = c .before .before .before .before .before .before .before in
     let a = s .args in
     let t = tablesOf (a .c) (now (a .records)) (now (a .objects)) (now (a .groups)) in
-    let f = sound-at t (s .pre) in
-    (f .few-records, f .few-objects, omega (arith, f .few-objects))
+    let f = sound-at t (s .pre .0) in
+    (f .few-records, f .few-objects, omega (arith, f .few-objects), s .pre .1, tops-aimed t f, creates-held t f)
 
 loop-holds : tie.Need-loop-holds Inv-loop μ-loop
 loop-holds c =
     let o = c .before .sort-objects in
-    let s = c .before .before .before .before .before .before .before .before in
+    let s = c .before .before .before .before .before .before .before .before .before in
     let a = s .args in
     let t = tablesOf (a .c) (now (a .records)) (now (a .objects)) (now (a .groups)) in
-    let few = sound-at t (s .pre) .few-objects in
+    let few = sound-at t (s .pre .0) .few-objects in
     (search needs, all-left (linesFor t) (o .last .0) (a .c .objects) (a .k) (omega (arith, few, o .kept .0)))
 
 cast-if1 : tie.Need-cast-if1 Inv-loop μ-loop
@@ -79,11 +80,11 @@ returns : tie.Need-returns Inv-loop μ-loop
 returns c =
     let l = c .before .before .before .before .before .before .loop in
     let sorted = c .before .before .before .before .before .before .before .before in
-    let s = sorted .before .before .before .before .before .before .before in
+    let s = sorted .before .before .before .before .before .before .before .before in
     let o = sorted .sort-objects in
     let a = s .args in
     let t = tablesOf (a .c) (now (a .records)) (now (a .objects)) (now (a .groups)) in
-    let f = sound-at t (s .pre) in
+    let f = sound-at t (s .pre .0) in
     found-at t f (o .last .0) (a .k) (omega (arith, f .few-objects, o .kept .0)) (o .ensures ∙ in-order t f) (l .i)
     (l .left) _ _
     (omega arith) (l .inv .1) (c .before .before .at16 .ensures) (c .before .at162 .ensures) (omega arith)
@@ -98,11 +99,11 @@ loop-again : tie.Need-loop-again Inv-loop μ-loop
 loop-again c =
     let l = c .before .before .before .before .before .before .loop in
     let sorted = c .before .before .before .before .before .before .before .before in
-    let s = sorted .before .before .before .before .before .before .before in
+    let s = sorted .before .before .before .before .before .before .before .before in
     let o = sorted .sort-objects in
     let a = s .args in
     let t = tablesOf (a .c) (now (a .records)) (now (a .objects)) (now (a .groups)) in
-    let f = sound-at t (s .pre) in (
+    let f = sound-at t (s .pre .0) in (
       omega arith,
       passed-over t f (o .last .0) (a .k) (omega (arith, f .few-objects, o .kept .0)) (o .ensures ∙ in-order t f) (l .i)
           (l .left) _ _
@@ -113,10 +114,10 @@ returns-2 : tie.Need-returns-2 Inv-loop μ-loop
 returns-2 c =
     let l = c .before .before .loop in
     let o = c .before .before .before .before .sort-objects in
-    let s = c .before .before .before .before .before .before .before .before .before .before .before in
+    let s = c .before .before .before .before .before .before .before .before .before .before .before .before in
     let a = s .args in
     let t = tablesOf (a .c) (now (a .records)) (now (a .objects)) (now (a .groups)) in
-    let f = sound-at t (s .pre) in
+    let f = sound-at t (s .pre .0) in
     not-found t f (o .last .0) (a .k) (omega (arith, f .few-objects, o .kept .0)) (o .ensures ∙ in-order t f) (l .i)
     (l .left)
     (l .inv .0) (omega arith) (l .inv .1)

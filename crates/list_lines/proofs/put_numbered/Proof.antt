@@ -12,10 +12,10 @@ use Rattle.list_lines.proofs.put_numbered.Tie as tie
 
 head-requires : tie.Need-head-requires
 head-requires c κs =
-    let s = c .before .before .before .before .before .before in
+    let s = c .before .before .before .before .before .before .before in
     let a = s .args in
     let t = tablesOf (a .c) (now (a .records)) (now (a .objects)) (now (a .groups)) in
-    (sound-at t (s .pre .0) .few-objects, omega (arith, s .pre .1))
+    (sound-at t (s .pre .0) .few-objects, omega (arith, s .pre .2))
 
 same-length : tie.Need-same-length
 same-length c = search needs
@@ -23,7 +23,7 @@ same-length c = search needs
 returns : tie.Need-returns
 returns c =
     let h = c .before .before .head .ensures in
-    let a = c .before .before .before .before .before .before .before .before .before .args in
+    let a = c .before .before .before .before .before .before .before .before .before .before .args in
     let t = tablesOf (a .c) (now (a .records)) (now (a .objects)) (now (a .groups)) in
     numbered-head t (a .k) _ _ (omega arith) (h .0) (h .1)
 
@@ -35,16 +35,16 @@ find-requires c κs = search needs
 
 returns-2 : tie.Need-returns-2
 returns-2 c =
-    let a = c .before .before .before .before .before .before .before .before .args in
+    let a = c .before .before .before .before .before .before .before .before .before .args in
     let t = tablesOf (a .c) (now (a .records)) (now (a .objects)) (now (a .groups)) in
     not-numbered t (a .k) _ _ (omega arith) _ (c .before .before .find .ensures) (not-true _ (c .if2 .taken))
 
 put-found-requires : tie.Need-put-found-requires
 put-found-requires c κs =
-    let s = c .before .before .before .before .before .before .before .before .before in
+    let s = c .before .before .before .before .before .before .before .before .before .before in
     let f = c .before .before .before .find .ensures in
     let ok = not-false _ (c .before .if2 .left) in
-    (s .pre .0, f .object ok, f .version ok, s .pre .1)
+    (s .pre .0, f .object ok, f .version ok, s .pre .2)
 
 same-length-2 : tie.Need-same-length-2
 same-length-2 c = search needs
@@ -53,7 +53,7 @@ returns-3 : tie.Need-returns-3
 returns-3 c =
     let p = c .before .before .put-found .ensures in
     let i = c .before .before .before .before in
-    let a = i .before .before .before .before .before .before .before .before .args in
+    let a = i .before .before .before .before .before .before .before .before .before .args in
     let t = tablesOf (a .c) (now (a .records)) (now (a .objects)) (now (a .groups)) in
     numbered t (a .k) _ _ (omega arith) _ (i .before .before .find .ensures) _ (not-false _ (i .if2 .left)) (p .0)
     (p .1)

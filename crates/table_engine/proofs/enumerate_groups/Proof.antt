@@ -8,6 +8,7 @@ use Rattle.table_drawing.specs.Tables.{tablesOf}
 use Rattle.table_soundness.proofs.SoundFacts.{sound-at}
 use Rattle.table_soundness.proofs.ObjectsByNumber.{sets-few}
 use Rattle.table_arrival.proofs.ProperWith.{proper-held}
+use Rattle.table_sets.proofs.SetsTold.{sets-told}
 use Rattle.table_engine.proofs.EnumerationOutcomes.{not-sound, wrong-length, right-length}
 use borrow.Author.Needs.{needs}
 use Rattle.table_engine.proofs.enumerate_groups.Statement.{statement}
@@ -44,6 +45,7 @@ enumerate-held-requires c κs =
       sets-few t s (a .site) (a .seq),
       omega arith,
       proper-held t s (a .site) (a .seq),
+      sets-told t s (a .site) (a .seq),
     )
 
 same-length : tie.Need-same-length

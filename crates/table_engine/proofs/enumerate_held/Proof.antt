@@ -45,6 +45,7 @@ put-groups-requires c κs =
       omega arith,
       s .pre .2,
       rw (p .ensures .0) (s .pre .3),
+      rw (p .ensures .0) (s .pre .4),
     )
 
 same-length : tie.Need-same-length

@@ -18,8 +18,14 @@ returns c = search needs
 
 put-plainly-requires : tie.Need-put-plainly-requires
 put-plainly-requires c κs =
-    let s = c .before .before .before .before .before .before in
-    (s .pre .0, s .pre .1, s .pre .2, sym (c .before .before .is-any-limited .ensures) ∙ c .before .if1 .left)
+    let s = c .before .before .before .before .before .before in (
+      s .pre .0,
+      s .pre .1,
+      s .pre .2,
+      sym (c .before .before .is-any-limited .ensures) ∙ c .before .if1 .left,
+      s
+          .pre .4,
+    )
 
 same-length-2 : tie.Need-same-length-2
 same-length-2 c = search needs

@@ -1,5 +1,6 @@
 -- `table_replay::replay` meets its contract. Assumes nothing.
 use mathlib.Core.Path.{refl}
+use mathlib.Core.List.{[]}
 use native.Mathlib.Omega.{arith}
 use denote.Ref.{now}
 use borrow.Author.Needs.{needs}
@@ -7,6 +8,7 @@ use Rattle.edit_form.specs.OldForm.{storedIn}
 use Rattle.table_drawing.specs.Tables.{tablesOf}
 use Rattle.table_index.proofs.OneRecordMore.{index-starts}
 use Rattle.table_given.proofs.ReplayGoes.{opened, opened-parts}
+use Rattle.table_kept.proofs.KeptAlong.{none-kept}
 use Rattle.table_replay.proofs.RoomForAll.{counts-in-all, room-for-all}
 use Rattle.table_replay.proofs.replay.Statement.{statement}
 use Rattle.table_replay.proofs.replay.Tie as tie
@@ -47,47 +49,58 @@ slice-aggregate-take-records-3 c = search needs
 slice-aggregate-take-records-4 : tie.Need-slice-aggregate-take-records-4
 slice-aggregate-take-records-4 c = search needs
 
+slice-aggregate-take-records-5 : tie.Need-slice-aggregate-take-records-5
+slice-aggregate-take-records-5 c = search needs
+
+slice-aggregate-take-records-6 : tie.Need-slice-aggregate-take-records-6
+slice-aggregate-take-records-6 c = search needs
+
 take-records-requires : tie.Need-take-records-requires
 take-records-requires c κs =
-    let s8 = c .before .before .before .before .before .before .before .before in
-    let s10 = s8 .before .before in
-    let s17 = s10 .before .before .before .before .before .before .before in
-    let s = s17 .before .before .before .before .before .before .before .before in
+    let s10 = c .before .before .before .before .before .before .before .before .before .before in
+    let s12 = s10 .before .before in
+    let s19 = s12 .before .before .before .before .before .before .before in
+    let s = s19 .before .before .before .before .before .before .before .before in
     let a = s .args in
-    let counted = s10 .count-stretch in
-    let spaced = s8 .space-places .ensures in
+    let counted = s12 .count-stretch in
+    let spaced = s10 .space-places .ensures in
     let e = opened (tablesOf _ (now (a .records)) (now (a .objects)) (now (a .groups))) _ _ (a .sites) (s .pre .0)
     (s .pre .1)
-    (s17 .«open» .ensures) in (
+    (s19 .«open» .ensures) in (
       opened-parts _ (a .sites) e,
       index-starts _ _ _ (spaced .entries) refl,
       room-for-all (storedIn (a .form) (now (a .recs))) (a .n) (counted .result) (counted .ensures) _ spaced,
       s .pre .1,
       s .pre .2,
       s .pre .3,
+      none-kept [] _ _ refl refl refl,
     )
 
 same-length : tie.Need-same-length
 same-length c =
-    let s8 = c .before .before .before .before .before .before .before .before in
-    let s26 = s8 .before .before .before .before .before .before .before .before .before
-    .before .before .before .before .before .before .before .before .before in
-    search (needs, s8 .slice-known7 .given, s26 .slice-known4 .given)
+    let s10 = c .before .before .before .before .before .before .before .before .before .before in
+    let s30 = s10 .before .before .before .before .before .before .before .before .before .before
+    .before .before .before .before .before .before .before .before .before .before in
+    search (needs, s10 .slice-known7 .given, s30 .slice-known4 .given)
 
 same-length-2 : tie.Need-same-length-2
 same-length-2 c =
-    let s6 = c .before .before .before .before .before .before in
-    let s24 = s6 .before .before .before .before .before .before .before .before .before
-    .before .before .before .before .before .before .before .before .before in
-    search (needs, s6 .slice-known8 .given, s24 .slice-known5 .given)
+    let s8 = c .before .before .before .before .before .before .before .before in
+    let s28 = s8 .before .before .before .before .before .before .before .before .before .before
+    .before .before .before .before .before .before .before .before .before .before in
+    search (needs, s8 .slice-known8 .given, s28 .slice-known5 .given)
 
 same-length-3 : tie.Need-same-length-3
-same-length-3 c = search needs
+same-length-3 c =
+    let s6 = c .before .before .before .before .before .before in
+    let s26 = s6 .before .before .before .before .before .before .before .before .before .before
+    .before .before .before .before .before .before .before .before .before .before in
+    search (needs, s6 .slice-known9 .given, s26 .slice-known6 .given)
 
 returns : tie.Need-returns
 returns c =
-    let s10 = c .before .before .before .before .before .before .before .before .before .before in
-    s10 .take-records .ensures
+    let s12 = c .before .before .before .before .before .before .before .before .before .before .before .before in
+    s12 .take-records .ensures
 
 pub replay-spec : {M : Type 1} → statement M
 replay-spec =
@@ -101,6 +114,8 @@ replay-spec =
     slice-aggregate-take-records-2
     slice-aggregate-take-records-3
     slice-aggregate-take-records-4
+    slice-aggregate-take-records-5
+    slice-aggregate-take-records-6
     take-records-requires
     same-length
     same-length-2

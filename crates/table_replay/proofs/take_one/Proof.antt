@@ -28,7 +28,7 @@ own-is form rest w long h = ap (λ (k : ℕ). take k rest) h ∙ sym (long-own f
 
 widened-from-requires : tie.Need-widened-from-requires
 widened-from-requires c κs =
-    let s = c .before .before .before .before .before .before .before .before .before in
+    let s = c .before .before .before .before .before .before .before .before .before .before .before in
     omega (arith, length-least (s .args .form) (now (s .args .rest)), s .pre .1)
 
 slice-aggregate-take-next : tie.Need-slice-aggregate-take-next
@@ -36,11 +36,12 @@ slice-aggregate-take-next c = search needs
 
 take-next-requires : tie.Need-take-next-requires
 take-next-requires c κs =
-    let s9 = c .before .before .before .before .before .before .before .before .before in
-    let s = s9 .before .before .before .before .before .before .before .before .before in
-    let w = c .before .before .before .before .before .before .before .before .widened-from in
-    let is = wide-is (s .args .form) (now (s .args .rest)) (w .result) (s9 .if1 .taken) (w .ensures) in
-    rw is (s .pre .0)
+    let s10 = c .before .before .before .before .before .before .before .before .before .before in
+    let s11 = s10 .before in
+    let s = s11 .before .before .before .before .before .before .before .before .before .before .before in
+    let w = s10 .widened-from in
+    let is = wide-is (s .args .form) (now (s .args .rest)) (w .result) (s11 .if1 .taken) (w .ensures) in
+    (rw is (s .pre .0), s .pre .2)
 
 same-length : tie.Need-same-length
 same-length c = search needs
@@ -63,41 +64,42 @@ same-length-6 c = search needs
 same-length-7 : tie.Need-same-length-7
 same-length-7 c = search needs
 
+same-length-8 : tie.Need-same-length-8
+same-length-8 c = search needs
+
+same-length-9 : tie.Need-same-length-9
+same-length-9 c = search needs
+
 returns : tie.Need-returns
 returns c =
-    let s14 = c .before .before .before .before .before .before .before .before .before .before .before .before .before
-    .before in
-    let s23 = s14 .before .before .before .before .before .before .before .before .before in
-    let s24 = s23 .before in
-    let s = s24 .before .before .before .before .before .before .before .before .before in
-    let w = s23 .widened-from in
-    let is = wide-is (s .args .form) (now (s .args .rest)) (w .result) (s24 .if1 .taken) (w .ensures) in
-    rw is at (s14 .take-next .ensures)
+    let s18 = c .before .before .before .before .before .before .before .before .before .before .before .before .before
+    .before .before .before .before .before in
+    let s29 = s18 .before .before .before .before .before .before .before .before .before .before .before in
+    let s30 = s29 .before in
+    let s = s30 .before .before .before .before .before .before .before .before .before .before .before in
+    let w = s29 .widened-from in
+    let is = wide-is (s .args .form) (now (s .args .rest)) (w .result) (s30 .if1 .taken) (w .ensures) in
+    rw is at (s18 .take-next .ensures)
 
 length-from-requires : tie.Need-length-from-requires
 length-from-requires c κs = search needs
 
 slice-aggregate-rec : tie.Need-slice-aggregate-rec
 slice-aggregate-rec c =
-    let s = c .before .before .before .before .before .before .before .before .before .before .before in
+    let s = c .before .before .before .before .before .before .before .before .before .before .before .before
+    .before in
     let few : c .before .length-from .result ≤ length (now (s .args .rest))
     = rw (c .before .length-from .ensures) (s .pre .1) in
     sym (length-take-le (c .before .length-from .result) (now (s .args .rest)) few)
 
 take-next-requires-2 : tie.Need-take-next-requires-2
 take-next-requires-2 c κs =
-    let s8 = c .before .before .before .before .before .before .before .before in
-    let s9 = s8 .before in
-    let s = s9 .before .before .before .before .before .before .before .before .before in
-    let w = s8 .length-from in
-    let is = own-is (s .args .form) (now (s .args .rest)) (w .result) (s9 .if1 .left) (w .ensures) in
-    rw is (s .pre .0)
-
-same-length-8 : tie.Need-same-length-8
-same-length-8 c = search needs
-
-same-length-9 : tie.Need-same-length-9
-same-length-9 c = search needs
+    let s10 = c .before .before .before .before .before .before .before .before .before .before in
+    let s11 = s10 .before in
+    let s = s11 .before .before .before .before .before .before .before .before .before .before .before in
+    let w = s10 .length-from in
+    let is = own-is (s .args .form) (now (s .args .rest)) (w .result) (s11 .if1 .left) (w .ensures) in
+    (rw is (s .pre .0), s .pre .2)
 
 same-length-10 : tie.Need-same-length-10
 same-length-10 c = search needs
@@ -114,16 +116,28 @@ same-length-13 c = search needs
 same-length-14 : tie.Need-same-length-14
 same-length-14 c = search needs
 
+same-length-15 : tie.Need-same-length-15
+same-length-15 c = search needs
+
+same-length-16 : tie.Need-same-length-16
+same-length-16 c = search needs
+
+same-length-17 : tie.Need-same-length-17
+same-length-17 c = search needs
+
+same-length-18 : tie.Need-same-length-18
+same-length-18 c = search needs
+
 returns-2 : tie.Need-returns-2
 returns-2 c =
-    let s14 = c .before .before .before .before .before .before .before .before .before .before .before .before .before
-    .before in
-    let s23 = s14 .before .before .before .before .before .before .before .before .before in
-    let s24 = s23 .before in
-    let s = s24 .before .before .before .before .before .before .before .before .before in
-    let w = s23 .length-from in
-    let is = own-is (s .args .form) (now (s .args .rest)) (w .result) (s24 .if1 .left) (w .ensures) in
-    rw is at (s14 .take-next2 .ensures)
+    let s18 = c .before .before .before .before .before .before .before .before .before .before .before .before .before
+    .before .before .before .before .before in
+    let s29 = s18 .before .before .before .before .before .before .before .before .before .before .before in
+    let s30 = s29 .before in
+    let s = s30 .before .before .before .before .before .before .before .before .before .before .before in
+    let w = s29 .length-from in
+    let is = own-is (s .args .form) (now (s .args .rest)) (w .result) (s30 .if1 .left) (w .ensures) in
+    rw is at (s18 .take-next2 .ensures)
 
 pub take-one-spec : {M : Type 1} → statement M
 take-one-spec =
@@ -139,15 +153,19 @@ take-one-spec =
     same-length-5
     same-length-6
     same-length-7
+    same-length-8
+    same-length-9
     returns
     length-from-requires
     slice-aggregate-rec
     take-next-requires-2
-    same-length-8
-    same-length-9
     same-length-10
     same-length-11
     same-length-12
     same-length-13
     same-length-14
+    same-length-15
+    same-length-16
+    same-length-17
+    same-length-18
     returns-2)

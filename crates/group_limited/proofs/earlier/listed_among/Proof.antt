@@ -20,13 +20,13 @@ use Rattle.group_limited.proofs.earlier.listed_among.Statement.{stateme
 use Rattle.group_limited.proofs.earlier.listed_among.Tie as tie
 
 abbrev Inv-loop : tie.InvT-loop
-Inv-loop names k seen rec n named₀ strange₀ i₀ named strange i =
+Inv-loop names k seen rec n count named₀ strange₀ i₀ named strange i =
     (i ≤ n)
     × (named ≡ mask k (λ j. elem (getD names j 0) (map nameIn (take i (decodeOf rec .members)))))
     × (strange ≡ any (isUnseen names k seen) (map nameIn (take i (decodeOf rec .members))))
 
 abbrev μ-loop : tie.MeasureT-loop
-μ-loop names k seen rec n named₀ strange₀ i₀ named strange i = n - i
+μ-loop names k seen rec n count named₀ strange₀ i₀ named strange i = n - i
 
 four-at-requires : tie.Need-four-at-requires Inv-loop μ-loop
 four-at-requires c κs = search needs
@@ -34,16 +34,22 @@ four-at-requires c κs = search needs
 listed-requires : tie.Need-listed-requires Inv-loop μ-loop
 listed-requires c κs = search needs
 
+two-at-requires : tie.Need-two-at-requires Inv-loop μ-loop
+two-at-requires c κs = search needs
+
 loop-holds : tie.Need-loop-holds Inv-loop μ-loop
 unfolding any
 loop-holds c =
-    let a = c .before .before .before .before .args in
+    let a = c .before .before .before .before .before .args in
     (omega arith, none-listed (now (a .names)) (a .k), refl)
 
 member-of-requires : tie.Need-member-of-requires Inv-loop μ-loop
 member-of-requires c κs =
-    let s = c .before .before .before .before .before .before in
-    (s .pre .2, omega (arith, c .before .before .listed .ensures .0, c .loop-test .taken))
+    let s = c .before .before .before .before .before .before .before in (
+      s .pre .2,
+      omega (arith, c .before .before .before .listed .ensures .0, c .loop-test .taken),
+      c .before .before .two-at .ensures,
+    )
 
 name-in-requires : tie.Need-name-in-requires Inv-loop μ-loop
 name-in-requires c κs = search needs
@@ -59,10 +65,10 @@ loop-less c = search needs
 
 loop-again : tie.Need-loop-again Inv-loop μ-loop
 loop-again c =
-    let s = c .before .before .before .before .before .before .before .before .before in
+    let s = c .before .before .before .before .before .before .before .before .before .before in
     let a = s .args in
     let l = c .before .before .before .before .loop in
-    let n = c .before .before .before .before .before .listed in
+    let n = c .before .before .before .before .before .before .listed in
     let ns = now (a .names) in
     let ms = decodeOf (now (a .rec)) .members in
     let fits : l .i < length ms
@@ -79,14 +85,14 @@ loop-again c =
 returns : tie.Need-returns Inv-loop μ-loop
 returns c =
     let l = c .before .loop in
-    let s = c .before .before .before .before .before .before in
+    let s = c .before .before .before .before .before .before .before in
     let a = s .args in
-    let n = c .before .before .listed in
+    let n = c .before .before .before .listed in
     let ns = now (a .names) in
     let e = decodeOf (now (a .rec)) in
     let done : l .i ≡ n .result = omega arith in
-    let count : c .before .before .before .four-at .result ≡ e .count = c .before .before
-    .before .four-at .ensures ∙ count-there (now (a .rec)) (s .pre .2) in
+    let four = c .before .before .before .before .four-at in
+    let count : four .result ≡ e .count = four .ensures ∙ count-there (now (a .rec)) (s .pre .2) in
     let all : take (l .i) (e .members) ≡ take (e .count) (e .members) =
     ap (λ (j : ℕ). take j (e .members)) done
     ∙ n .ensures .1 (e .members) (members-length (now (a .rec)))
@@ -103,6 +109,7 @@ listed-among-spec =
     μ-loop
     four-at-requires
     listed-requires
+    two-at-requires
     loop-holds
     member-of-requires
     name-in-requires

@@ -10,10 +10,10 @@ use lib.Pow.{pow-mono}
 use denote.Ref.{now}
 use Rattle.math_maximal.specs.Groups.{bit}
 use Rattle.edit_record.specs.declared.Edit.{Edit}
-use Rattle.edit_record.specs.RecordBytes.{decodeOf}
-use Rattle.edit_causal.specs.Conflict.{doConflict}
+use Rattle.edit_record.specs.RecordBytes.{decodeOf, noEdit}
 use Rattle.edit_history.proofs.EditsInPlaces.{sets-length, set-place}
-use Rattle.group_limited.specs.LimitedForms.{setsIn, NameOf, NamesOf}
+use Rattle.group_limited.specs.LimitedForms.{setsIn, NameOf, NamesOf, isFoe}
+use Rattle.group_limited.proofs.FoesConflict.{foe-conflicts}
 use Rattle.group_limited.proofs.SeenThrough.{plain-of-others}
 use borrow.Author.Needs.{needs}
 use Rattle.group_limited.proofs.earlier.marks_of.Statement.{statement}
@@ -37,41 +37,51 @@ first-requires c κs = search needs
 without-requires : tie.Need-without-requires
 without-requires c κs = search needs
 
-plain-of-requires : tie.Need-plain-of-requires
-plain-of-requires c κs =
-    let s = c .before .before .before .before .before .before .before .before .before .before .before in
-    let most : 2 ^ s .args .k ≤ 2 ^ length (now (s .args .places)) = pow-mono (s .pre .1) in
-    rw (c .without .ensures) (omega (arith, c .before .first .ensures .0, most))
+side-of-requires : tie.Need-side-of-requires
+side-of-requires c κs = search needs
+
+foes-among-requires : tie.Need-foes-among-requires
+foes-among-requires c κs =
+    let s = c .before .before .before .before .before .before .before .before .before .before .before .before in
+    let places : 2 ^ s .args .k ≤ 2 ^ length (now (s .args .places)) = pow-mono (s .pre .1) in
+    let names : 2 ^ s .args .k ≤ 2 ^ length (now (s .args .names)) = pow-mono (s .pre .2) in
+    let small = c .before .before .first .ensures .0 in
+    rw (c .before .without .ensures) (omega (arith, small, places), omega (arith, small, names))
 
 returns : tie.Need-returns
 returns c =
-    let s = c .before .before .before .before .before .before .before .before .before .before .before .before in
+    let s = c .before .before .before .before .before .before .before .before .before .before .before .before .before in
     let a = s .args in
     let rs = now (a .recs) in
     let ps = now (a .places) in
+    let ns = now (a .names) in
     let e = decodeOf (now (a .rec)) in
     let ms = setsIn rs ps (a .k) in
     let fits : a .k ≤ length ps = s .pre .1 in
     let size : length ms ≡ a .k = sets-length rs ps (a .k) fits in
-    let all = c .before .before .first in
-    let others = c .before .without in
-    let plain = c .plain-of in
-    let part : plain .result ≤ all .result - bitAnd (all .result) (c .before .before .before .seen-of .result)
+    let all = c .before .before .before .first in
+    let others = c .before .before .without in
+    let own = c .before .before .before .before .before .before .name-of in
+    let side = c .before .side-of in
+    let plain = c .foes-among in
+    let part : plain .result ≤ all .result - bitAnd (all .result) (c .before .before .before .before .seen-of .result)
     = rw (others .ensures) at (plain .ensures .0) in
-    let names : NamesOf (now (a .names)) ms
+    let names : NamesOf ns ms
     = λ i l. let m : i < a .k = omega (arith, size) in
-    subst (NameOf (getD (now (a .names)) i 0)) (sym (set-place rs ps (a .k) fits i m)) (s .pre .4 i m) in (
+    subst (NameOf (getD ns i 0)) (sym (set-place rs ps (a .k) fits i m)) (s .pre .4 i m) in (
       omega (arith, part, all .ensures .0),
       λ tell law.
-          let seen = c .before .before .before .seen-of .ensures ms e size names
-          (c .before .before .before .before .before .name-of .ensures)
-          (sym (c .before .before .before .before .before .before .vector-in .ensures)) tell law in
+          let seen = c .before .before .before .before .seen-of .ensures ms e size names (own .ensures)
+          (sym (c .before .before .before .before .before .before .before .vector-in .ensures)) tell law in
           ap₂ (λ (p q : ℕ). record { plain = p; seen = q })
           (plain-of-others ms e (all .result) _ (plain .result) (rw size (all .ensures .0))
           (λ j l. all .ensures .1 j (omega (arith, size))) seen part
+          (λ j. isFoe (getD ns j 0) (side .result) (getD ms j noEdit))
           (λ j l. plain .ensures .1 j
-          ∙ ap₂ (λ (x : ℕ) (y : Edit). bit x j && doConflict y e) (others .ensures)
-          (sym (set-place rs ps (a .k) fits j (omega (arith, size))))))
+          ∙ ap₂ (λ (x : ℕ) (y : Edit). bit x j && isFoe (getD ns j 0) (side .result) y) (others .ensures)
+          (sym (set-place rs ps (a .k) fits j (omega (arith, size)))))
+          (λ j l. foe-conflicts (getD ns j 0) (side .result) (getD ms j noEdit) e (names j l)
+          (side .ensures (own .ensures))))
           seen,
     )
 
@@ -85,5 +95,6 @@ marks-of-spec =
     seen-of-requires
     first-requires
     without-requires
-    plain-of-requires
+    side-of-requires
+    foes-among-requires
     returns)

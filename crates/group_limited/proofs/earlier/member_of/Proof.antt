@@ -7,16 +7,10 @@ use borrow.Author.Needs.{needs}
 use Rattle.group_limited.proofs.earlier.member_of.Statement.{statement}
 use Rattle.group_limited.proofs.earlier.member_of.Tie as tie
 
-two-at-requires : tie.Need-two-at-requires
-two-at-requires c κs = search needs
-
-cast-if1 : tie.Need-cast-if1
-cast-if1 c = search needs
-
 returns : tie.Need-returns
 returns c =
-    let s = c .before .before .before in
-    member-past (now (s .args .rec)) (s .args .i) (s .pre .0) (omega (arith, c .before .two-at .ensures, c .if1 .taken))
+    let s = c .before .before in
+    member-past (now (s .args .rec)) (s .args .i) (s .pre .0) (omega (arith, s .pre .2, c .if1 .taken))
 
 mul-four-at : tie.Need-mul-four-at
 mul-four-at c = search needs
@@ -29,12 +23,10 @@ four-at-requires c κs = search needs
 
 returns-2 : tie.Need-returns-2
 returns-2 c =
-    let s = c .before .before .before .before in
+    let s = c .before .before .before in
     c .four-at .ensures
     ∙ member-there (now (s .args .rec)) (s .args .i) (s .pre .0) (s .pre .1)
-    (omega (arith, c .before .before .two-at .ensures, c .before .if1 .left))
+    (omega (arith, s .pre .2, c .before .if1 .left))
 
 pub member-of-spec : {M : Type 1} → statement M
-member-of-spec =
-    tie.close
-    (tie.spec two-at-requires cast-if1 returns mul-four-at add-four-at four-at-requires returns-2)
+member-of-spec = tie.close (tie.spec returns mul-four-at add-four-at four-at-requires returns-2)

@@ -39,11 +39,11 @@ loop-holds c =
     let f = c .first .ensures in
     (f .0, λ ms e long names its vector tell law. none-known ms e _ (λ j l. f .1 j (omega arith)))
 
-last-of-requires : tie.Need-last-of-requires Inv-loop μ-loop
-last-of-requires c κs = omega (arith, c .loop-test .taken)
+highest-requires : tie.Need-highest-requires Inv-loop μ-loop
+highest-requires c κs = omega (arith, c .loop-test .taken)
 
 only-requires : tie.Need-only-requires Inv-loop μ-loop
-only-requires c κs = c .last-of .ensures .0
+only-requires c κs = c .highest .ensures .2
 
 mul-is-seen : tie.Need-mul-is-seen Inv-loop μ-loop
 mul-is-seen c = search needs
@@ -52,7 +52,7 @@ shared-slice-read-is-seen : tie.Need-shared-slice-read-is-seen Inv-loop μ-loop
 shared-slice-read-is-seen c =
     let l = c .before .before .before .before .loop in
     let s = c .before .before .before .before .before .before .before .before .before in
-    let low = bit-below (s .args .k) (l .left) (l .inv .0) _ (c .before .before .last-of .ensures .1) in
+    let low = bit-below (s .args .k) (l .left) (l .inv .0) _ (c .before .before .highest .ensures .1) in
     omega (arith, low, s .pre .1)
 
 is-seen-requires : tie.Need-is-seen-requires Inv-loop μ-loop
@@ -62,7 +62,7 @@ known-by-requires : tie.Need-known-by-requires Inv-loop μ-loop
 known-by-requires c κs =
     let last = c .before .before .before .before in
     let s = last .before .before .before .before .before .before .before in
-    (s .pre .2, last .last-of .ensures .0)
+    (s .pre .2, last .highest .ensures .2)
 
 without-requires : tie.Need-without-requires Inv-loop μ-loop
 without-requires c κs = search needs
@@ -70,7 +70,7 @@ without-requires c κs = search needs
 loop-less : tie.Need-loop-less Inv-loop μ-loop
 loop-less c =
     let l = c .before .before .before .before .before .before .before .loop in
-    let last = c .before .before .before .before .before .last-of in
+    let last = c .before .before .before .before .before .highest in
     let i = last .result in
     let own : bit (c .before .before .before .before .only .result) i ≡ true
     = ap (λ (x : ℕ). bit x i) (c .before .before .before .before .only .ensures) ∙ bit-power i i ∙ eqb-self i in
@@ -86,7 +86,7 @@ loop-again c =
     let l = c .before .before .before .before .before .before .before .loop in
     let s = c .before .before .before .before .before .before .before .before .before .before .before .before in
     let a = s .args in
-    let last = c .before .before .before .before .before .last-of in
+    let last = c .before .before .before .before .before .highest in
     let i = last .result in
     let own = c .before .before .before .before .only in
     let seen = c .before .before .is-seen in
@@ -121,7 +121,7 @@ seen-of-spec =
     μ-loop
     first-requires
     loop-holds
-    last-of-requires
+    highest-requires
     only-requires
     mul-is-seen
     shared-slice-read-is-seen

@@ -1,13 +1,13 @@
 -- `group_step::covered::put_wholes` meets its contract: what those give that gain the Set, of those passed, stands at
 -- the front of out. Assumes nothing.
 use mathlib.Core.Path.{_≡_, refl, sym, ap, _∙_}
-use mathlib.Core.List.{_++_, map}
+use mathlib.Core.List.{List, _++_, map}
 use mathlib.Core.Logic.{⊎-elim}
 use Prim.Native.Nat.{ℕ, _+_, _-_, _≤_}
 use native.Mathlib.Omega.{arith}
 use borrow.Author.Needs.{needs}
 use lib.ListN.{length, take, set, length-set}
-use lib.Seq.{slice}
+use lib.Seq.{slice, take-set-le}
 use Rattle.math_lists.specs.SortedLists.{filter}
 use Rattle.math_maximal.specs.Step.{compatible, candidate}
 use Rattle.group_step.specs.StepForms.{wholes}
@@ -64,24 +64,23 @@ loop-again c =
     let p = compatible (a .m) in
     let e = sym (c .before .is-compatible .ensures) in
     let x = c .before .before .candidate-of in
+    let ys = map f (filter p (slice (l .i + 1) (a .n) (a .gs .now))) in
     ⊎-elim
-    (λ v. rw (v .1, v .2) (
+    (λ v. rw (v .1) (
       omega arith,
       omega arith,
       simp length-set (l .inv .2),
       put-more p f _ (a .gs .now) (l .out) (l .w) (l .i) (a .n) (l .inv .3) (omega arith) (omega arith) (omega arith)
           (e ∙ v .0 .taken)
-          ∙ ap
-          (λ (y : ℕ). take (l .w + 1) (set (l .out) (l .w) y)
-          ++ map f (filter p (slice (l .i + 1) (a .n) (a .gs .now))))
-          (sym (x .ensures)),
+          ∙ ap (λ (y : ℕ). take (l .w + 1) (set (l .out) (l .w) y) ++ ys) (sym (x .ensures)),
     ))
-    (λ v. rw (v .1, v .2) (
+    (λ v. rw (v .1) (
       omega arith,
       omega arith,
-      l .inv .2,
+      simp length-set (l .inv .2),
       put-none p f _ (a .gs .now) (l .out) (l .w) (l .i) (a .n) (l .inv .3) (omega arith) (omega arith)
-          (e ∙ v .0 .left),
+          (e ∙ v .0 .left)
+          ∙ ap (λ (xs : List ℕ). xs ++ ys) (sym (take-set-le (l .w) (l .out) (l .w) (x .result) (omega arith))),
     ))
     (c .if1 .came)
 
@@ -107,9 +106,9 @@ put-wholes-spec =
     mul-g
     shared-slice-read-g
     candidate-of-requires
-    is-compatible-requires
     mul-out
     slice-write-out
+    is-compatible-requires
     add-w
     add-i
     loop-less

@@ -13,7 +13,7 @@ form-setting-requires : tie.Need-form-setting-requires
 form-setting-requires c κs =
     let s = c .before .before .before in
     let low = c .before .if1 .taken in
-    (omega (arith, low), s .pre .1 (omega (arith, low)), s .pre .2)
+    (omega (arith, low), s .pre .1 (omega (arith, low)), omega (arith, s .pre .2))
 
 same-length : tie.Need-same-length
 same-length c = search needs

@@ -1,6 +1,7 @@
 -- `list_line::pieces::form_name` meets its contract: `+` and the name. Assumes nothing.
 use mathlib.Core.List.{[], _∷_}
 use native.Mathlib.Omega.{arith}
+use lib.ListN.{take}
 use Rattle.list_text.specs.Pieces.{plus}
 use Rattle.list_text.proofs.PiecesBehind.{two}
 use Rattle.list_line.specs.Line.{nameText}
@@ -28,7 +29,7 @@ returns : tie.Need-returns
 returns c =
     let mark = c .before .before .before .before .before .before in
     let a = mark .before .before .before .args in (
-      two [] (plus ∷ []) (nameText (nameBy (a .x))) (mark .put-byte .ensures .0)
+      two (take (a .n) (a .text .now)) (plus ∷ []) (nameText (nameBy (a .x))) (mark .put-byte .ensures .0)
           (c .before .before .put-dotted .ensures .0),
       omega arith,
     )

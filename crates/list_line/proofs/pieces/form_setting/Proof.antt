@@ -1,6 +1,7 @@
 -- `list_line::pieces::form_setting` meets its contract: a space and `key=value`. Assumes nothing.
 use mathlib.Core.List.{[], _∷_}
 use native.Mathlib.Omega.{arith}
+use lib.ListN.{take}
 use borrow.Author.Tests.{ne-eqb}
 use Rattle.list_text.specs.Pieces.{space, equated}
 use Rattle.list_text.proofs.PiecesBehind.{two}
@@ -32,7 +33,8 @@ returns c =
     let s = mark .before .before .before in
     let v = c .before .before .before .shown in (
       rw (ne-eqb (s .args .s) 0 (λ e. omega (arith, s .pre)), ← v .ensures)
-          (two [] (space ∷ []) (equated (s .args .key) (v .result)) (mark .put-byte .ensures .0)
+          (two (take (s .args .n) (s .args .text .now)) (space ∷ [])
+          (equated (s .args .key) (v .result)) (mark .put-byte .ensures .0)
           (c .before .before .put-equated .ensures .0)),
       omega arith,
     )

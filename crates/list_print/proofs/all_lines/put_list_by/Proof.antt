@@ -53,6 +53,7 @@ put-objects-requires c κs =
     let start = s16 .before .before in
     let h = s8 .before .before .put-head in (
       start .pre .0,
+      start .pre .1,
       c .before .before .before .before .chain-sets .ensures,
       omega (arith, h .ensures .end, h .ensures .few),
       omega (arith, h .kept .1 .0),

@@ -13,6 +13,7 @@ use Rattle.list_line.specs.Line.{lineLength}
 use Rattle.list_lines.specs.List.{linesFor}
 use Rattle.list_lines.proofs.LinesGathered.{sorted-low}
 use Rattle.list_objects.proofs.KeysByTops.{in-order}
+use Rattle.list_objects.proofs.TopsByIndex.{tops-aimed, creates-held}
 use Rattle.list_print.specs.Printing.{joined}
 use Rattle.list_print.specs.PrintForms.{Behind}
 use Rattle.list_print.proofs.BytesBehind.{fewer-behind, no-piece, piece-behind}
@@ -24,7 +25,7 @@ use Rattle.list_print.proofs.all_lines.put_objects.Statement.{statement
 use Rattle.list_print.proofs.all_lines.put_objects.Tie as tie
 
 abbrev Inv-loop : tie.InvT-loop
-Inv-loop out₀ line₀ n c records objects groups chain m order texts₀ lens₀ told₀ disputes₀ stamps₀ versions₀ w₀ i₀
+Inv-loop out₀ line₀ n c records objects groups places chain m order texts₀ lens₀ told₀ disputes₀ stamps₀ versions₀ w₀ i₀
     out line texts lens told disputes stamps versions w i =
     (i ≤ m)
     × (length out ≡ length out₀)
@@ -37,8 +38,8 @@ Inv-loop out₀ line₀ n c records objects groups chain m order texts₀ lens�
     (i * (mostGroups * lineLength)) out w
 
 abbrev μ-loop : tie.MeasureT-loop
-μ-loop out₀ line₀ n c records objects groups chain m order texts₀ lens₀ told₀ disputes₀ stamps₀ versions₀ w₀ i₀ out
-    line texts lens told disputes stamps versions w i =
+μ-loop out₀ line₀ n c records objects groups places chain m order texts₀ lens₀ told₀ disputes₀ stamps₀ versions₀ w₀ i₀
+    out line texts lens told disputes stamps versions w i =
     m - i
 
 cast-m : tie.Need-cast-m Inv-loop μ-loop
@@ -52,15 +53,15 @@ cast-sort-objects c = search needs
 
 sort-objects-requires : tie.Need-sort-objects-requires Inv-loop μ-loop
 sort-objects-requires c κs =
-    let start = c .before .before .before .before .before .before .before .before .before in
+    let start = c .before .before .before .before .before .before .before .before .before .before in
     let a = start .args in
     let t = tablesOf (a .c) (now (a .records)) (now (a .objects)) (now (a .groups)) in
     let f = sound-at t (start .pre .0) in
-    (f .few-records, f .few-objects, omega (arith, f .few-objects))
+    (f .few-records, f .few-objects, omega (arith, f .few-objects), start .pre .1, tops-aimed t f, creates-held t f)
 
 loop-holds : tie.Need-loop-holds Inv-loop μ-loop
 loop-holds c =
-    let a = c .before .before .before .before .before .before .before .before .before .before .before .args in
+    let a = c .before .before .before .before .before .before .before .before .before .before .before .before .args in
     let t = tablesOf (a .c) (now (a .records)) (now (a .objects)) (now (a .groups)) in
     let order = c .before .sort-objects .last .0 in
     let kept = none-kept (replicate (pieces * pieceLength) 1) (length-replicate {A = ℕ} (pieces * pieceLength) 1) in
@@ -73,7 +74,7 @@ mul-o c = search needs
 array-read-o : tie.Need-array-read-o Inv-loop μ-loop
 array-read-o c =
     let s8 = c .before .before .before .before .before .before .before .before in
-    let start = s8 .before .before .before .before .before in
+    let start = s8 .before .before .before .before .before .before in
     let a = start .args in
     let t = tablesOf (a .c) (now (a .records)) (now (a .objects)) (now (a .groups)) in
     let few = sound-at t (start .pre .0) .few-objects in
@@ -82,7 +83,7 @@ array-read-o c =
 cast-o : tie.Need-cast-o Inv-loop μ-loop
 cast-o c =
     let s8 = c .before .before .before .before .before .before .before .before in
-    let start = s8 .before .before .before .before .before in
+    let start = s8 .before .before .before .before .before .before in
     let a = start .args in
     let t = tablesOf (a .c) (now (a .records)) (now (a .objects)) (now (a .groups)) in
     let f = sound-at t (start .pre .0) in
@@ -111,18 +112,18 @@ slice-aggregate-put-object-6 c = search needs
 put-object-requires : tie.Need-put-object-requires Inv-loop μ-loop
 put-object-requires c κs =
     let start = c .before .before .before .before .before .before .before .before .before .before .before
-    .before .before .before .before .before .before .before .before .before .before in
+    .before .before .before .before .before .before .before .before .before .before .before in
     let l = c .before .before .before .before .before .before .before .before .before .loop in
     let a = start .args in
     let t = tablesOf (a .c) (now (a .records)) (now (a .objects)) (now (a .groups)) in
     let f = sound-at t (start .pre .0) in
     let more = c .before .before .before .before .before .before .before .before .loop-test .taken in (
       start .pre .0,
-      start .pre .1,
+      start .pre .2,
       sorted-low t f _ (c .before .before .before .before .before .before .before .before .before .before
           .before .sort-objects .ensures ∙ in-order t f) (l .i) (omega (arith, more)),
-      omega (arith, more, f .few-objects, start .pre .2, l .inv .7 .end, l .inv .7 .few),
-      omega (arith, start .pre .3, l .inv .2),
+      omega (arith, more, f .few-objects, start .pre .3, l .inv .7 .end, l .inv .7 .few),
+      omega (arith, start .pre .4, l .inv .2),
       l .inv .6,
       omega (arith, l .inv .3),
       omega (arith, l .inv .4),
@@ -139,7 +140,7 @@ loop-again : tie.Need-loop-again Inv-loop μ-loop
 loop-again c =
     let start = c .before .before .before .before .before .before .before .before .before .before .before
     .before .before .before .before .before .before .before .before .before .before .before .before .before
-    .before .before .before .before .before .before .before .before in
+    .before .before .before .before .before .before .before .before .before in
     let a = start .args in
     let t = tablesOf (a .c) (now (a .records)) (now (a .objects)) (now (a .groups)) in
     let p = c .before .before .before .before .before .before .before .before .before .before .put-object in
@@ -176,7 +177,7 @@ same-length-2 c = c .before .loop .inv .2
 returns : tie.Need-returns Inv-loop μ-loop
 returns c =
     let start = c .before .before .before .before .before .before .before .before .before .before .before
-    .before .before in
+    .before .before .before in
     let a = start .args in
     let t = tablesOf (a .c) (now (a .records)) (now (a .objects)) (now (a .groups)) in
     let l = c .before .loop in

@@ -1,0 +1,60 @@
+-- `table_arrival::judging::judge` meets its contract. Assumes nothing.
+use mathlib.Core.Path.{_≡_, refl, sym, ap, _∙_}
+use mathlib.Core.Bool.{Bool, true, false, not, _&&_, _||_}
+use Prim.Native.Nat.{ℕ}
+use lib.Dec.{eqb}
+use denote.Ref.{now}
+use borrow.Author.Needs.{needs}
+use Rattle.edit_record.specs.Layout.{limitedKind}
+use Rattle.edit_record.specs.RecordBytes.{decodeOf}
+use Rattle.edit_record.specs.Answer1.{isLimited}
+use Rattle.edit_history.specs.EditsHeld.{editsOf}
+use Rattle.table_arrival.proofs.JudgedPlainly.{judged-plainly}
+use Rattle.table_arrival.proofs.judging.judge.Statement.{statement}
+use Rattle.table_arrival.proofs.judging.judge.Tie as tie
+
+-- neither of the two tests holds
+neither-asked : (f a b : Bool) → (f && a) ≡ false → (f && b) ≡ false → not (f && (a || b)) ≡ true
+neither-asked false a b g h = refl
+neither-asked true a b g h = rw (g, h)
+
+byte-at-requires : tie.Need-byte-at-requires
+byte-at-requires c κs = search needs
+
+judge-by-rows-requires : tie.Need-judge-by-rows-requires
+judge-by-rows-requires c κs = search needs
+
+returns : tie.Need-returns
+returns c =
+    let judged = c .judge-by-rows .ensures in
+    record { nameless = λ asked. judged .nameless; conflicts = λ found. judged .conflicts }
+
+judge-by-rows-requires-2 : tie.Need-judge-by-rows-requires-2
+judge-by-rows-requires-2 c κs = search needs
+
+returns-2 : tie.Need-returns-2
+returns-2 c =
+    let judged = c .judge-by-rows2 .ensures in
+    record { nameless = λ asked. judged .nameless; conflicts = λ found. judged .conflicts }
+
+returns-3 : tie.Need-returns-3
+returns-3 c =
+    let s = c .before .before .before .before .before .before .before in
+    let a = s .args in
+    let e = decodeOf (now (a .rec)) in
+    let first : (a .v .found && isLimited e) ≡ false
+    = ap (λ (x : ℕ). a .v .found && eqb x limitedKind) (sym (c .before .before .before .before .byte-at .ensures))
+    ∙ c .before .before .if1 .left in
+    judged-plainly (editsOf (now (a .recs)) (a .n)) e (a .v) (s .pre .2)
+    (neither-asked (a .v .found) (isLimited e) (a .v .limited) first (c .if2 .left))
+
+pub judge-spec : {M : Type 1} → statement M
+judge-spec =
+    tie.close
+    (tie.spec
+    byte-at-requires
+    judge-by-rows-requires
+    returns
+    judge-by-rows-requires-2
+    returns-2
+    returns-3)

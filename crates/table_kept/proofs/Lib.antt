@@ -1,0 +1,2 @@
+pub mod KeptAlong
+pub mod AlongChains

@@ -1,0 +1,2 @@
+pub mod BoxForms
+pub mod ChainForms
