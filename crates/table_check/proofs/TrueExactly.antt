@@ -26,7 +26,7 @@ use Rattle.group_true.specs.TrueGroups.{trueGroups}
 use Rattle.table_arrival.proofs.Faithful.{RowsTrue, Faithful}
 use Rattle.table_given.specs.Replay.{Replayed, replayOf}
 use Rattle.table_given.proofs.ReplayFaithful.{replay-faithful}
-use Rattle.table_given.proofs.OwnRecords.{Holds, going-of, holds}
+use Rattle.table_given.proofs.OwnRecords.{HoldsGiven, going-of, holds}
 use Rattle.table_check.specs.Check.{sameCounters, sameTables, givesBack, isTrue, checkOf}
 use Rattle.table_check.specs.CheckForms.{rowTrue, rowsTrue}
 use Rattle.table_check.proofs.SettledByRecords.{same-records, same-number, same-counts, same-sum, same-groups}
@@ -154,7 +154,7 @@ module _ (t : Tables) where
     faithful : Faithful u
     faithful = replay-faithful (c .sites) (s .some-sites) (s .few-sites) (bytesAt (t .records)) (c .records)
 
-    its : Holds (c .sites) (bytesAt (t .records)) (c .records) u
+    its : HoldsGiven (c .sites) (bytesAt (t .records)) (c .records) u
     its =
         holds (c .sites) (bytesAt (t .records)) right-sites (c .records) u
         (going-of (c .sites) (bytesAt (t .records)) (c .records) taken)
