@@ -37,10 +37,11 @@ use Rattle.group_true.specs.TrueGroups.{trueGroups}
 use Rattle.group_true.proofs.TrueGroups.{sets-more, groups-grow}
 use Rattle.edit_causal.proofs.Identities.{same-site, same-seq}
 use Rattle.math_lists.specs.Rearranged.{Mem}
-use Rattle.demand_any_order.specs.Settled.{named, AllAccepted, MayPrecede, Causal, Differ, Apart, Settled}
+use Rattle.demand_any_order.specs.Settled.{named, AllAccepted, MayPrecede, Causal, Settled}
+use Rattle.group_true.specs.Identities.{Differ, AllDiffer}
 use Rattle.math_lists.proofs.ListMembers.{here, any-on, chosen-on, chosen-more, mem-along, mem-middle, fronts}
 use Rattle.math_lists.proofs.PairsInList.{pairs-cross}
-use Rattle.demand_any_order.proofs.Identities.{same-on, same-at, seen-on, before-on, one-edit, one-object}
+use Rattle.group_true.proofs.Identities.{same-on, same-at, seen-on, before-on, one-edit, one-object}
 use Rattle.demand_any_order.proofs.SettledBoxes.{ordered, box-lawful}
 use Rattle.demand_any_order.proofs.AnswerNought.{Fine, fine-on}
 use Rattle.demand_any_order.proofs.CountsInTurn.{CountedInTurn, counted-none, counted-more}
@@ -106,7 +107,7 @@ module _ (n : ℕ) (few : n ≤ mostSites) (es : List Edit) (s : Settled n es) (
             next = elim (decLt k (e .seq .0)) [
               | no l ↦
                   (let (a, m, y, z) = c .present (e .site .0) (e .seq .0) (w .seq) (omega arith) in
-                  let apart : Apart (xs ++ (e ∷ ys)) = subst Apart q (s .apart) in
+                  let apart : AllDiffer (xs ++ (e ∷ ys)) = subst AllDiffer q (s .apart) in
                   clash (same-on a e y z) (pairs-cross Differ xs (e ∷ ys) apart a e m here))
               | yes l ↦ elim (decLt (k + 1) (e .seq .0)) [
                 | no g ↦ omega arith

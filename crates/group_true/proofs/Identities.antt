@@ -21,10 +21,10 @@ use Rattle.math_maximal.specs.MaximalSets.{_⊆_}
 use Rattle.math_maximal.proofs.AnotherOrder.{Distinct, has}
 use Rattle.edit_history.specs.EditsHeld.{isSetOn, setsOn}
 use Rattle.edit_record.specs.RecordBytes.{noEdit}
 use Rattle.group_true.specs.TrueGroups.{groupsOf, trueGroups}
 use Rattle.math_lists.specs.Rearranged.{Mem}
-use Rattle.demand_any_order.specs.Settled.{Differ, Apart}
-use Rattle.demand_any_order.specs.EqualEdits.{fieldsOf, isEqual}
+use Rattle.group_true.specs.Identities.{Differ, AllDiffer}
+use Rattle.group_true.specs.EqualEdits.{fieldsOf, isEqual}
 use Rattle.math_lists.proofs.ListMembers.{any-on, any-at, chosen-at, chosen-on, mem-place}
 use Rattle.math_lists.proofs.PairsInList.{pairs-two, pairs-chosen}
 use Rattle.math_lists.proofs.ByPlaces.{list-equal, same-self}
@@ -96,11 +96,11 @@ has-at x xs h =
 -- ---- no identity stands twice
 
 pub one-edit :
-    (es : List Edit) → Apart es → (a b : Edit) → Mem a es → Mem b es →
+    (es : List Edit) → AllDiffer es → (a b : Edit) → Mem a es → Mem b es →
     sameEdit (a .site) (a .seq) (b .site) (b .seq) ≡ true → a ≡ b
 one-edit es u a b m k h = elim (pairs-two Differ differ-turned es u a b m k) [ inl e ↦ e | inr d ↦ clash h d ]
 
-distinct : (xs : List Edit) → Apart xs → Distinct noEdit xs
+distinct : (xs : List Edit) → AllDiffer xs → Distinct noEdit xs
 distinct [] u i j a b e = absurd (omega arith)
 distinct (x ∷ xs) (u, v) zero zero a b e = refl
 distinct (x ∷ xs) (u, v) zero (suc j) a b e =
@@ -119,7 +119,7 @@ pub one-object :
 unfolding trueGroups
 one-object es a c p q = ap₂ (λ (x : Site) (y : Seq). groupsOf (setsOn x y es)) p q
 
-pub sets-distinct : (es : List Edit) → Apart es → (c : Edit) → Distinct noEdit (setsOn (c .site) (c .seq) es)
+pub sets-distinct : (es : List Edit) → AllDiffer es → (c : Edit) → Distinct noEdit (setsOn (c .site) (c .seq) es)
 unfolding setsOn
 sets-distinct es u c =
     let f = isSetOn (c .site) (c .seq) in

@@ -25,22 +25,22 @@ use Rattle.edit_record.specs.RecordBytes.{noEdit}
 use Rattle.group_true.specs.TrueGroups.{groupsOf, trueGroups}
 use Rattle.math_lists.specs.Rearranged.{Mem, Rearranged}
 use Rattle.demand_any_order.specs.Settled.{Causal, Settled}
-use Rattle.demand_any_order.specs.EqualEdits.{isEqual}
+use Rattle.group_true.specs.EqualEdits.{isEqual}
 use Rattle.math_lists.proofs.Rearranged.{turned, unchanged, chosen-rearranged}
 use Rattle.math_lists.proofs.PairsInList.{pairs-made, pairs-weaken}
-use Rattle.demand_any_order.proofs.Identities.{sets-distinct}
+use Rattle.group_true.proofs.Identities.{sets-distinct}
 use Rattle.demand_any_order.proofs.SettledBoxes.{ordered, box-lawful}
 use Rattle.demand_any_order.proofs.SettledAnyOrder.{settled-in-any-order}
 use Rattle.demand_any_order.proofs.SameGroups.{same-keys}
 use Rattle.list_version.specs.Identifier.{identifierOf}
 use Rattle.list_version.specs.VersionOrder.{isAhead, versionsOf}
 use Rattle.list_line.specs.Line.{versionLine, objectLines}
 use Rattle.list_version.proofs.ListsCompared.{Before, lex-told, before-through, lex-irreflexive}
 use Rattle.list_version.proofs.VersionsSorted.{same-versions, versions-sorted}
 use Rattle.list_version.proofs.IdentifiersGrow.{NamesDiffer}
 use Rattle.list_version.proofs.NeverShared.{never-shared, names-apart}
 use Rattle.list_line.proofs.LineFromMembers.{namesFrom, lineFrom, identifier-from, line-from, names-any-order}
 use Rattle.list_line.proofs.LineFromMembers.{line-any-order, members-chosen}
 
 -- ---- a version by its identifier and its line
 
