@@ -235,7 +235,7 @@ pub fn aim_of(c: Counters, recs: &[u8], places: &[u16], rec: &[u8]) -> Aim
         ≡ any (isTarget (decodeOf (now (rec .entry)))) (editsOf (now (recs .entry)) (c .records))) ⌝ }
 {
     let counts = c.held;
-    let torn = edit_walk::next::is_torn_next(&counts, recs, places, c.records as usize, rec);
+    let torn = edit_next::is_torn_next(&counts, recs, places, c.records as usize, rec);
     let held = edit_walk::is_target_held(&counts, recs, places, rec);
     Aim { torn, held }
 }

@@ -2,6 +2,7 @@
 // be taken, and else no more than that.
 use super::Looked;
 use super::chain;
+use edit_next::whole;
 use edit_record::AT_KIND;
 use edit_record::AT_TARGET;
 use edit_record::AT_TARGET_SEQ;
@@ -11,7 +12,6 @@ use edit_record::SET;
 use edit_record::Seq;
 use edit_record::Site;
 use edit_record::byte_at;
-use edit_walk::whole;
 use group_step::OBJECTS;
 use group_step::SETS;
 use table_drawing::entries::at16;
