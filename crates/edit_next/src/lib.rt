@@ -200,7 +200,7 @@ pub fn is_fit_and_aimed(sites: u8, held: &[u16], recs: &[u8], places: &[u16], re
         && not (targetHeld (now (held .entry)) (now (recs .entry)) (now (places .entry))
         (decodeOf (now (rec .entry)))))) ⌝ }
 {
-    if edit_record::is_body_unfit(sites, rec) {
+    if edit_fit::is_body_unfit(sites, rec) {
         return false;
     }
     if edit_record::is_aimed_kind(rec[AT_KIND]) {

@@ -187,7 +187,7 @@ pub fn is_in_turn(sites: u8, held: &[u16], rec: &[u8]) -> bool
     requires { ⌜ (recordLength ≤ length (now rec)) × (mostSites ≤ length (now held)) ⌝ }
     ensures { λ r. ⌜ r ≡ inTurnAgainst sites (now (held .entry)) (decodeOf (now (rec .entry))) ⌝ }
 {
-    if edit_record::is_unfit(sites, rec) {
+    if edit_fit::is_unfit(sites, rec) {
         return false;
     }
     let v = edit_record::vector_of(rec);

@@ -53,7 +53,7 @@ pub fn one_to_three(c: Counters, rec: &[u8]) -> Answer
     ensures { λ r. ⌜ (numberOf r ≡ firstOf inTurn (threeBy c (now (rec .entry)))) × (length (c .held) ≡ mostSites) ⌝ }
 {
     let held = c.held;
-    if edit_record::is_malformed(c.sites, rec) {
+    if edit_fit::is_malformed(c.sites, rec) {
         return Answer::Malformed;
     }
     two_or_three(&held, rec)

@@ -8,13 +8,13 @@ use lib.ListN.{getD, drop}
 use denote.Ref.{now}
 use borrow.Author.Needs.{needs}
 use Rattle.math_lists.specs.NumbersBelow.{some}
 use Rattle.edit_record.specs.Layout.{mostMembers, membersAt}
 use Rattle.edit_record.specs.RecordBytes.{firstFours}
 use Rattle.edit_record.specs.Answer1.{nameIn}
 use Rattle.edit_record.proofs.FoursInBytes.{four-drop, fours-at, fours-past}
 use Rattle.edit_record.proofs.MembersTested.{isWrongAmong, wrong-more, wrong-all}
-use Rattle.edit_record.proofs.lists.are_members_wrong.Statement.{statement}
-use Rattle.edit_record.proofs.lists.are_members_wrong.Tie as tie
+use Rattle.edit_fit.proofs.are_members_wrong.Statement.{statement}
+use Rattle.edit_fit.proofs.are_members_wrong.Tie as tie
 
 abbrev Inv-loop : tie.InvT-loop
 Inv-loop rec k found₀ last₀ i₀ found last i =

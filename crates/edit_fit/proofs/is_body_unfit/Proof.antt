@@ -4,11 +4,11 @@ use mathlib.Core.Bool.{Bool, true, false, not, _||_}
 use denote.Ref.{now}
 use borrow.Author.Needs.{needs}
 use borrow.Author.Tests.{lt-leb}
 use Rattle.edit_record.specs.RecordBytes.{decodeOf}
 use Rattle.edit_record.specs.Answer1.{isCreate, isAimed, unfit}
 use Rattle.edit_record.proofs.WellFormed.{outside-unfit}
-use Rattle.edit_record.proofs.is_body_unfit.Statement.{statement}
-use Rattle.edit_record.proofs.is_body_unfit.Tie as tie
+use Rattle.edit_fit.proofs.is_body_unfit.Statement.{statement}
+use Rattle.edit_fit.proofs.is_body_unfit.Tie as tie
 
 -- what is asked of the other kinds alone adds nothing
 nothing-more : (b : Bool) → b ≡ (b || false || false || false)

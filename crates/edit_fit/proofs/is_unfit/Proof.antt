@@ -3,10 +3,10 @@
 use mathlib.Core.Path.{_≡_, sym, _∙_}
 use denote.Ref.{now}
 use borrow.Author.Needs.{needs}
 use Rattle.edit_record.specs.RecordBytes.{decodeOf}
 use Rattle.edit_record.proofs.WellFormed.{past-unfit}
-use Rattle.edit_record.proofs.is_unfit.Statement.{statement}
-use Rattle.edit_record.proofs.is_unfit.Tie as tie
+use Rattle.edit_fit.proofs.is_unfit.Statement.{statement}
+use Rattle.edit_fit.proofs.is_unfit.Tie as tie
 
 is-nonzero-past-requires : tie.Need-is-nonzero-past-requires
 is-nonzero-past-requires c κs = search needs

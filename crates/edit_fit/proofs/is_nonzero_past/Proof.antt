@@ -9,12 +9,12 @@ use lib.ListN.{drop}
 use denote.Ref.{now}
 use borrow.Author.Needs.{needs}
 use Rattle.math_lists.specs.NumbersBelow.{some}
 use Rattle.edit_record.specs.Layout.{mostSites, vectorAt}
 use Rattle.edit_record.specs.RecordBytes.{counts}
 use Rattle.edit_record.proofs.NumbersInBytes.{entry-in-record}
 use Rattle.edit_record.proofs.EntriesPastSites.{isPast, none-before, one-past, all-past}
-use Rattle.edit_record.proofs.is_nonzero_past.Statement.{statement}
-use Rattle.edit_record.proofs.is_nonzero_past.Tie as tie
+use Rattle.edit_fit.proofs.is_nonzero_past.Statement.{statement}
+use Rattle.edit_fit.proofs.is_nonzero_past.Tie as tie
 
 abbrev vectorIn : List ℕ → List ℕ
 vectorIn rec = counts mostSites (drop vectorAt rec)

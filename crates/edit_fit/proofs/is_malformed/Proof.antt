@@ -5,11 +5,11 @@ use lib.ListN.{length}
 use denote.Ref.{now}
 use borrow.Author.Needs.{needs}
 use borrow.Author.Tests.{eq-eqb, ne-eqb}
 use Rattle.edit_record.specs.Answer1.{malformed}
 use Rattle.edit_record.specs.RecordBytes.{spanOf}
 use Rattle.edit_record.proofs.RecordSpans.{span-least}
-use Rattle.edit_record.proofs.is_malformed.Statement.{statement}
-use Rattle.edit_record.proofs.is_malformed.Tie as tie
+use Rattle.edit_fit.proofs.is_malformed.Statement.{statement}
+use Rattle.edit_fit.proofs.is_malformed.Tie as tie
 
 span-of-requires : tie.Need-span-of-requires
 span-of-requires c κs = search needs

@@ -8,12 +8,12 @@ use lib.ListN.{drop}
 use borrow.Author.Needs.{needs}
 use mathlib.Core.Bool.{Bool, _&&_}
 use Prim.Native.Nat.{ℕ}
 use Rattle.edit_record.specs.Layout.{countAt, membersAt, mostMembers}
 use Rattle.edit_record.specs.RecordBytes.{two, four, firstFours, decodeOf}
 use Rattle.edit_record.specs.Answer1.{listUnfit}
 use Rattle.edit_record.proofs.AgreeingBytes.{limits-on, limits-off}
-use Rattle.edit_record.proofs.lists.is_list_unfit_in.Statement.{statement}
-use Rattle.edit_record.proofs.lists.is_list_unfit_in.Tie as tie
+use Rattle.edit_fit.proofs.is_list_unfit_in.Statement.{statement}
+use Rattle.edit_fit.proofs.is_list_unfit_in.Tie as tie
 
 byte-at-requires : tie.Need-byte-at-requires
 byte-at-requires c κs = search needs
