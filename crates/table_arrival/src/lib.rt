@@ -255,7 +255,7 @@ fn take_set(
     let o = v.object;
     let k = v.sets;
     let g = objects[o * ENTRY + 2];
-    let m = group_step::step_known(groups, o, g as usize, j.conflicts, k, apart);
+    let m = group_apart::step_known(groups, o, g as usize, j.conflicts, k, apart);
     if group_step::GROUPS < m {
         return Arrived {
             answer: Answer::Crowded,

@@ -103,7 +103,7 @@ fn step_later(gs: &mut [u64], n: usize, common: u64, m: u64, i: usize) -> Steppe
     }
     join_all(gs, n, common);
     Stepped {
-        count: group_step::step_apart(gs, n, m, i),
+        count: group_apart::step_apart(gs, n, m, i),
         common: 0,
     }
 }
@@ -170,7 +170,7 @@ fn step_limited(
     let mut i: usize = 0;
     while i < k {
         let t = group_limited::told_at(recs, places, names, sees, i, plain, ctx, places[i]);
-        n = group_step::step_apart(gs, n, t.conflicts, i);
+        n = group_apart::step_apart(gs, n, t.conflicts, i);
         if GROUPS < n {
             return n;
         }

@@ -85,10 +85,10 @@ fn step_in(groups: &mut [u64], o: usize, n: usize, m: u64, k: usize) -> usize
         (settled (step m k (take n (row o (now (groups .entry))))) (row o (now (groups .entry))))) ⌝ }
 {
     if m == 0 {
-        group_step::gain_at(groups, o, n, k);
+        group_apart::gain_at(groups, o, n, k);
         return n;
     }
-    group_step::step_apart_at(groups, o, n, m, k)
+    group_apart::step_apart_at(groups, o, n, m, k)
 }
 
 // Puts a Set in place n of which a was found into its object's groups, entry and chain; says whether there is room for
