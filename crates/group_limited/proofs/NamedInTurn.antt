@@ -151,6 +151,17 @@ module _ (rs ps : List ℕ) where
         left-told ms′ e (lawful-to i l e refl law)
         (rw (sets-length rs ps i (omega arith)) (all-named i (omega arith) before)) (named-version ms′ e own)
 
+    -- where 16 is given to none of the first, they are proper
+    pub proper-to :
+        (i : ℕ) → i ≤ k → Lawful (boxOn ms) k → ((j : ℕ) → j < i → nameless j ≡ false) → Proper (setsIn rs ps i)
+    proper-to i l law free =
+        let size = sets-length rs ps i (omega arith) in
+        record {
+          lawful = first-lawful (setsIn rs ps i) (map (recordAt rs) (drop i (take k ps))) k (omega arith)
+              (subst (λ (xs : List Edit). Lawful (boxOn xs) k) (split i l) law);
+          named = rw size (all-named i (omega arith) free);
+        }
+
     -- ---- the test
 
     pub in-turn-on : ((j : ℕ) → j < k → nameless j ≡ false) → namedInTurn ms ≡ true
