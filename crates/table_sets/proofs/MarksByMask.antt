@@ -58,7 +58,9 @@ module _ (rs ps : List ℕ) (x i s : ℕ) (h : SetsOf rs ps x i s) where
   -- it has this key
   own-more : chainOf (setAt rs ps i) ≡ x → SetsOf rs ps x (i + 1) (bitOr s (2 ^ i))
   own-more q = record {
-    low = let more = pow-lt {i = i} {j = i + 1} (omega arith) in or-lt (i + 1) s (2 ^ i) (omega (arith, h .low, more)) more;
+    low =
+        let more = pow-lt {i = i} {j = i + 1} (omega arith) in
+        or-lt (i + 1) s (2 ^ i) (omega (arith, h .low, more)) more;
     own =
         λ j m. bit-or s (2 ^ i) j
         ∙ ap (λ (b : Bool). bit s j || b) (bit-power i j)
