@@ -26,6 +26,7 @@ use Rattle.group_step.specs.GroupRows.{mostSets}
 use Rattle.group_limited.specs.LimitedForms.{setsIn}
 use Rattle.table_sets.specs.KeyForms.{setAt, chainOf, unlike, Tells, values, ToldAs}
 use Rattle.table_sets.specs.KeyForms.{LastOf, NotedTo, LinkedTo}
+use Rattle.table_sets.specs.MaskForms.{ToldTo}
 
 -- ---- numbers that pass no test are no bits
 
@@ -68,6 +69,15 @@ told-is e s q v es eq ev ls lq lv = record {
   seq = omega (arith, eq);
   value = omega (arith, ev);
 }
+
+-- one Set more is told
+pub told-more :
+    (rs ps tolds : List ℕ) (i y : ℕ) → ToldTo rs ps i tolds → i < length tolds → ToldAs y (setAt rs ps i) →
+    ToldTo rs ps (i + 1) (set tolds i y)
+told-more rs ps tolds i y h n told j b = elim (ℕ-discrete j i) [
+  | yes e ↦ rw (e, getD-set-same tolds i y 0 n) told
+  | no d ↦ rw (getD-set-other tolds i j y 0 d) (h j (omega (arith, d)))
+]
 
 -- ---- along the chain of the i-th Set
 
@@ -153,11 +163,7 @@ module _ (rs ps latest earlier tolds : List ℕ) (i y : ℕ) (h : LinkedTo rs ps
           | no d ↦
               rw (getD-set-other earlier i j (getD latest own 0) 0 d) (h .noted .before j (omega (arith, d)))
         ];
-    told =
-        λ j b. elim (ℕ-discrete j i) [
-          | yes e ↦ rw (e, getD-set-same tolds i y 0 n) told
-          | no d ↦ rw (getD-set-other tolds i j y 0 d) (h .noted .told j (omega (arith, d)))
-        ];
+    told = told-more rs ps tolds i y (h .noted .told) n told;
   }
 
   last-more : (x : ℕ) → x < keys → LastOf rs ps x (i + 1) (getD (set latest own (i + 1)) x 0)

@@ -8,7 +8,6 @@ use edit_record::AT_SITE;
 use edit_record::AT_VALUE;
 use edit_record::KEYS;
 use edit_record::VALUES;
-use group_step::SETS;
 ghost use mathlib.Core.Path.{_≡_};
 ghost use Prim.Native.Nat.{ℕ, _+_, _≤_, _<_};
 ghost use lib.ListN.{length};
@@ -20,8 +19,8 @@ ghost use Rattle.edit_causal.specs.ConflictForms.{plainMarks};
 ghost use Rattle.group_step.specs.GroupRows.{mostSets};
 ghost use Rattle.group_limited.specs.LimitedForms.{setsIn};
 ghost use Rattle.table_sets.specs.FieldForms.{HasFields};
-ghost use Rattle.table_sets.specs.KeyForms.{setAt, chainOf, unlike, Tells, TellsIn, ToldAs};
-ghost use Rattle.table_sets.specs.KeyForms.{DisputedBy, LastOf, NotedTo, LinkedTo};
+ghost use Rattle.table_sets.specs.KeyForms.{setAt, chainOf, unlike, Tells, ToldAs};
+ghost use Rattle.table_sets.specs.KeyForms.{LastOf, NotedTo, LinkedTo};
 
 // The chains of an object's Sets: one for each key.
 pub const KEY_CHAINS: usize = KEYS as usize;
@@ -32,7 +31,7 @@ const SEQ_NUMBERS: u64 = edit_record::SEQ_NUMBERS as u64;
 const SITE_NUMBERS: u64 = edit_record::SITE_NUMBERS as u64;
 
 // What a later Set is told of the one with these bytes, whose key is known, as one number.
-fn told_of(rec: &[u8], key: u8) -> u64
+pub fn told_of(rec: &[u8], key: u8) -> u64
     ensures { λ r. ⌜ ((e : Edit) → HasFields (now (rec .entry)) e → key ≡ e .key → ToldAs r e) ⌝ }
 {
     let site = edit_record::byte_at(rec, AT_SITE);
@@ -44,7 +43,7 @@ fn told_of(rec: &[u8], key: u8) -> u64
 
 // Whether the author of the Set with these bytes, told as y, had not seen the one told as x, and it is shown
 // differently.
-fn is_unlike(x: u64, y: u64, rec: &[u8]) -> bool
+pub fn is_unlike(x: u64, y: u64, rec: &[u8]) -> bool
     requires { ⌜ recordLength ≤ length (now rec) ⌝ }
     ensures { λ r. ⌜ ((a b : Edit) → ToldAs x a → ToldAs y b → HasFields (now (rec .entry)) b → r ≡ unlike a b) ⌝ }
 {
@@ -121,27 +120,4 @@ pub fn take_set(
     earlier[i] = from;
     latest[k] = i as u8 + 1;
     m
-}
-
-// Which of the t Sets are in dispute, bit i for the i-th; `tolds` is work space.
-pub fn disputed_in(tolds: &mut [u64], recs: &[u8], places: &[u16], t: usize) -> u64
-    requires { ⌜ (t ≤ length (now places))
-        × (t ≤ mostSets)
-        × (t ≤ length (now tolds))
-        × TellsIn (now recs) (now places) t ⌝ }
-    ensures { λ r. ⌜ DisputedBy (now (recs .entry)) (now (places .entry)) t r ⌝ }
-{
-    let mut latest = [0u8; KEY_CHAINS];
-    // what work space holds at first does not matter; zeros would be set by memset (docs/DECISIONS.md, 24)
-    let mut earlier = [1u8; SETS];
-    let mut all: u64 = 0;
-    let mut i: usize = 0;
-    while i < t {
-        let m = take_set(&mut latest, &mut earlier, tolds, recs, places, i);
-        if m != 0 {
-            all = all | m | (1 << i);
-        }
-        i += 1;
-    }
-    all
 }

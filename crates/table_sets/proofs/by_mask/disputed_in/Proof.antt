@@ -1,4 +1,4 @@
--- `table_sets::by_key::disputed_in` meets its contract: of the Sets passed, those in dispute among them are marked.
+-- `table_sets::by_mask::disputed_in` meets its contract: of the Sets passed, those in dispute among them are marked.
 -- Assumes nothing.
 use mathlib.Core.Path.{_≡_, refl, subst, _∙_}
 use mathlib.Core.Logic.{⊎-elim}
@@ -6,25 +6,25 @@ use Prim.Native.Nat.{ℕ, _-_, _≤_, _<_}
 use native.Mathlib.Omega.{arith}
 use lib.ListN.{length, getD-replicate}
 use Rattle.edit_record.specs.Layout.{keys}
-use Rattle.group_step.specs.GroupRows.{mostSets}
-use Rattle.table_sets.specs.KeyForms.{DisputedBy, LinkedTo}
-use Rattle.table_sets.proofs.MarksByKey.{shifted-one, linked-none}
+use Rattle.table_sets.specs.KeyForms.{DisputedBy}
+use Rattle.table_sets.specs.MaskForms.{MaskedTo}
+use Rattle.table_sets.proofs.MarksByKey.{shifted-one}
+use Rattle.table_sets.proofs.MarksByMask.{masked-none}
 use Rattle.table_sets.proofs.DisputesByMarks.{MarkedTo, marked-none, marked-same, marked-more}
 use borrow.Author.Needs.{needs}
-use Rattle.table_sets.proofs.by_key.disputed_in.Statement.{statement}
-use Rattle.table_sets.proofs.by_key.disputed_in.Tie as tie
+use Rattle.table_sets.proofs.by_mask.disputed_in.Statement.{statement}
+use Rattle.table_sets.proofs.by_mask.disputed_in.Tie as tie
 
 abbrev Inv-loop : tie.InvT-loop
-Inv-loop tolds₀ recs places t latest₀ earlier₀ all₀ i₀ tolds latest earlier all i =
+Inv-loop tolds₀ recs places t sets₀ all₀ i₀ tolds sets all i =
     (i ≤ t)
-    × (length latest ≡ keys)
-    × (length earlier ≡ mostSets)
+    × (length sets ≡ keys)
     × (length tolds ≡ length tolds₀)
-    × LinkedTo recs places i latest earlier tolds
+    × MaskedTo recs places i sets tolds
     × MarkedTo recs places i all
 
 abbrev μ-loop : tie.MeasureT-loop
-μ-loop tolds₀ recs places t latest₀ earlier₀ all₀ i₀ tolds latest earlier all i = t - i
+μ-loop tolds₀ recs places t sets₀ all₀ i₀ tolds sets all i = t - i
 
 loop-holds : tie.Need-loop-holds Inv-loop μ-loop
 loop-holds c =
@@ -32,28 +32,23 @@ loop-holds c =
       search needs,
       refl,
       refl,
-      refl,
-      linked-none (a .recs .now) (a .places .now) _ _ _ (λ x l. getD-replicate keys x 0 0 l),
+      masked-none (a .recs .now) (a .places .now) _ _ (λ x l. getD-replicate keys x 0 0 l),
       marked-none (a .recs .now) (a .places .now),
     )
 
-slice-aggregate-take-set : tie.Need-slice-aggregate-take-set Inv-loop μ-loop
-slice-aggregate-take-set c = search needs
+slice-aggregate-mark-set : tie.Need-slice-aggregate-mark-set Inv-loop μ-loop
+slice-aggregate-mark-set c = search needs
 
-slice-aggregate-take-set-2 : tie.Need-slice-aggregate-take-set-2 Inv-loop μ-loop
-slice-aggregate-take-set-2 c = search needs
-
-take-set-requires : tie.Need-take-set-requires Inv-loop μ-loop
-take-set-requires c κs =
-    let looped = c .before .before .before .before in
+mark-set-requires : tie.Need-mark-set-requires Inv-loop μ-loop
+mark-set-requires c κs =
+    let looped = c .before .before .before in
     let p = looped .before .before .before .before .pre in
     let l = looped .loop in (
       omega (arith, p .1),
       omega (arith, p .0),
       omega (arith, l .inv .1),
-      omega (arith, p .1, l .inv .2),
-      omega (arith, p .2, l .inv .3),
-      l .inv .4,
+      omega (arith, p .2, l .inv .2),
+      l .inv .3,
       λ j m. p .3 (l .i) j (omega arith) m,
     )
 
@@ -68,25 +63,24 @@ loop-less c = search needs
 
 loop-again : tie.Need-loop-again Inv-loop μ-loop
 loop-again c =
-    let taken = c .before .before .before .before .before in
-    let looped = taken .before .before .before .before .before in
+    let taken = c .before .before .before .before in
+    let looped = taken .before .before .before .before in
     let start = looped .before .before .before .before in
     let a = start .args in
     let p = start .pre in
     let l = looped .loop in
-    let s = taken .take-set in
+    let s = taken .mark-set in
     let rs = a .recs .now in
     let ps = a .places .now in
     let fits : l .i < length ps = omega (arith, p .0) in (
       omega arith,
       s .kept .0 ∙ l .inv .1,
       s .kept .1 .0 ∙ l .inv .2,
-      s .kept .1 .1 .0 ∙ l .inv .3,
       s .ensures .1,
       ⊎-elim
           (λ v. rw (v .1, shifted-one (l .i) (omega (arith, p .1)))
-          (marked-more rs ps (l .i) (s .result) (l .all) fits (l .inv .5) (s .ensures .0) (v .0 .taken)))
-          (λ v. rw (v .1) (marked-same rs ps (l .i) (s .result) (l .all) fits (l .inv .5) (s .ensures .0) (v .0 .left)))
+          (marked-more rs ps (l .i) (s .result) (l .all) fits (l .inv .4) (s .ensures .0) (v .0 .taken)))
+          (λ v. rw (v .1) (marked-same rs ps (l .i) (s .result) (l .all) fits (l .inv .4) (s .ensures .0) (v .0 .left)))
           (c .if1 .came),
     )
 
@@ -98,7 +92,7 @@ returns c =
     let l = c .before .loop in
     let a = c .before .before .before .before .before .args in
     let done : l .i ≡ a .t = omega arith in
-    subst (λ (i : ℕ). DisputedBy (a .recs .now) (a .places .now) i (l .all)) done (l .inv .5 .marked)
+    subst (λ (i : ℕ). DisputedBy (a .recs .now) (a .places .now) i (l .all)) done (l .inv .4 .marked)
 
 pub disputed-in-spec : {M : Type 1} → statement M
 disputed-in-spec =
@@ -107,9 +101,8 @@ disputed-in-spec =
     Inv-loop
     μ-loop
     loop-holds
-    slice-aggregate-take-set
-    slice-aggregate-take-set-2
-    take-set-requires
+    slice-aggregate-mark-set
+    mark-set-requires
     shl-all
     add-i
     loop-less
