@@ -1,4 +1,4 @@
--- `edit_record::lists::are_members_wrong` meets its contract: `found` is what both tests say of the first i members,
+-- `edit_fit::are_members_wrong` meets its contract: `found` is what both tests say of the first i members,
 -- and `last` the name of the one before. Assumes nothing.
 use mathlib.Core.Path.{_≡_, refl, sym, _∙_}
 use Prim.Native.Nat.{_+_, _*_, _≤_, _<_, _-_}

@@ -1,4 +1,4 @@
--- `edit_record::is_body_unfit` meets its contract: the fields where they stand are those of the edit. Assumes nothing.
+-- `edit_fit::is_body_unfit` meets its contract: the fields where they stand are those of the edit. Assumes nothing.
 use mathlib.Core.Path.{_≡_, refl, sym}
 use mathlib.Core.Bool.{Bool, true, false, not, _||_}
 use denote.Ref.{now}

@@ -1,4 +1,4 @@
--- `edit_record::lists::is_list_unfit_in` meets its contract: the test of the kind is the definition's, and a count that
+-- `edit_fit::is_list_unfit_in` meets its contract: the test of the kind is the definition's, and a count that
 -- is no larger than it may be has no high half. Assumes nothing.
 use mathlib.Core.Path.{_≡_, sym, ap, _∙_}
 use native.Mathlib.Omega.{arith}

@@ -1,4 +1,4 @@
--- `edit_record::is_malformed` meets its contract: a record of its own length is there whole. Assumes nothing.
+-- `edit_fit::is_malformed` meets its contract: a record of its own length is there whole. Assumes nothing.
 use mathlib.Core.Path.{_≡_, sym, _∙_}
 use native.Mathlib.Omega.{arith}
 use lib.ListN.{length}

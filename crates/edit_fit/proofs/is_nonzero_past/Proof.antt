@@ -1,4 +1,4 @@
--- `edit_record::is_nonzero_past` meets its contract: `found` is what the definition says of the first i entries, of
+-- `edit_fit::is_nonzero_past` meets its contract: `found` is what the definition says of the first i entries, of
 -- which those before n do not count. Assumes nothing.
 use mathlib.Core.Path.{_≡_, sym, _∙_}
 use mathlib.Core.List.{List}

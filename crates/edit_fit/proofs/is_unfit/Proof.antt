@@ -1,4 +1,4 @@
--- `edit_record::is_unfit` meets its contract: an entry at or past n tells by itself, and without one the rest does.
+-- `edit_fit::is_unfit` meets its contract: an entry at or past n tells by itself, and without one the rest does.
 -- Assumes nothing.
 use mathlib.Core.Path.{_≡_, sym, _∙_}
 use denote.Ref.{now}

@@ -1,4 +1,4 @@
--- `edit_walk::goes_on` meets its contract: a record that passes is of a site that has a count, and without room for its
+-- `edit_next::goes_on` meets its contract: a record that passes is of a site that has a count, and without room for its
 -- edit there is none for all. Assumes nothing.
 use mathlib.Core.Path.{_≡_, refl, sym, _∙_}
 use mathlib.Core.Bool.{true}

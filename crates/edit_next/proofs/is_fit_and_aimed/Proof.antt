@@ -1,4 +1,4 @@
--- `edit_walk::next::is_fit_and_aimed` meets its contract. Assumes nothing.
+-- `edit_next::is_fit_and_aimed` meets its contract. Assumes nothing.
 use mathlib.Core.Path.{sym, _∙_}
 use borrow.Author.Needs.{needs}
 use Rattle.math_lists.proofs.Booleans.{not-not}

@@ -1,4 +1,4 @@
--- `edit_walk::next::is_next_at` meets its contract: what it looks at is one of the records before. Assumes nothing.
+-- `edit_next::is_next_at` meets its contract: what it looks at is one of the records before. Assumes nothing.
 use mathlib.Core.Path.{refl}
 use Prim.Native.Nat.{_*_}
 use native.Mathlib.Omega.{arith}

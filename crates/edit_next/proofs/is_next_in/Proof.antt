@@ -1,4 +1,4 @@
--- `edit_walk::next::is_next_in` meets its contract: a site that has no entry has none that is larger by one. Assumes
+-- `edit_next::is_next_in` meets its contract: a site that has no entry has none that is larger by one. Assumes
 -- nothing.
 use mathlib.Core.Path.{_≡_, refl, sym, _∙_}
 use Prim.Native.Nat.{_*_, _+_}

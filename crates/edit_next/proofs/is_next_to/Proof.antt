@@ -1,4 +1,4 @@
--- `edit_walk::next::is_next_to` meets its contract. Assumes nothing.
+-- `edit_next::is_next_to` meets its contract. Assumes nothing.
 use borrow.Author.Needs.{needs}
 use borrow.Author.Tests.{eq-eqb, ne-eqb}
 use Rattle.edit_walk.specs.WalkForms.{isNext}

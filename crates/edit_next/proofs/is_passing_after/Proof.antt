@@ -1,4 +1,4 @@
--- `edit_walk::next::is_passing_after` meets its contract: where the record follows one before it, 1 and 5 decide.
+-- `edit_next::is_passing_after` meets its contract: where the record follows one before it, 1 and 5 decide.
 -- Assumes nothing.
 use denote.Ref.{now}
 use Rattle.edit_record.specs.RecordBytes.{decodeOf}

@@ -1,4 +1,4 @@
--- `edit_walk::next::is_same_in` meets its contract: `same` is what the definition says of the first t entries. Assumes
+-- `edit_next::is_same_in` meets its contract: `same` is what the definition says of the first t entries. Assumes
 -- nothing.
 use mathlib.Core.Path.{_≡_, refl}
 use mathlib.Core.Bool.{Bool, _||_}

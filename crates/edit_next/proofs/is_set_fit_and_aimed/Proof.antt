@@ -1,4 +1,4 @@
--- `edit_walk::next::is_set_fit_and_aimed` meets its contract: a Set has a target. Assumes nothing.
+-- `edit_next::is_set_fit_and_aimed` meets its contract: a Set has a target. Assumes nothing.
 use mathlib.Core.Path.{_≡_, refl, sym, _∙_}
 use mathlib.Core.Bool.{true}
 use denote.Ref.{now}

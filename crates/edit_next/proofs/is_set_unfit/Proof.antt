@@ -1,4 +1,4 @@
--- `edit_walk::next::is_set_unfit` meets its contract: the fields where they stand are those of the edit, and what is
+-- `edit_next::is_set_unfit` meets its contract: the fields where they stand are those of the edit, and what is
 -- asked of the other kinds alone adds nothing. Assumes nothing.
 use mathlib.Core.Path.{_≡_, refl, sym}
 use mathlib.Core.Bool.{Bool, true, false, _||_}

@@ -1,4 +1,4 @@
--- `edit_walk::next::is_torn_next` meets its contract: news decides. Assumes nothing.
+-- `edit_next::is_torn_next` meets its contract: news decides. Assumes nothing.
 use mathlib.Core.Path.{ap, _∙_}
 use mathlib.Core.List.{List}
 use Prim.Native.Nat.{ℕ}

@@ -1,4 +1,4 @@
--- `edit_walk::whole::is_all_seen` meets its contract, whatever is said of the last record. Assumes nothing.
+-- `edit_next::whole::is_all_seen` meets its contract, whatever is said of the last record. Assumes nothing.
 use mathlib.Core.Path.{refl, sym, ap, _∙_}
 use lib.Dec.{eqb}
 use lib.ListN.{getD}

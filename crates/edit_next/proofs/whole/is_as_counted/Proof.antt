@@ -1,4 +1,4 @@
--- `edit_walk::whole::is_as_counted` meets its contract: `same` is what the definition says of the first t entries.
+-- `edit_next::whole::is_as_counted` meets its contract: `same` is what the definition says of the first t entries.
 -- Assumes nothing.
 use mathlib.Core.Path.{_≡_, refl}
 use mathlib.Core.Bool.{Bool, _||_}

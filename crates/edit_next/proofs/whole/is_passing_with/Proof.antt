@@ -1,4 +1,4 @@
--- `edit_walk::whole::is_passing_with` meets its contract: where all is seen, 1 and 5 decide. Assumes nothing.
+-- `edit_next::whole::is_passing_with` meets its contract: where all is seen, 1 and 5 decide. Assumes nothing.
 use denote.Ref.{now}
 use borrow.Author.Needs.{needs}
 use Rattle.edit_record.specs.RecordBytes.{decodeOf}
