@@ -165,3 +165,9 @@ pub record JudgedWhere (found : Bool) (ms : List Edit) (e : Edit) (j : Judged) :
 -- 16 is given to none of the Sets ms, each after those before it
 unfoldable pub namedInTurn : List Edit → Bool
 namedInTurn ms = all (length ms) (λ i. not (namelessAmong (take i ms) (getD ms i noEdit)))
+
+-- r tells this; where it is so, the rows tell of them
+pub record NamedBy (ms : List Edit) (r : Bool) (plains cs sees : List ℕ) : Type 0 where
+  pub named : r ≡ namedInTurn ms
+  pub rows : r ≡ true → RowsTell ms plains cs
+  pub seen : r ≡ true → SeesTell ms sees

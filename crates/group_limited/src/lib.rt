@@ -11,7 +11,6 @@ use earlier::put_names;
 use edit_record::AT_KIND;
 use edit_record::LIMITED;
 use edit_record::PLACE;
-use group_step::SETS;
 ghost use mathlib.Core.Path.{_≡_};
 ghost use mathlib.Core.List.{List, [], _∷_, _++_};
 ghost use Prim.Native.Nat.{ℕ, suc, _^_, _≤_, _<_};
@@ -24,14 +23,14 @@ ghost use Rattle.edit_record.specs.declared.Edit.{Edit};
 ghost use Rattle.edit_record.specs.RecordBytes.{decodeOf};
 ghost use Rattle.edit_record.specs.Answer1.{isLimited};
 ghost use Rattle.edit_causal.specs.Conflict.{boxOn};
-ghost use Rattle.edit_causal.specs.ConflictForms.{Proper, plainMarks};
+ghost use Rattle.edit_causal.specs.ConflictForms.{plainMarks};
 ghost use Rattle.edit_history.specs.EditsHeld.{recordAt};
 ghost use Rattle.edit_history.specs.Answer16.{namelessAmong};
 ghost use Rattle.group_step.specs.GroupRows.{mostSets};
 ghost use Rattle.group_context.specs.RowsOfBox.{whatIsLeft};
 ghost use Rattle.group_limited.specs.LimitedForms.{setsIn, mostRecent, NamesIn, SeesTell, SightedTo};
 ghost use Rattle.group_limited.specs.LimitedForms.{SightOf, withMark, RowsTell, ToldOf, JudgedOf};
-ghost use Rattle.group_limited.specs.LimitedForms.{namedInTurn};
+ghost use Rattle.group_limited.specs.LimitedForms.{NamedBy};
 
 // Of so many Sets of an object, the last ones, it is kept what their authors had seen.
 pub const RECENT: usize = 16;
@@ -245,60 +244,39 @@ pub fn put_told(plain: &mut [u64], ctx: &mut [u64], n: usize, row: u64, own: u64
     ctx[n] = own;
 }
 
-// Puts down the rows of the Sets in the k first places, whose names these are, each by those before it, and in `sees`
-// what the authors of the last of them had seen.
-pub fn put_rows(
-    plain: &mut [u64],
-    ctx: &mut [u64],
-    sees: &mut [u64],
+// What the Set of rec is told, which arrives after those in the k first places, by their names and their rows.
+pub fn judge(
     recs: &[u8],
     places: &[u16],
     names: &[u32],
+    sees: &[u64],
     k: usize,
-)
+    plain: &[u64],
+    ctx: &[u64],
+    rec: &[u8],
+) -> Judged
     requires { ⌜ (k ≤ mostSets)
         × (k ≤ length (now places))
         × (k ≤ length (now names))
+        × (mostRecent ≤ length (now sees))
         × (k ≤ length (now plain))
         × (k ≤ length (now ctx))
-        × (mostRecent ≤ length (now sees))
         × NamesIn (now recs) (now places) k (now names) ⌝ }
-    ensures { λ r. ⌜ (Proper (setsIn (now (recs .entry)) (now (places .entry)) k) →
-        RowsTell (setsIn (now (recs .entry)) (now (places .entry)) k) (now (plain .exit)) (now (ctx .exit))
-        × SeesTell (setsIn (now (recs .entry)) (now (places .entry)) k) (now (sees .exit))) ⌝ }
-{
-    let mut i: usize = 0;
-    while i < k {
-        let s = sight_at(recs, places, names, sees, i, places[i]);
-        let own = left_by(plain, ctx, s);
-        put_told(plain, ctx, i, s.plain, own);
-        sees[i % RECENT] = s.seen;
-        i += 1;
-    }
-}
-
-// What the Set of rec is told, which arrives after those in the k first places.
-pub fn judge(recs: &[u8], places: &[u16], k: usize, rec: &[u8]) -> Judged
-    requires { ⌜ (k ≤ mostSets) × (k ≤ length (now places)) ⌝ }
     ensures { λ r.
-        ⌜ JudgedOf (setsIn (now (recs .entry)) (now (places .entry)) k) (decodeOf (now (rec .entry))) r ⌝ }
+        ⌜ (RowsTell (setsIn (now (recs .entry)) (now (places .entry)) k) (now (plain .entry)) (now (ctx .entry)) →
+        SeesTell (setsIn (now (recs .entry)) (now (places .entry)) k) (now (sees .entry)) →
+        JudgedOf (setsIn (now (recs .entry)) (now (places .entry)) k) (decodeOf (now (rec .entry))) r) ⌝ }
 {
-    // what work space holds at first does not matter; zeros would be set by memset (docs/DECISIONS.md, 24)
-    let mut plain = [1u64; SETS];
-    let mut ctx = [1u64; SETS];
-    let mut sees = [1u64; RECENT];
-    let mut names = [1u32; SETS];
-    put_names(&mut names, recs, places, k);
-    put_rows(&mut plain, &mut ctx, &mut sees, recs, places, &names, k);
-    let s = sight_of(recs, places, &names, &sees, k, rec);
-    let t = told_by(&plain, &ctx, k, s);
+    let s = sight_of(recs, places, names, sees, k, rec);
+    let t = told_by(plain, ctx, k, s);
     Judged {
         nameless: t.nameless,
         conflicts: t.conflicts,
     }
 }
 
-// Whether 16 is given to none of the Sets in the k first places, each after those before it, whose rows are put down.
+// Whether 16 is given to none of the Sets in the k first places, each after those before it, whose rows are put down, and
+// in `sees` what the authors of the last of them had seen.
 fn are_named_with(
     plain: &mut [u64],
     ctx: &mut [u64],
@@ -317,7 +295,8 @@ fn are_named_with(
         × NamesIn (now recs) (now places) k (now names) ⌝ }
     ensures { λ r.
         ⌜ (Lawful (boxOn (setsIn (now (recs .entry)) (now (places .entry)) k)) k →
-        r ≡ namedInTurn (setsIn (now (recs .entry)) (now (places .entry)) k)) ⌝ }
+        NamedBy (setsIn (now (recs .entry)) (now (places .entry)) k) r (now (plain .exit)) (now (ctx .exit))
+        (now (sees .exit))) ⌝ }
 {
     let mut i: usize = 0;
     while i < k {
@@ -350,9 +329,10 @@ pub fn are_named(
         × (k ≤ length (now plain))
         × (k ≤ length (now ctx))
         × (mostRecent ≤ length (now sees)) ⌝ }
-    ensures { λ r.
-        ⌜ (Lawful (boxOn (setsIn (now (recs .entry)) (now (places .entry)) k)) k →
-        r ≡ namedInTurn (setsIn (now (recs .entry)) (now (places .entry)) k)) ⌝ }
+    ensures { λ r. ⌜ NamesIn (now (recs .entry)) (now (places .entry)) k (now (names .exit))
+        × (Lawful (boxOn (setsIn (now (recs .entry)) (now (places .entry)) k)) k →
+        NamedBy (setsIn (now (recs .entry)) (now (places .entry)) k) r (now (plain .exit)) (now (ctx .exit))
+        (now (sees .exit))) ⌝ }
 {
     put_names(names, recs, places, k);
     are_named_with(plain, ctx, sees, recs, places, names, k)

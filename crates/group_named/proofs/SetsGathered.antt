@@ -20,8 +20,9 @@ use Rattle.edit_record.specs.declared.Edit.{Edit}
 use Rattle.edit_record.specs.Answer1.{isCreate}
 use Rattle.edit_history.specs.EditsHeld.{recordAt, editsOf, isSetOn, setsOn}
 use Rattle.group_step.specs.GroupRows.{mostSets}
-use Rattle.group_limited.specs.LimitedForms.{setsIn}
+use Rattle.group_limited.specs.LimitedForms.{setsIn, NamesIn, NamedBy}
 use Rattle.group_named.specs.ChainForms.{Follows, isOn, ByteChained}
+use Rattle.group_named.specs.NamedForms.{SetsTold}
 
 -- of any places l that the chain goes through from p: the first k are put down in out, and the chain goes on with v
 abbrev pub FollowedTo : List ℕ → ℕ → ℕ → ℕ → List ℕ → Type 0
@@ -116,3 +117,15 @@ module _ (rs : List ℕ) (p : ℕ) where
   gathered n k ch out l create chained few h =
       ap (map (recordAt rs)) (h (keep n (isOn rs p)) (chained p l create) (omega (arith, kept-length n)))
       ∙ sets-kept n
+
+-- what is put down of Sets of which 16 is given to none
+pub told-of :
+    (rs ps : List ℕ) (k : ℕ) (ms : List Edit) → setsIn rs ps k ≡ ms → length ms ≡ k → (r : Bool) →
+    (ns plains cs sees : List ℕ) → NamesIn rs ps k ns → NamedBy (setsIn rs ps k) r plains cs sees → r ≡ true →
+    SetsTold rs ms ps ns plains cs sees
+told-of rs ps k ms same size r ns plains cs sees names by h = record {
+  sets = rw size same;
+  names = rw size names;
+  rows = rw same at (by .rows h);
+  seen = rw same at (by .seen h);
+}
