@@ -160,6 +160,7 @@ pub record PassedOf (sites n m : ℕ) (rs ps ns cs : List ℕ) (e : Edit) (r : L
   pub pass : passes sites (editsOf rs n) e ≡ true
   pub create-room : isCreate e ≡ true → m < mostObjects
   pub set : isSet e ≡ true → MetOf rs n ps ns cs e r
+  pub no-other : r .limited ≡ true → isSet e ≡ true
 
 -- what is found of a Set e after the first n records, none of whose object's Sets is limited
 pub record FoundOf (rs : List ℕ) (n : ℕ) (ps ns cs : List ℕ) (e : Edit) (r : Looked) : Type 0 where

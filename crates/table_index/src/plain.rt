@@ -14,7 +14,7 @@ use group_step::OBJECTS;
 use group_step::SETS;
 use table_drawing::entries::at16;
 ghost use mathlib.Core.Path.{_≡_};
-ghost use mathlib.Core.Bool.{true};
+ghost use mathlib.Core.Bool.{true, false};
 ghost use Prim.Native.Nat.{_*_, _≤_};
 ghost use lib.ListN.{length, getD};
 ghost use Rattle.math_lists.specs.SortedLists.{any};
@@ -29,7 +29,7 @@ ghost use Rattle.table_index.specs.IndexForms.{numberAt, ChainsOf, Arriv
 
 // What is found of a record that is no Set.
 fn no_set(ok: bool) -> Looked
-    ensures { λ r. ⌜ r .ok ≡ ok ⌝ }
+    ensures { λ r. ⌜ (r .ok ≡ ok) × (r .limited ≡ false) ⌝ }
 {
     Looked {
         ok,

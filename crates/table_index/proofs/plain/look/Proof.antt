@@ -52,7 +52,7 @@ no-set-requires : tie.Need-no-set-requires
 no-set-requires c κs = search needs
 
 returns : tie.Need-returns
-returns c ok = clash ok (c .no-set .ensures)
+returns c ok = clash ok (c .no-set .ensures .0)
 
 is-set-kind-requires : tie.Need-is-set-kind-requires
 is-set-kind-requires c κs = search needs
@@ -91,6 +91,7 @@ returns-2 c ok =
       pass = passed c4 (not-false (c4 .is-passing-with .result) (k .before .if1 .left));
       create-room = λ y. clash y (set-not-create e set);
       set = λ y. c .look-at-set .ensures ok;
+      no-other = λ y. set;
     }
 
 no-set-requires-2 : tie.Need-no-set-requires-2
@@ -104,8 +105,9 @@ returns-3 c ok =
     let e = e-of s in
     record {
       pass = passed c4 (not-false (c4 .is-passing-with .result) (k .before .if1 .left));
-      create-room = create-room-of e (s .args .m) (sym (c .no-set2 .ensures) ∙ ok);
+      create-room = create-room-of e (s .args .m) (sym (c .no-set2 .ensures .0) ∙ ok);
       set = λ y. clash y (sym (k .is-set-kind .ensures) ∙ c .before .if2 .left);
+      no-other = λ y. clash y (c .no-set2 .ensures .1);
     }
 
 pub look-spec : {M : Type 1} → statement M
