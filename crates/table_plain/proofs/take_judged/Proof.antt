@@ -41,9 +41,11 @@ shared-slice-read-key c =
 store-set-requires : tie.Need-store-set-requires
 store-set-requires c κs =
     let s = c .before .before .before .before .before .before .before .before .before .before .before .before .before .before .before .before in
-    let a = s .args in
-    (s .pre .0 .few, judged-steps (a .sites) (a .n) (a .m) (a .sum) (now (a .held)) (now (a .records)) (now (a .objects)) (now (a .groups))
-    (now (a .places)) (now (a .numbers)) (now (a .counts)) (now (a .chains)) (now (a .rec)) (s .pre .0) (a .a) (s .pre .1))
+    let a = s .args in (
+      s .pre .0 .few,
+      judged-steps (a .sites) (a .n) (a .m) (a .sum) (now (a .held)) (now (a .records)) (now (a .objects)) (now (a .groups))
+          (now (a .places)) (now (a .numbers)) (now (a .counts)) (now (a .chains)) (now (a .rec)) (s .pre .0) (a .a) (s .pre .1),
+    )
 
 not-taken-requires : tie.Need-not-taken-requires
 not-taken-requires c κs = search needs
@@ -80,9 +82,9 @@ enter-requires c κs =
     let s = start-of w in
     let a = s .args in (
       judged-there (a .sites) (a .n) (a .m) (a .sum) (now (a .held)) (now (a .records)) (now (a .objects)) (now (a .groups))
-    (now (a .places)) (now (a .numbers)) (now (a .counts)) (now (a .chains)) (now (a .rec)) (s .pre .0) (a .a) (s .pre .1),
+          (now (a .places)) (now (a .numbers)) (now (a .counts)) (now (a .chains)) (now (a .rec)) (s .pre .0) (a .a) (s .pre .1),
       judged-enters (a .sites) (a .n) (a .m) (a .sum) (now (a .held)) (now (a .records)) (now (a .objects)) (now (a .groups))
-    (now (a .places)) (now (a .numbers)) (now (a .counts)) (now (a .chains)) (now (a .rec)) (s .pre .0) (a .a) (s .pre .1) _ _ _ _ _
+          (now (a .places)) (now (a .numbers)) (now (a .counts)) (now (a .chains)) (now (a .rec)) (s .pre .0) (a .a) (s .pre .1) _ _ _ _ _
           (rw (not-false (w .store-set .result) (c .before .before .if1 .left)) at (w .store-set .ensures)),
     )
 

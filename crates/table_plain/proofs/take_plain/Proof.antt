@@ -41,7 +41,7 @@ store-requires c κs =
       s .pre .0 .few,
       there s,
       store-asks (a .sites) (a .n) (a .m) (a .sum) (now (a .held)) (now (a .records)) (now (a .objects)) (now (a .groups))
-    (now (a .places)) (now (a .numbers)) (now (a .counts)) (now (a .chains)) (now (a .rec)) (s .pre .0) (a .a) (s .pre .1),
+          (now (a .places)) (now (a .numbers)) (now (a .counts)) (now (a .chains)) (now (a .rec)) (s .pre .0) (a .a) (s .pre .1),
     )
 
 not-taken-requires : tie.Need-not-taken-requires
@@ -80,7 +80,7 @@ enter-requires c κs =
     let a = s .args in (
       there s,
       enters (a .sites) (a .n) (a .m) (a .sum) (now (a .held)) (now (a .records)) (now (a .objects)) (now (a .groups))
-    (now (a .places)) (now (a .numbers)) (now (a .counts)) (now (a .chains)) (now (a .rec)) (s .pre .0) (a .a) (s .pre .1) _ _ _ _ _
+          (now (a .places)) (now (a .numbers)) (now (a .counts)) (now (a .chains)) (now (a .rec)) (s .pre .0) (a .a) (s .pre .1) _ _ _ _ _
           (rw (not-false (w .store .result) (c .before .before .if1 .left)) at (w .store .ensures)),
     )
 
@@ -98,7 +98,7 @@ taken-requires c κs =
     let a = s .args in (
       long-of s,
       span-is (a .sites) (a .n) (a .m) (a .sum) (now (a .held)) (now (a .records)) (now (a .objects)) (now (a .groups))
-    (now (a .places)) (now (a .numbers)) (now (a .counts)) (now (a .chains)) (now (a .rec)) (s .pre .0) (a .a) (s .pre .1),
+          (now (a .places)) (now (a .numbers)) (now (a .counts)) (now (a .chains)) (now (a .rec)) (s .pre .0) (a .a) (s .pre .1),
       s .pre .1 .create-room,
     )
 

@@ -21,12 +21,15 @@ start-of c =
 judge-requires : tie.Need-judge-requires
 judge-requires c κs =
     let s = c .before .before .before .before .before .before .before .before .before .before .before .before .before .before .before .before .before in
-    let a = s .args in
-    (indexed-so (a .sites) (a .n) (a .m) (a .sum) (now (a .held)) (now (a .records)) (now (a .objects)) (now (a .groups))
-    (now (a .places)) (now (a .numbers)) (now (a .counts)) (now (a .chains)) (now (a .rec)) (s .pre .0) (a .a) (s .pre .1)
-    (s .pre .2), surveyed-so (a .sites) (a .n) (a .m) (a .sum) (now (a .held)) (now (a .records)) (now (a .objects)) (now (a .groups))
-    (now (a .places)) (now (a .numbers)) (now (a .counts)) (now (a .chains)) (now (a .rec)) (s .pre .0) (a .a) (s .pre .1)
-    (s .pre .2), s .pre .3)
+    let a = s .args in (
+      indexed-so (a .sites) (a .n) (a .m) (a .sum) (now (a .held)) (now (a .records)) (now (a .objects)) (now (a .groups))
+          (now (a .places)) (now (a .numbers)) (now (a .counts)) (now (a .chains)) (now (a .rec)) (s .pre .0) (a .a) (s .pre .1)
+          (s .pre .2),
+      surveyed-so (a .sites) (a .n) (a .m) (a .sum) (now (a .held)) (now (a .records)) (now (a .objects)) (now (a .groups))
+          (now (a .places)) (now (a .numbers)) (now (a .counts)) (now (a .chains)) (now (a .rec)) (s .pre .0) (a .a) (s .pre .1)
+          (s .pre .2),
+      s .pre .3,
+    )
 
 forget-requires : tie.Need-forget-requires
 forget-requires c κs = search needs
@@ -69,8 +72,8 @@ take-judged-requires c κs =
     let a = s .args in (
       s .pre .0,
       judged-so (a .sites) (a .n) (a .m) (a .sum) (now (a .held)) (now (a .records)) (now (a .objects)) (now (a .groups))
-    (now (a .places)) (now (a .numbers)) (now (a .counts)) (now (a .chains)) (now (a .rec)) (s .pre .0) (a .a) (s .pre .1)
-    (s .pre .2)
+          (now (a .places)) (now (a .numbers)) (now (a .counts)) (now (a .chains)) (now (a .rec)) (s .pre .0) (a .a) (s .pre .1)
+          (s .pre .2)
           (j .judge .result) (j .judge .ensures .0) (i .if1 .left),
     )
 
