@@ -69,7 +69,7 @@ fn put_whole(d: &mut [u8], whole: [u8; RECORD])
 }
 
 // The record rec at the front of place p.
-fn put_record(recs: &mut [u8], p: usize, rec: &[u8])
+pub fn put_record(recs: &mut [u8], p: usize, rec: &[u8])
     requires { ⌜ (p < mostRecords)
         × (length (now recs) ≡ recordsLength)
         × (length (now rec) ≡ spanOf (now rec))

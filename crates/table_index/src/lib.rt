@@ -46,10 +46,12 @@ pub struct Aim {
     pub held: bool,
 }
 
-// Whether none of 1 to 6 is given to a record that is not limited, as far as it is looked at; and of a Set the number
-// of its object, how many Sets that has, and which of them conflict with it, bit i for the i-th.
+// Whether none of 1 to 6 is given to a record, as far as it is looked at; and of a Set whether a Set of its object is
+// limited, the number of its object, how many Sets that has, and which of them conflict with it by document 01's rule,
+// bit i for the i-th.
 pub struct Looked {
     pub ok: bool,
+    pub limited: bool,
     pub object: usize,
     pub sets: usize,
     pub conflicts: u64,

@@ -1,2 +1,3 @@
 pub mod RoomForAll
 pub mod ShortOrLong
+pub mod LimitedTaken

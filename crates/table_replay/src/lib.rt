@@ -1,5 +1,6 @@
 // Records taken one after another from an empty drawing.
-use edit_form::OLD;
+mod short;
+
 use edit_history::RECORDS;
 use edit_record::SITES;
 use edit_walk::PLACES;
@@ -18,7 +19,7 @@ ghost use Prim.Native.Nat.{_≤_};
 ghost use lib.ListN.{length, replicate};
 ghost use Rattle.edit_record.specs.Layout.{mostSites};
 ghost use Rattle.edit_record.specs.RecordBytes.{decodeOf};
-ghost use Rattle.edit_form.specs.OldForm.{lengthFrom, longFrom, startOf, storedIn};
+ghost use Rattle.edit_form.specs.OldForm.{startOf, storedIn};
 ghost use Rattle.edit_history.specs.EditsHeld.{mostRecords, editsOf, countFrom};
 ghost use Rattle.edit_history.specs.SurveyForms.{Counted};
 ghost use Rattle.edit_walk.specs.WalkForms.{Spaced};
@@ -96,66 +97,6 @@ fn take_next(
     a
 }
 
-// Takes the record at the front of what is left of a stretch in a form: an old one as a long one, a long one where it
-// stands.
-fn take_one(
-    c: Counters,
-    records: &mut [u8],
-    objects: &mut [u16],
-    groups: &mut [u64],
-    places: &mut [u16],
-    numbers: &mut [u8],
-    counts: &mut [u16],
-    chains: &mut [u8],
-    rows: &mut [u64],
-    names: &mut [u32],
-    rest: &[u8],
-    form: u8,
-) -> Arrived
-    requires { ⌜ Takes (tablesOf c (now records) (now objects) (now groups)) (now places) (now numbers) (now counts)
-        (now chains) (longFrom form (now rest))
-        × (lengthFrom form (now rest) ≤ length (now rest))
-        × KeptFor (editsOf (now records) (c .records)) (now names) (now rows) ⌝ }
-    ensures { λ r. ⌜ Leaves (tablesOf c (now (records .entry)) (now (objects .entry)) (now (groups .entry)))
-        (longFrom form (now (rest .entry))) (numberOf (r .answer))
-        (tablesOf (r .counters) (now (records .exit)) (now (objects .exit)) (now (groups .exit)))
-        (now (places .entry)) (now (places .exit)) (now (numbers .exit)) (now (counts .exit)) (now (chains .exit))
-        × KeptFor (editsOf (now (records .entry)) (c .records) ++ (decodeOf (longFrom form (now (rest .entry))) ∷ []))
-        (now (names .exit)) (now (rows .exit)) ⌝ }
-{
-    if form == OLD {
-        let wide = edit_form::widened_from(rest);
-        return take_next(
-            c,
-            records,
-            objects,
-            groups,
-            places,
-            numbers,
-            counts,
-            chains,
-            rows,
-            names,
-            &wide,
-        );
-    }
-    let used = edit_form::length_from(rest, form);
-    let rec = &rest[..used];
-    take_next(
-        c,
-        records,
-        objects,
-        groups,
-        places,
-        numbers,
-        counts,
-        chains,
-        rows,
-        names,
-        rec,
-    )
-}
-
 // How many of the first n records of a stretch name each site.
 fn count_stretch(recs: &[u8], form: u8, n: usize) -> [u16; SITES]
     requires { ⌜ (n ≤ mostRecords) × (startOf form (now recs) n ≤ length (now recs)) ⌝ }
@@ -176,9 +117,8 @@ fn count_stretch(recs: &[u8], form: u8, n: usize) -> [u16; SITES]
     counts
 }
 
-// Takes the first n records of a stretch, one after another, into an empty drawing: the part of the stretch from each
-// record on is handed to its decoder. Each goes the short way if it can, else the long one. The index has room for all
-// of them.
+// Takes the first n records of a stretch, one after another, into an empty drawing: an old one as a long one, a long one
+// where it stands. Each goes the short way if it can, else the long one. The index has room for all of them.
 fn take_records(
     sites: u8,
     records: &mut [u8],
@@ -213,11 +153,11 @@ fn take_records(
     let mut i: usize = 0;
     while i < n {
         let rest = &recs[at..];
-        at = at + edit_form::length_from(rest, form);
-        let front = edit_form::front_from(rest, form);
-        let stored = front;
-        let stands = edit_form::long_in(rest, form, &front);
-        let t = table_plain::take_plain(
+        let used = edit_form::length_from(rest, form);
+        at = at + used;
+        let wide = edit_form::widened_if(rest, form);
+        let rec = edit_form::long_in(rest, form, used, &wide);
+        let t = short::take_short(
             sites,
             i,
             m,
@@ -230,8 +170,9 @@ fn take_records(
             numbers,
             counts,
             chains,
-            stored,
-            stands,
+            rows,
+            names,
+            rec,
         );
         m = t.objects;
         sum = t.sum;
@@ -246,7 +187,7 @@ fn take_records(
             held,
             sum,
         };
-        let a = take_one(
+        let a = take_next(
             c,
             records,
             objects,
@@ -257,8 +198,7 @@ fn take_records(
             chains,
             rows,
             names,
-            rest,
-            form,
+            rec,
         );
         let next = a.counters;
         let answer = a.answer;
