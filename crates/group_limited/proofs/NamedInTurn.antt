@@ -119,7 +119,26 @@ module _ (rs ps : List ℕ) where
         (first-lawful (setsIn rs ps (suc i)) more k (omega arith) law′) in
         rw (own, sets-length rs ps i (omega arith), ← sets-more rs ps i (omega arith)) first
 
-    -- where 16 is given to none up to the next one, what is left of what that has seen is its context
+    -- where all are proper, what is left of what the next one has seen is its context
+    pub left-where-proper :
+        (i : ℕ) → i < k →
+        let ms′ = setsIn rs ps i in
+        let e = recordAt rs (getD ps i 0) in
+        Proper ms → whatIsLeft (boxOn (ms′ ++ (e ∷ []))) (length ms′) ≡ context (boxOn (ms′ ++ (e ∷ []))) (length ms′)
+    left-where-proper i l p =
+        let e = recordAt rs (getD ps i 0) in
+        let size = sets-length rs ps i (omega arith) in
+        let next = sets-length rs ps (suc i) (omega arith) in
+        let law = lawful-to i l e refl (subst (Lawful (boxOn ms)) (sets-length rs ps k fits) (p .lawful)) in
+        let named : (j : ℕ) → j ≤ k → AllNamed (boxOn (setsIn rs ps j)) (length (setsIn rs ps j))
+        = λ j m. first-named (setsIn rs ps j) (map (recordAt rs) (drop j (take k ps))) (length ms)
+        (omega (arith, sets-length rs ps j (omega arith), sets-length rs ps k fits))
+        (subst (λ (xs : List Edit). AllNamed (boxOn xs) (length ms)) (split j m) (p .named)) in
+        left-told (setsIn rs ps i) e law (named i (omega arith))
+        (rw (← sets-more rs ps i (omega arith))
+        (named (suc i) (omega arith) (length (setsIn rs ps i)) (omega (arith, size, next))))
+
+    -- the same where 16 is given to none up to the next one
     pub left-where-named :
         (i : ℕ) → i < k →
         let ms′ = setsIn rs ps i in

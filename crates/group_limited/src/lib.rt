@@ -23,7 +23,7 @@ ghost use Rattle.edit_record.specs.declared.Edit.{Edit};
 ghost use Rattle.edit_record.specs.RecordBytes.{decodeOf};
 ghost use Rattle.edit_record.specs.Answer1.{isLimited};
 ghost use Rattle.edit_causal.specs.Conflict.{boxOn};
-ghost use Rattle.edit_causal.specs.ConflictForms.{plainMarks};
+ghost use Rattle.edit_causal.specs.ConflictForms.{Proper, plainMarks};
 ghost use Rattle.edit_history.specs.EditsHeld.{recordAt};
 ghost use Rattle.edit_history.specs.Answer16.{namelessAmong};
 ghost use Rattle.group_step.specs.GroupRows.{mostSets};
@@ -242,6 +242,38 @@ pub fn put_told(plain: &mut [u64], ctx: &mut [u64], n: usize, row: u64, own: u64
 {
     put_row(plain, n, row);
     ctx[n] = own;
+}
+
+// Puts down the rows of the Sets in the k first places, whose names these are, each by those before it, and in `sees`
+// what the authors of the last of them had seen.
+pub fn put_rows(
+    plain: &mut [u64],
+    ctx: &mut [u64],
+    sees: &mut [u64],
+    recs: &[u8],
+    places: &[u16],
+    names: &[u32],
+    k: usize,
+)
+    requires { ⌜ (k ≤ mostSets)
+        × (k ≤ length (now places))
+        × (k ≤ length (now names))
+        × (k ≤ length (now plain))
+        × (k ≤ length (now ctx))
+        × (mostRecent ≤ length (now sees))
+        × NamesIn (now recs) (now places) k (now names) ⌝ }
+    ensures { λ r. ⌜ (Proper (setsIn (now (recs .entry)) (now (places .entry)) k) →
+        RowsTell (setsIn (now (recs .entry)) (now (places .entry)) k) (now (plain .exit)) (now (ctx .exit))
+        × SeesTell (setsIn (now (recs .entry)) (now (places .entry)) k) (now (sees .exit))) ⌝ }
+{
+    let mut i: usize = 0;
+    while i < k {
+        let s = sight_at(recs, places, names, sees, i, places[i]);
+        let own = left_by(plain, ctx, s);
+        put_told(plain, ctx, i, s.plain, own);
+        sees[i % RECENT] = s.seen;
+        i += 1;
+    }
 }
 
 // What the Set of rec is told, which arrives after those in the k first places, by their names and their rows.

@@ -3,48 +3,41 @@
 use super::Tested;
 use edit_history::Surveyed;
 use edit_record::AT_KIND;
+use edit_record::AT_TARGET;
+use edit_record::AT_TARGET_SEQ;
 use edit_record::LIMITED;
+use edit_record::Seq;
+use edit_record::Site;
 use group_limited::Judged;
 use group_limited::RECENT;
 use group_step::SETS;
-use table_drawing::Answer;
 use table_drawing::Counters;
 ghost use mathlib.Core.Path.{_≡_};
-ghost use mathlib.Core.Bool.{true, cond};
+ghost use mathlib.Core.Bool.{true};
+ghost use Prim.Native.Nat.{_≤_};
 ghost use lib.ListN.{length};
 ghost use Rattle.math_lists.specs.SortedLists.{any};
+ghost use Rattle.edit_record.specs.Layout.{recordLength};
 ghost use Rattle.edit_record.specs.RecordBytes.{decodeOf};
 ghost use Rattle.edit_history.specs.EditsHeld.{editsOf, setsOn, isTarget};
-ghost use Rattle.edit_history.specs.Answer16.{recordsNamed};
 ghost use Rattle.edit_history.specs.SurveyForms.{SurveyedOf};
 ghost use Rattle.edit_walk.specs.WalkForms.{Indexed};
-ghost use Rattle.table_drawing.specs.AnswerNumbers.{numberOf};
 ghost use Rattle.table_index.specs.IndexForms.{Holds};
 ghost use Rattle.table_arrival.specs.ArrivalForms.{TestedFor};
-
-// The answer to a record that asks nothing of the Sets held: 8 before it, where 16 is given to a record held.
-pub fn answer_where_named(c: Counters, recs: &[u8], places: &[u16], answer: Answer) -> Answer
-    requires { ⌜ Holds c (now recs) × Indexed (now recs) (c .records) (now places) ⌝ }
-    ensures { λ r.
-        ⌜ numberOf r ≡ cond (recordsNamed (now (recs .entry)) (c .records)) (numberOf answer) 8 ⌝ }
-{
-    if group_named::are_all_named(recs, c.records as usize, places) {
-        return answer;
-    }
-    Answer::Unsound
-}
 
 // What is tested and judged by the rows of the box, which has k Sets: they are worked out once, as 16 of them is tested.
 fn judge_by_rows(c: Counters, recs: &[u8], places: &[u16], rec: &[u8], k: usize) -> Tested
     requires { ⌜ Holds c (now recs)
         × Indexed (now recs) (c .records) (now places)
+        × (recordLength ≤ length (now rec))
         × (any (isTarget (decodeOf (now rec))) (editsOf (now recs) (c .records)) ≡ true)
         × (k ≡ length (setsOn (decodeOf (now rec) .tsite) (decodeOf (now rec) .tseq)
         (editsOf (now recs) (c .records)))) ⌝ }
     ensures { λ r. ⌜ TestedFor true (now (recs .entry)) (c .records) (decodeOf (now (rec .entry))) r ⌝ }
 {
-    let e = edit_record::decode(rec);
-    let p = edit_walk::place_at(places, e.tsite, e.tseq);
+    let s = rec[AT_TARGET];
+    let q = edit_record::pair_at(rec, AT_TARGET_SEQ);
+    let p = edit_walk::place_at(places, Site(s), Seq(q));
     // what work space holds at first does not matter; zeros would be set by memset (docs/DECISIONS.md, 24)
     let mut members = [1u16; SETS];
     let mut plain = [1u64; SETS];
@@ -80,6 +73,7 @@ fn judge_by_rows(c: Counters, recs: &[u8], places: &[u16], rec: &[u8], k: usize)
 pub fn judge(c: Counters, recs: &[u8], places: &[u16], rec: &[u8], v: Surveyed) -> Tested
     requires { ⌜ Holds c (now recs)
         × Indexed (now recs) (c .records) (now places)
+        × (recordLength ≤ length (now rec))
         × SurveyedOf (editsOf (now recs) (c .records)) (decodeOf (now rec)) v ⌝ }
     ensures { λ r. ⌜ TestedFor (v .found) (now (recs .entry)) (c .records) (decodeOf (now (rec .entry))) r ⌝ }
 {

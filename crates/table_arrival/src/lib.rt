@@ -360,7 +360,7 @@ pub fn arrive(
     }
     let first = asked::one_to_three(c, rec);
     if table_drawing::number(first) != 0 {
-        let answer = judging::answer_where_named(c, records, &places, first);
+        let answer = asked::answer_where_named(c, records, &places, first);
         return Arrived {
             answer,
             counters: c,

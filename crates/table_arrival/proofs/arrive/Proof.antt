@@ -10,6 +10,8 @@ use borrow.Author.Needs.{needs}
 use Rattle.math_lists.proofs.Booleans.{clash}
 use Rattle.edit_record.specs.Layout.{recordLength}
 use Rattle.edit_history.specs.Answer16.{recordsNamed}
+use Rattle.edit_record.specs.RecordBytes.{decodeOf}
+use Rattle.edit_walk.specs.WalkForms.{inTurnAgainst}
 use Rattle.edit_record.proofs.RecordSpans.{span-least}
 use Rattle.table_drawing.specs.Tables.{Tables, tablesOf}
 use Rattle.table_soundness.proofs.SoundFacts.{but-at, but-off, named-decides}
@@ -101,15 +103,22 @@ returns-2 c =
 slice-aggregate-survey : tie.Need-slice-aggregate-survey
 slice-aggregate-survey c = search needs
 
+-- the record is there whole, and none of 1 to 3 is given to it
+timely : (n : tie.After-number) → n .number .result ≡ 0 →
+    let a = start-of n .args in
+    (recordLength ≤ length (now (a .rec))) × (inTurnAgainst (a .c .sites) (a .c .held) (decodeOf (now (a .rec))) ≡ true)
+timely n z =
+    let a = start-of n .args in
+    let b = now (a .rec) in
+    let (whole, in-turn) = none-of-three (a .c) b (sym (three n) ∙ z) in
+    (omega (arith, whole, span-least b), in-turn)
+
 survey-requires : tie.Need-survey-requires
 survey-requires c κs =
     let n = c .before .before .before in
-    let a = start-of n .args in
-    let b = now (a .rec) in
     let y = n .before .before .before .before .is-sound-but-named in
-    let (whole, timely) = none-of-three (a .c) b (sym (three n) ∙ c .before .before .if2 .left) in
-    let long : recordLength ≤ length b = omega (arith, whole, span-least b) in
-    (held n, y .ensures .1 (yes n), long, timely, n .before .one-to-three .ensures .1)
+    let (long, in-turn) = timely n (c .before .before .if2 .left) in
+    (held n, y .ensures .1 (yes n), long, in-turn, n .before .one-to-three .ensures .1)
 
 slice-aggregate-judge : tie.Need-slice-aggregate-judge
 slice-aggregate-judge c = search needs
@@ -117,7 +126,8 @@ slice-aggregate-judge c = search needs
 judge-requires : tie.Need-judge-requires
 judge-requires c κs =
     let n = c .before .before .before .before .before .before in
-    (held n, n .before .before .before .before .is-sound-but-named .ensures .1 (yes n), c .before .before .survey .ensures)
+    let (long, _) = timely n (c .before .before .before .before .before .if2 .left) in
+    (held n, n .before .before .before .before .is-sound-but-named .ensures .1 (yes n), long, c .before .before .survey .ensures)
 
 same-length-7 : tie.Need-same-length-7
 same-length-7 c = search needs

@@ -30,8 +30,9 @@ judge-by-rows-requires c κs =
     let e = decodeOf (now (a .rec)) in (
       s .pre .0,
       s .pre .1,
-      target-held es e (a .v) (s .pre .2) _ (c .if1 .taken),
-      sets-counted es e (a .v) (s .pre .2) _ (c .if1 .taken),
+      s .pre .2,
+      target-held es e (a .v) (s .pre .3) _ (c .if1 .taken),
+      sets-counted es e (a .v) (s .pre .3) _ (c .if1 .taken),
     )
 
 returns : tie.Need-returns
@@ -45,8 +46,9 @@ judge-by-rows-requires-2 c κs =
     let e = decodeOf (now (a .rec)) in (
       s .pre .0,
       s .pre .1,
-      target-held es e (a .v) (s .pre .2) _ (c .if2 .taken),
-      sets-counted es e (a .v) (s .pre .2) _ (c .if2 .taken),
+      s .pre .2,
+      target-held es e (a .v) (s .pre .3) _ (c .if2 .taken),
+      sets-counted es e (a .v) (s .pre .3) _ (c .if2 .taken),
     )
 
 returns-2 : tie.Need-returns-2
@@ -72,7 +74,7 @@ returns-3 c =
     record {
       named = c .are-all-named .ensures (a .c .sites) (h .few-sites) (h .pass) (s .pre .1);
       judged = λ on.
-          judged-plainly (editsOf (now (a .recs)) (a .c .records)) e (a .v) (s .pre .2)
+          judged-plainly (editsOf (now (a .recs)) (a .c .records)) e (a .v) (s .pre .3)
           (neither-asked (a .v .found) (isLimited e) (a .v .limited) first (c .before .before .if2 .left));
     }
 

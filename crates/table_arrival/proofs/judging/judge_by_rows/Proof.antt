@@ -6,7 +6,6 @@ use Prim.Native.Nat.{_≤_}
 use denote.Ref.{now}
 use borrow.Author.Tests.{not-true, not-false}
 use Rattle.math_lists.proofs.Booleans.{clash}
-use Rattle.edit_record.specs.declared.Edit.{Edit}
 use Rattle.edit_record.specs.RecordBytes.{decodeOf}
 use Rattle.edit_history.specs.EditsHeld.{editsOf, setsOn}
 use Rattle.edit_walk.specs.WalkForms.{placeOf}
@@ -17,21 +16,24 @@ use borrow.Author.Needs.{needs}
 use Rattle.table_arrival.proofs.judging.judge_by_rows.Statement.{statement}
 use Rattle.table_arrival.proofs.judging.judge_by_rows.Tie as tie
 
-decode-requires : tie.Need-decode-requires
-decode-requires c κs = search needs
+shared-slice-read-s : tie.Need-shared-slice-read-s
+shared-slice-read-s c = search needs
+
+pair-at-requires : tie.Need-pair-at-requires
+pair-at-requires c κs = search needs
 
 place-at-requires : tie.Need-place-at-requires
 place-at-requires c κs = search needs
 
 -- where the target stands
 placed : (x : tie.After-place-at) →
-    let a = x .before .before .before .before .before .args in
+    let a = x .before .before .before .before .before .before .args in
     let e = decodeOf (now (a .rec)) in
     x .place-at .result ≡ placeOf (now (a .places)) (e .tsite .0) (e .tseq .0)
 placed x =
-    let a = x .before .before .before .before .before .args in
-    x .place-at .ensures
-    ∙ ap (λ (e : Edit). placeOf (now (a .places)) (e .tsite .0) (e .tseq .0)) (x .before .decode .ensures)
+    let a = x .before .before .before .before .before .before .args in
+    let e = decodeOf (now (a .rec)) in
+    x .place-at .ensures ∙ ap (placeOf (now (a .places)) (e .tsite .0)) (x .before .pair-at .ensures)
 
 cast-n : tie.Need-cast-n
 cast-n c = search needs
@@ -57,9 +59,9 @@ cast-are-named-last c = search needs
 are-named-last-requires : tie.Need-are-named-last-requires
 are-named-last-requires c κs =
     let x = c .before .before .before .before .before .before in
-    let s = x .before .before .before .before .before in
+    let s = x .before .before .before .before .before .before in
     let a = s .args in
-    let (h, ix, held, _) = s .pre in (
+    let (h, ix, _, held, _) = s .pre in (
       h .few-records,
       box-below (a .c) (now (a .recs)) h (now (a .places)) ix (decodeOf (now (a .rec))) held _ (placed x),
       h .few-sets,
@@ -72,23 +74,23 @@ are-named-last-requires c κs =
 
 -- what is left, where 16 is given to no record
 left-told : (y : tie.After-are-named-last) → y .are-named-last .result ≡ true →
-    let a = y .before .before .before .before .before .before .before .before .before .before .before .before .args in
+    let a = y .before .before .before .before .before .before .before .before .before .before .before .before .before .args in
     let e = decodeOf (now (a .rec)) in
     let l = y .are-named-last .last in
     SetsTold (now (a .recs)) (setsOn (e .tsite) (e .tseq) (editsOf (now (a .recs)) (a .c .records)))
     (l .0) (l .1 .1 .1 .1 .0) (l .1 .0) (l .1 .1 .0) (l .1 .1 .1 .0)
 left-told y on =
     let x = y .before .before .before .before .before .before .before in
-    let s = x .before .before .before .before .before in
+    let s = x .before .before .before .before .before .before in
     let a = s .args in
-    let (h, ix, held, _) = s .pre in
+    let (h, ix, _, held, _) = s .pre in
     box-told (a .c) (now (a .recs)) h (now (a .places)) ix (decodeOf (now (a .rec))) held _ (placed x) _ _ _ _ _
     (y .are-named-last .ensures (a .c .sites) (h .few-sites) (h .pass) ix .1 on)
 
 returns : tie.Need-returns
 returns c =
     let y = c .before .before .before .before .before .before in
-    let s = y .before .before .before .before .before .before .before .before .before .before .before .before in
+    let s = y .before .before .before .before .before .before .before .before .before .before .before .before .before in
     let h = s .pre .0 in
     let named = y .are-named-last in
     record {
@@ -114,9 +116,9 @@ slice-aggregate-judge-5 c = search needs
 judge-requires : tie.Need-judge-requires
 judge-requires c κs =
     let y = c .before .before .before .before .before .before .before .before .before .before .before in
-    let s = y .before .before .before .before .before .before .before .before .before .before .before .before in
+    let s = y .before .before .before .before .before .before .before .before .before .before .before .before .before in
     let a = s .args in
-    let (h, ix, held, many) = s .pre in
+    let (h, ix, _, held, many) = s .pre in
     let e = decodeOf (now (a .rec)) in
     let few : a .k ≤ mostSets = rw many (h .few-sets (e .tsite) (e .tseq)) in
     let told = left-told y (not-false (y .are-named-last .result) (c .before .before .before .before .before .if1 .left)) in (
@@ -132,9 +134,9 @@ judge-requires c κs =
 returns-2 : tie.Need-returns-2
 returns-2 c =
     let y = c .before .before .before .before .before .before .before .before .before .before .before .before in
-    let s = y .before .before .before .before .before .before .before .before .before .before .before .before in
+    let s = y .before .before .before .before .before .before .before .before .before .before .before .before .before in
     let a = s .args in
-    let (h, ix, held, many) = s .pre in
+    let (h, ix, _, held, many) = s .pre in
     let e = decodeOf (now (a .rec)) in
     let named = y .are-named-last in
     record {
@@ -148,7 +150,8 @@ pub judge-by-rows-spec : {M : Type 1} → statement M
 judge-by-rows-spec =
     tie.close
     (tie.spec
-    decode-requires
+    shared-slice-read-s
+    pair-at-requires
     place-at-requires
     cast-n
     slice-aggregate-are-named-last

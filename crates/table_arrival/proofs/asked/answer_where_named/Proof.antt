@@ -1,12 +1,12 @@
--- `table_arrival::judging::answer_where_named` meets its contract. Assumes nothing.
+-- `table_arrival::asked::answer_where_named` meets its contract. Assumes nothing.
 use mathlib.Core.Path.{_≡_, sym, ap, _∙_}
 use mathlib.Core.Bool.{Bool, true, false, cond}
 use Prim.Native.Nat.{ℕ}
 use denote.Ref.{now}
 use Rattle.edit_history.specs.Answer16.{recordsNamed}
 use borrow.Author.Needs.{needs}
-use Rattle.table_arrival.proofs.judging.answer_where_named.Statement.{statement}
-use Rattle.table_arrival.proofs.judging.answer_where_named.Tie as tie
+use Rattle.table_arrival.proofs.asked.answer_where_named.Statement.{statement}
+use Rattle.table_arrival.proofs.asked.answer_where_named.Tie as tie
 
 cast-are-all-named : tie.Need-cast-are-all-named
 cast-are-all-named c = search needs
