@@ -1,5 +1,5 @@
--- The Sets of an object by their keys, those of each key as one number. No one need believe it: laws in proofs/ say what
--- a Set is told by it. Assumes nothing.
+-- The Sets of an object by their keys, those of each key as one number. No one need believe it: laws in proofs/ say
+-- what a Set is told by it. Assumes nothing.
 use mathlib.Core.Path.{_≡_}
 use mathlib.Core.List.{List}
 use Prim.Native.Nat.{ℕ, _^_, _<_}

@@ -11,9 +11,11 @@ use edit_record::RECORD;
 use group_context::but_first;
 use group_step::only;
 ghost use mathlib.Core.Path.{_≡_};
+ghost use mathlib.Core.Bool.{true};
 ghost use Prim.Native.Nat.{ℕ, _+_, _≤_, _<_};
 ghost use lib.ListN.{length};
 ghost use Rattle.math_lists.specs.NumbersBelow.{mask};
+ghost use Rattle.math_maximal.specs.Groups.{bit};
 ghost use Rattle.edit_record.specs.Layout.{keys, recordLength};
 ghost use Rattle.edit_causal.specs.Conflict.{doConflict};
 ghost use Rattle.edit_causal.specs.ConflictForms.{plainMarks};
@@ -118,7 +120,8 @@ pub fn disputed_in(tolds: &mut [u64], recs: &[u8], places: &[u16], t: usize) -> 
         × (t ≤ mostSets)
         × (t ≤ length (now tolds))
         × TellsIn (now recs) (now places) t ⌝ }
-    ensures { λ r. ⌜ DisputedBy (now (recs .entry)) (now (places .entry)) t r ⌝ }
+    ensures { λ r. ⌜ DisputedBy (now (recs .entry)) (now (places .entry)) t r
+        × ((j : ℕ) → bit r j ≡ true → j < t) ⌝ }
 {
     let mut sets = [0u64; KEY_CHAINS];
     let mut all: u64 = 0;

@@ -6,11 +6,10 @@ use Prim.Native.Nat.{ℕ, _-_, _≤_, _<_}
 use native.Mathlib.Omega.{arith}
 use lib.ListN.{length, getD-replicate}
 use Rattle.edit_record.specs.Layout.{keys}
-use Rattle.table_sets.specs.KeyForms.{DisputedBy}
 use Rattle.table_sets.specs.MaskForms.{MaskedTo}
 use Rattle.table_sets.proofs.MarksByKey.{shifted-one}
 use Rattle.table_sets.proofs.MarksByMask.{masked-none}
-use Rattle.table_sets.proofs.DisputesByMarks.{MarkedTo, marked-none, marked-same, marked-more}
+use Rattle.table_sets.proofs.DisputesByMarks.{MarkedTo, marked-none, marked-low, marked-same, marked-more}
 use borrow.Author.Needs.{needs}
 use Rattle.table_sets.proofs.by_mask.disputed_in.Statement.{statement}
 use Rattle.table_sets.proofs.by_mask.disputed_in.Tie as tie
@@ -92,7 +91,8 @@ returns c =
     let l = c .before .loop in
     let a = c .before .before .before .before .before .args in
     let done : l .i ≡ a .t = omega arith in
-    subst (λ (i : ℕ). DisputedBy (a .recs .now) (a .places .now) i (l .all)) done (l .inv .4 .marked)
+    let all = subst (λ (i : ℕ). MarkedTo (a .recs .now) (a .places .now) i (l .all)) done (l .inv .4) in
+    (all .marked, marked-low (a .recs .now) (a .places .now) (a .t) (l .all) all)
 
 pub disputed-in-spec : {M : Type 1} → statement M
 disputed-in-spec =
