@@ -307,8 +307,8 @@ pub fn judge(
     }
 }
 
-// Whether 16 is given to none of the Sets in the k first places, each after those before it, whose rows are put down, and
-// in `sees` what the authors of the last of them had seen.
+// Whether 16 is given to none of the Sets in the k first places, each after those before it, whose rows are put down,
+// and in `sees` what the authors of the last of them had seen.
 fn are_named_with(
     plain: &mut [u64],
     ctx: &mut [u64],

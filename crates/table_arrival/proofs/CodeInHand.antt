@@ -1,5 +1,5 @@
--- What the code of an arrival has in hand: the first of 1 to 3, at tables that are sound but for 16, and then the survey
--- of the records and the first of 1 to 6. Assumes nothing.
+-- What the code of an arrival has in hand: the first of 1 to 3, at tables that are sound but for 16, and then the
+-- survey of the records and the first of 1 to 6. Assumes nothing.
 use mathlib.Core.Path.{_≡_, refl, sym, _∙_}
 use mathlib.Core.Bool.{Bool, true, false, cond}
 use mathlib.Core.List.{List}
@@ -14,7 +14,7 @@ use Rattle.edit_history.specs.EditsHeld.{mostRecords}
 use Rattle.edit_history.specs.Answer16.{recordsNamed}
 use Rattle.group_step.specs.GroupRows.{mostObjects}
 use Rattle.group_limited.specs.declared.Judged.{Judged}
-use Rattle.table_drawing.specs.Tables.{Tables, tablesOf, heldBy, recordsLength, objectsLength}
+use Rattle.table_drawing.specs.Tables.{Tables, tablesOf, recordsLength, objectsLength}
 use Rattle.table_drawing.specs.AnswerNumbers.{outcomeOf}
 use Rattle.table_soundness.specs.Sound.{sound}
 use Rattle.table_soundness.specs.SoundnessForms.{soundButNamed}

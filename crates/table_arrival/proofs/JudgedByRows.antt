@@ -60,12 +60,14 @@ module _ (c : Counters) (rs : List ℕ) (h : Holds c rs) (ps : List ℕ) (ix : I
         (RowsTell (setsIn rs ms k) plains cs → SeesTell (setsIn rs ms k) sees → JudgedOf (setsIn rs ms k) e j) →
         JudgedWhere true mates e j
     judged-told j of =
-        let judged = subst (λ (xs : List Edit). JudgedOf xs e j) same (of (rw same (told .rows)) (rw same (told .seen))) in
+        let judged = subst (λ (xs : List Edit). JudgedOf xs e j) same
+        (of (rw same (told .rows)) (rw same (told .seen))) in
         record { nameless = λ asked. judged .nameless; conflicts = λ found. judged .conflicts }
 
 -- ---- by the survey of the edit
 
-module _ (es : List Edit) (e : Edit) (v : Surveyed) (sv : SurveyedOf es e v) (b : Bool) (h : (v .found && b) ≡ true) where
+module _ (es : List Edit) (e : Edit) (v : Surveyed) (sv : SurveyedOf es e v) (b : Bool)
+    (h : (v .found && b) ≡ true) where
   pub target-held : any (isTarget e) es ≡ true
   target-held = sym (sv .found) ∙ both (v .found) b h .0
 

@@ -1,5 +1,5 @@
-// What is tested of an arriving record at tables that are sound but for 16, and judged of it where 16 is given to none of
-// the records held: whether it is given to the arriving one, and which Sets conflict with it.
+// What is tested of an arriving record at tables that are sound but for 16, and judged of it where 16 is given to none
+// of the records held: whether it is given to the arriving one, and which Sets conflict with it.
 use super::Tested;
 use edit_history::Surveyed;
 use edit_record::AT_KIND;
@@ -25,7 +25,8 @@ ghost use Rattle.edit_walk.specs.WalkForms.{Indexed};
 ghost use Rattle.table_index.specs.IndexForms.{Holds};
 ghost use Rattle.table_arrival.specs.ArrivalForms.{TestedFor};
 
-// What is tested and judged by the rows of the box, which has k Sets: they are worked out once, as 16 of them is tested.
+// What is tested and judged by the rows of the box, which has k Sets: they are worked out once, as 16 of them is
+// tested.
 fn judge_by_rows(c: Counters, recs: &[u8], places: &[u16], rec: &[u8], k: usize) -> Tested
     requires { ⌜ Holds c (now recs)
         × Indexed (now recs) (c .records) (now places)
@@ -68,8 +69,8 @@ fn judge_by_rows(c: Counters, recs: &[u8], places: &[u16], rec: &[u8], k: usize)
 }
 
 // What is tested and judged with the survey v. Where no Set of its object is limited, and it is not, document 01's
-// conflicts are all that there are. One whose object is not held is not judged. The rows are asked for in two places, so
-// that their work space is no part of an arrival's, in which soundness was tested before.
+// conflicts are all that there are. One whose object is not held is not judged. The rows are asked for in two places,
+// so that their work space is no part of an arrival's, in which soundness was tested before.
 pub fn judge(c: Counters, recs: &[u8], places: &[u16], rec: &[u8], v: Surveyed) -> Tested
     requires { ⌜ Holds c (now recs)
         × Indexed (now recs) (c .records) (now places)

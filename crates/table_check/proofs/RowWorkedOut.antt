@@ -118,8 +118,8 @@ part-is gs o g few =
 
 -- ---- the row of object o, which has k Sets on the Create in place p
 
-module _ (t : Tables) (s : SoundBut t) (o : ℕ) (l : o < t .counters .objects) (p k : ℕ) (ep : p ≡ placeAt (t .objects) o)
-    (ek : k ≡ setsAt (t .objects) o) where
+module _ (t : Tables) (s : SoundBut t) (o : ℕ) (l : o < t .counters .objects) (p k : ℕ)
+    (ep : p ≡ placeAt (t .objects) o) (ek : k ≡ setsAt (t .objects) o) where
   abbrev rs : List ℕ
   rs = t .records
 

@@ -1,12 +1,12 @@
--- The Sets of an object of tables that are sound but for 16, taken one after another as a row is worked out: where 16 is
--- given to none of those before a Set, they are proper, and its conflicts with them are what the code is told. Assumes
--- nothing.
+-- The Sets of an object of tables that are sound but for 16, taken one after another as a row is worked out: where 16
+-- is given to none of those before a Set, they are proper, and its conflicts with them are what the code is told.
+-- Assumes nothing.
 use mathlib.Core.Path.{_≡_, sym, ap, subst, _∙_}
 use mathlib.Core.Bool.{true, false}
 use mathlib.Core.List.{List, [], _∷_, _++_, map}
-use Prim.Native.Nat.{ℕ, suc, _≤_, _<_}
+use Prim.Native.Nat.{ℕ, _+_, _≤_, _<_}
 use native.Mathlib.Omega.{arith}
-use lib.ListN.{length, getD, take, length-append}
+use lib.ListN.{length, getD, take}
 use Rattle.math_lists.specs.SortedLists.{any}
 use Rattle.math_lists.proofs.Booleans.{clash, off}
 use Rattle.math_lists.proofs.ByPlaces.{any-place-on}
@@ -20,12 +20,12 @@ use Rattle.edit_causal.specs.Conflict.{boxOn, conflictsWith}
 use Rattle.edit_causal.specs.ConflictForms.{plainMarks}
 use Rattle.edit_causal.proofs.PlainMarks.{marks-are-all}
 use Rattle.edit_history.specs.EditsHeld.{recordAt, editsOf, setsOn}
-use Rattle.edit_history.specs.Answer16.{namelessAmong}
 use Rattle.edit_history.proofs.EditsInPlaces.{sets-length, set-place}
 use Rattle.group_true.proofs.ProperSets.{in-order-table, named-version}
 use Rattle.group_limited.specs.declared.Told.{Told}
 use Rattle.group_limited.specs.LimitedForms.{setsIn, ToldOf, namedInTurn}
 use Rattle.group_limited.proofs.NamedInTurn.{nameless, proper-to, in-turn-on, in-turn-off}
+use Rattle.group_limited.proofs.NamedInTurn.{passed-one-more}
 use Rattle.group_named.specs.NamedForms.{isNamedAt}
 use Rattle.group_named.proofs.BoxesNamed.{plain-in-turn}
 use Rattle.table_drawing.specs.Tables.{Tables}
@@ -47,15 +47,6 @@ module _ (rs ms : List ℕ) (k : ℕ) (fits : k ≤ length ms) where
     proper = λ j m. proper-to rs ms k fits j (omega arith) law (λ x o. free x (omega arith));
     named = free;
   }
-
-  -- whether it is given to the next, e
-  pub next-nameless :
-      (i : ℕ) → i < k → (e : Edit) → e ≡ recordAt rs (getD ms i 0) → Lawful (boxOn (setsIn rs ms k)) k →
-      ((j : ℕ) → j < i → nameless rs ms j ≡ false) → (t : Told) → ToldOf (setsIn rs ms i) e t →
-      t .nameless ≡ nameless rs ms i
-  next-nameless i l e own law free t told =
-      told .nameless (proper-to rs ms k fits i (omega arith) law free .named)
-      ∙ ap (namelessAmong (setsIn rs ms i)) own
 
   pub turn-named : ProperInTurn rs ms k → namedInTurn (setsIn rs ms k) ≡ true
   turn-named w = in-turn-on rs ms k fits (w .named)
@@ -119,21 +110,35 @@ module _ (rs ms : List ℕ) (k : ℕ) (fits : k ≤ length ms) (i : ℕ) (l : i 
       rw (set-place rs ms i (omega arith) j b) (none j (omega arith)))
       (rw own (none i l)))
 
-  -- else those that it is told
-  module _ (w : ProperInTurn rs ms k) where
-    abbrev xs : List Edit
-    xs = setsIn rs ms i
+-- ---- the next Set, which is told t
 
-    named : AllNamed (boxOn xs) (length xs)
-    named = w .proper i (omega arith) .named
+-- 16 is not given to it: those with it are proper in turn, and it is told its conflicts and its context
+pub record Taken (rs ms : List ℕ) (i : ℕ) (t : Told) : Type 0 where
+  pub free : (j : ℕ) → j < i + 1 → nameless rs ms j ≡ false
+  pub turn : ProperInTurn rs ms (i + 1)
+  pub conflicts : t .conflicts ≡ conflictsWith (recordAt rs (getD ms i 0)) (setsIn rs ms i)
+  pub context :
+      t .context ≡ context (boxOn (setsIn rs ms i ++ (recordAt rs (getD ms i 0) ∷ []))) (length (setsIn rs ms i))
 
-    free : namelessAmong xs e ≡ false
-    free = rw own (w .named i l)
+module _ (rs ms : List ℕ) (k : ℕ) (fits : k ≤ length ms) (i : ℕ) (l : i < k) (law : Lawful (boxOn (setsIn rs ms k)) k)
+    (before : (j : ℕ) → j < i → nameless rs ms j ≡ false) (t : Told)
+    (told : ToldOf (setsIn rs ms i) (recordAt rs (getD ms i 0)) t) where
+  abbrev xs : List Edit
+  xs = setsIn rs ms i
 
-    module _ (t : Told) (told : ToldOf xs e t) where
-      pub told-are-all : t .conflicts ≡ conflictsWith e xs
-      told-are-all = told .conflicts named (told .nameless named ∙ free)
+  named : AllNamed (boxOn xs) (length xs)
+  named = proper-to rs ms k fits i (omega arith) law before .named
 
-      -- and its context
-      pub told-context : t .context ≡ context (boxOn (xs ++ (e ∷ []))) (length xs)
-      told-context = told .context named (named-version xs e free)
+  pub next-nameless : t .nameless ≡ nameless rs ms i
+  next-nameless = told .nameless named
+
+  pub taken : t .nameless ≡ false → Taken rs ms i t
+  taken h =
+      let own : nameless rs ms i ≡ false = sym next-nameless ∙ h in
+      let free = passed-one-more rs ms i own before in
+      record {
+        free = free;
+        turn = turn-to rs ms k fits (i + 1) (omega arith) law free;
+        conflicts = told .conflicts named h;
+        context = told .context named (named-version xs (recordAt rs (getD ms i 0)) own);
+      }

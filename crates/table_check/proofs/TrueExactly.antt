@@ -234,7 +234,8 @@ module _ (t : Tables) where
       | inl q ↦
           (let (less, place) = entered-at-place t (entered t s) p l q in
           subst (λ (x : ℕ). named? x ≡ true) place
-          (all-at (c .objects) (λ o. named? (placeAt (t .objects) o)) h (length (creates (editsOf (t .records) p))) less))
+          (all-at (c .objects) (λ o. named? (placeAt (t .objects) o)) h
+          (length (creates (editsOf (t .records) p))) less))
       | inr q ↦ unfold isNamedAt in rw q
     ])
 
@@ -242,7 +243,8 @@ module _ (t : Tables) where
     unfolding rowsStand rowsTrue
     rows-stand =
         let named = named-by-boxes (t .records) (c .sites) (c .records) (s .pass) in
-        same-test (all (c .objects) (rowStands t)) (recordsNamed (t .records) (c .records) && all (c .objects) (rowTrue t))
+        same-test (all (c .objects) (rowStands t))
+        (recordsNamed (t .records) (c .records) && all (c .objects) (rowTrue t))
         (λ h.
         let at : (o : ℕ) → o < c .objects → (named? (placeAt (t .objects) o) ≡ true) × (rowTrue t o ≡ true)
         = λ o l. both (named? (placeAt (t .objects) o)) (rowTrue t o) (all-at (c .objects) (rowStands t) h o l) in

@@ -222,7 +222,8 @@ fn is_row_true(
     requires { ⌜ (soundButNamed (tablesOf c (now records) (now objects) (now groups)) ≡ true)
         × (o < c .objects)
         × Chained (now records) (c .records) (now chain) ⌝ }
-    ensures { λ r. ⌜ r ≡ rowStands (tablesOf c (now (records .entry)) (now (objects .entry)) (now (groups .entry))) o ⌝ }
+    ensures { λ r.
+        ⌜ r ≡ rowStands (tablesOf c (now (records .entry)) (now (objects .entry)) (now (groups .entry))) o ⌝ }
 {
     let at = o * ENTRY;
     let p = at16(objects, at);

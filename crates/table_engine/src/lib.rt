@@ -85,7 +85,13 @@ fn put_masks(recs: &[u8], places: &[u16], k: usize, masks: &mut [u64])
         × Asc Tells (setsIn (now recs) (now places) k) ⌝ }
     ensures { λ r. ⌜ MaskedTo k (setsIn (now (recs .entry)) (now (places .entry)) k) (now (masks .exit)) ⌝ }
 {
-    if group_limited::is_any_limited(recs, places, k) {
+    let limited = group_limited::is_any_limited(recs, places, k);
+    // in two places, so that the work space of the rows is no part of that in which soundness is tested
+    if limited & (k == DECIDED) {
+        put_by_rows(recs, places, k, masks);
+        return;
+    }
+    if limited {
         put_by_rows(recs, places, k, masks);
         return;
     }

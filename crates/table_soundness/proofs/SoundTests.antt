@@ -9,7 +9,7 @@ use lib.ListN.{getD, length}
 use borrow.Author.Tests.{eqb-true, leb-true, lt-ltb, le-ltb, le-leb, lt-leb, not-false}
 use Rattle.math_lists.specs.NumbersBelow.{all, sum}
 use Rattle.math_lists.proofs.Booleans.{clash, off, both}
-use Rattle.math_lists.proofs.NumbersBelow.{all-on, all-same, all-at}
+use Rattle.math_lists.proofs.NumbersBelow.{all-on, all-same}
 use Rattle.edit_record.specs.Layout.{mostSites, placeLength}
 use Rattle.edit_record.proofs.WellFormed.{set-aimed}
 use Rattle.edit_history.specs.Answers2to5.{recordsPass}

@@ -34,23 +34,28 @@ slice-aggregate-are-named-last-4 c = search needs
 slice-aggregate-are-named-last-5 : tie.Need-slice-aggregate-are-named-last-5
 slice-aggregate-are-named-last-5 c = search needs
 
-some : (x : tie.After-is-limited-held) → not (x .is-limited-held .result) ≡ false → 0 < x .before .before .before .args .n
+some : (x : tie.After-is-limited-held) → not (x .is-limited-held .result) ≡ false →
+    0 < x .before .before .before .args .n
 some x left =
     let h = x .is-limited-held in
     let a = x .before .before .before .args in
     some-limited (a .recs .now) (a .n) (sym (h .ensures) ∙ not-false (h .result) left)
 
 sub-are-named-last : tie.Need-sub-are-named-last
-sub-are-named-last c = some (c .before .before .before .before .before .before) (c .before .before .before .before .before .if1 .left)
+sub-are-named-last c =
+    let f = c .before .before .before .before .before in
+    some (f .before) (f .if1 .left)
 
 are-named-last-requires : tie.Need-are-named-last-requires
 are-named-last-requires c κs =
     let s = c .before .before .before .before .before .before .before .before .before in
-    let more = some (c .before .before .before .before .before .before) (c .before .before .before .before .before .if1 .left) in
+    let f = c .before .before .before .before .before in
+    let more = some (f .before) (f .if1 .left) in
     (s .pre .0, omega (arith, more), s .pre .1, search needs, search needs, search needs, search needs, search needs)
 
 returns-2 : tie.Need-returns-2
-returns-2 c sites few pass index = c .before .before .before .before .before .are-named-last .ensures sites few pass index .0
+returns-2 c sites few pass index =
+    c .before .before .before .before .before .are-named-last .ensures sites few pass index .0
 
 pub are-all-named-spec : {M : Type 1} → statement M
 are-all-named-spec =

@@ -120,7 +120,8 @@ returns-3 c chained law =
     (subst (Lawful (boxOn ms)) size (law (e .site) (e .seq))) in
     let by = named .ensures .1 lawful in (
       rw create (by .named ∙ ap namedInTurn same),
-      λ asked h create. told-of rs (g .last .0) (g .result) ms same size (named .result) _ _ _ _ (named .ensures .0) by h,
+      λ asked h create.
+          told-of rs (g .last .0) (g .result) ms same size (named .result) _ _ _ _ (named .ensures .0) by h,
     )
 
 pub are-named-at-spec : {M : Type 1} → statement M

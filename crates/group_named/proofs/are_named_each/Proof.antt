@@ -47,7 +47,8 @@ swapped-requires c κs = search needs
 are-named-at-requires : tie.Need-are-named-at-requires Inv-loop μ-loop
 are-named-at-requires c κs =
     let l = c .before .before .before .before .before .before .before .loop in
-    let s = c .before .before .before .before .before .before .before .before .before .before .before .before .before .before .before in
+    let back = c .before .before .before .before .before .before .before .before in
+    let s = back .before .before .before .before .before .before .before in
     let w = c .before .before .before .before .before .swapped in
     let more = c .before .before .before .before .before .before .loop-test .taken in (
       s .pre .0,
@@ -70,8 +71,10 @@ loop-again : tie.Need-loop-again Inv-loop μ-loop
 unfolding all
 loop-again c =
     let t = c .before .before .before .before .before .before .before .before .before .before .are-named-at in
-    let w = c .before .before .before .before .before .before .before .before .before .before .before .before .before .before .before .before .swapped in
-    let y = c .before .before .before .before .before .before .before .before .before .before .before .before .before .before .before .before .before in
+    let back = c .before .before .before .before .before .before .before .before in
+    let far = back .before .before .before .before .before .before .before .before in
+    let w = far .swapped in
+    let y = far .before in
     let l = y .before .loop in
     let s = y .before .before .before .before .before .before .before .before .before in (
       omega (arith, y .loop-test .taken),

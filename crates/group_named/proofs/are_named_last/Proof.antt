@@ -42,8 +42,10 @@ same-length-5 c = search needs
 returns : tie.Need-returns
 returns c sites few pass index =
     let each = c .before .before .before .before .before .before .before .before .before .before .are-named-each in
-    let made = c .before .before .before .before .before .before .before .before .before .before .before .before .before .before .before .before .before .before .chain-sets in
-    let a = c .before .before .before .before .before .before .before .before .before .before .before .before .before .before .before .before .before .before .before .before .before .before .before .before .before .before .before .args in
+    let back = c .before .before .before .before .before .before .before .before in
+    let far = back .before .before .before .before .before .before .before .before in
+    let made = far .before .before .chain-sets in
+    let a = far .before .before .before .before .before .before .before .before .before .before .before .args in
     let rs = a .recs .now in
     let chained = made .ensures index (aimed rs sites (a .n) pass) in
     let (named, told) = each .ensures chained (in-order-table sites few rs (a .n) pass .lawful) in

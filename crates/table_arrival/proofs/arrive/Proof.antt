@@ -127,7 +127,8 @@ judge-requires : tie.Need-judge-requires
 judge-requires c κs =
     let n = c .before .before .before .before .before .before in
     let (long, _) = timely n (c .before .before .before .before .before .if2 .left) in
-    (held n, n .before .before .before .before .is-sound-but-named .ensures .1 (yes n), long, c .before .before .survey .ensures)
+    let y = n .before .before .before .before .is-sound-but-named in
+    (held n, y .ensures .1 (yes n), long, c .before .before .survey .ensures)
 
 same-length-7 : tie.Need-same-length-7
 same-length-7 c = search needs
@@ -177,8 +178,9 @@ returns-4 : tie.Need-returns-4
 unfolding arrivalOf
 returns-4 c =
     let z = c .before .before .before .before .before .before in
-    let j = z .before .before .before .before .before .before .before .judge in
-    let n = z .before .before .before .before .before .before .before .before .before .before .before .before .before .before in
+    let back = z .before .before .before .before .before .before .before in
+    let j = back .judge in
+    let n = back .before .before .before .before .before .before .before in
     let y = n .before .before .before .before .is-sound-but-named in
     let on = not-false (j .result .named) (z .before .before .before .before .before .if3 .left) in
     rw

@@ -1,4 +1,5 @@
--- `table_check::is_row_true` meets its contract; having seen goes through among the Sets, as `work_out` asks. Assumes nothing.
+-- `table_check::is_row_true` meets its contract; having seen goes through among the Sets, as `work_out` asks.
+-- Assumes nothing.
 use Prim.Native.Nat.{_≤_}
 use native.Mathlib.Omega.{arith}
 use lib.ListN.{length}

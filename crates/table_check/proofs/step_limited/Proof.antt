@@ -12,11 +12,11 @@ use Rattle.edit_history.specs.EditsHeld.{recordAt}
 use Rattle.group_step.specs.GroupRows.{mostGroups}
 use Rattle.group_limited.specs.LimitedForms.{setsIn, mostRecent, SeesTell, RowsTell, ToldOf}
 use Rattle.group_limited.proofs.RowsInPlaces.{no-rows, rows-more, none-sees, sees-more}
-use Rattle.group_limited.proofs.NamedInTurn.{nameless, lawful-to, passed-one-more}
+use Rattle.group_limited.proofs.NamedInTurn.{nameless, lawful-to}
 use Rattle.table_check.specs.CheckForms.{groupsIn}
 use Rattle.table_check.proofs.RowWorkedOut.{groups-none, stepped, in-ascending, in-below, in-apart, in-more}
 use Rattle.table_check.proofs.RowWorkedOut.{settled-front}
-use Rattle.table_check.proofs.SetsInTurn.{turn-to, next-nameless, told-are-all, told-context}
+use Rattle.table_check.proofs.SetsInTurn.{Taken, taken, next-nameless, turn-to}
 use borrow.Author.Needs.{needs}
 use Rattle.table_check.proofs.step_limited.Statement.{statement}
 use Rattle.table_check.proofs.step_limited.Tie as tie
@@ -53,39 +53,31 @@ loop-holds c =
       λ j l. absurd (omega arith),
     )
 
--- ---- what is known once the next Set is told
-
-told-next :
+-- what is known once the next Set is told
+next-told :
     (b : tie.After-told-at Inv-loop μ-loop) →
-    let l = b .before .before .before .before .before .before .loop in
-    let a = b .before .before .before .before .before .before .before .before .before .before .before .before .before .before .args in
-    ToldOf (setsIn (now (a .recs)) (now (a .places)) (l .i))
-    (recordAt (now (a .recs)) (getD (now (a .places)) (l .i) 0)) (b .told-at .result)
-told-next b =
+    let t = b .told-at .result in
+    let y = b .before .before .before .before .before .before in
+    let rs = now (y .before .before .before .before .before .before .before .before .args .recs) in
+    let ps = now (y .before .before .before .before .before .before .before .before .args .places) in
+    let i = y .loop .i in
+    ToldOf (setsIn rs ps i) (recordAt rs (getD ps i 0)) t
+    × (t .nameless ≡ nameless rs ps i)
+    × (t .nameless ≡ false → Taken rs ps i t)
+next-told b =
     let y = b .before .before .before .before .before in
     let l = y .before .loop in
     let s = y .before .before .before .before .before .before .before .before .before in
     let a = s .args in
     let rs = now (a .recs) in
     let ps = now (a .places) in
-    let e = recordAt rs (getD ps (l .i) 0) in
-    b .told-at .ensures .1 (l .inv .8) (lawful-to rs ps (a .k) (s .pre .5) (l .i) (omega arith) e refl (s .pre .7))
-    (l .inv .7)
-
-nameless-next :
-    (b : tie.After-told-at Inv-loop μ-loop) →
-    let l = b .before .before .before .before .before .before .loop in
-    let a = b .before .before .before .before .before .before .before .before .before .before .before .before .before .before .args in
-    b .told-at .result .nameless ≡ nameless (now (a .recs)) (now (a .places)) (l .i)
-nameless-next b =
-    let y = b .before .before .before .before .before in
-    let l = y .before .loop in
-    let s = y .before .before .before .before .before .before .before .before .before in
-    let a = s .args in
-    let rs = now (a .recs) in
-    let ps = now (a .places) in
-    next-nameless rs ps (a .k) (s .pre .5) (l .i) (omega arith) (recordAt rs (getD ps (l .i) 0)) refl (s .pre .7)
-    (l .inv .9) (b .told-at .result) (told-next b)
+    let t = b .told-at .result in
+    let law = lawful-to rs ps (a .k) (s .pre .5) (l .i) (omega arith) _ refl (s .pre .7) in
+    let told = b .told-at .ensures .1 (l .inv .8) law (l .inv .7) in (
+      told,
+      next-nameless rs ps (a .k) (s .pre .5) (l .i) (omega arith) (s .pre .7) (l .inv .9) t told,
+      taken rs ps (a .k) (s .pre .5) (l .i) (omega arith) (s .pre .7) (l .inv .9) t told,
+    )
 
 mul-told-at : tie.Need-mul-told-at Inv-loop μ-loop
 mul-told-at c = search needs
@@ -124,17 +116,18 @@ same-length-4 c = search needs
 
 returns : tie.Need-returns Inv-loop μ-loop
 returns c =
-    let b = c .before in
-    let y = b .before .before .before .before .before in
+    let l = c .before .before .before .before .before .before .before .loop in
+    let (_, own, _) = next-told (c .before) in
     record {
       few = λ h. absurd (omega arith);
-      many = λ h turn. clash (sym (nameless-next b) ∙ c .if1 .taken) (turn .named (y .before .loop .i) (omega arith));
+      many = λ h turn. clash (sym own ∙ c .if1 .taken) (turn .named (l .i) (omega arith));
     }
 
 step-apart-requires : tie.Need-step-apart-requires Inv-loop μ-loop
 step-apart-requires c κs =
-    let l = c .before .before .before .before .before .before .before .before .loop in
-    let a = c .before .before .before .before .before .before .before .before .before .before .before .before .before .before .before .before .args in (
+    let y = c .before .before .before .before .before .before .before .before in
+    let l = y .loop in
+    let a = y .before .before .before .before .before .before .before .before .args in (
       l .inv .1,
       l .inv .2,
       omega arith,
@@ -158,29 +151,22 @@ same-length-8 c = search needs
 returns-2 : tie.Need-returns-2 Inv-loop μ-loop
 returns-2 c =
     let b = c .before .before .before .before .before .before in
+    let (_, _, taken-next) = next-told b in
+    let x = taken-next (c .before .before .before .before .before .if1 .left) in
     let y = b .before .before .before .before .before in
     let l = y .before .loop in
     let s = y .before .before .before .before .before .before .before .before .before in
     let a = s .args in
     let rs = now (a .recs) in
     let ps = now (a .places) in
-    let e = recordAt rs (getD ps (l .i) 0) in
-    let free = passed-one-more rs ps (l .i) (sym (nameless-next b) ∙ c .before .before .before .before .before .if1 .left) (l .inv .9) in
-    let w = turn-to rs ps (a .k) (s .pre .5) (l .i + 1) (omega arith) (s .pre .7) free in
-    let fits : l .i + 1 ≤ length ps = omega (arith, s .pre .5) in
-    let all = told-are-all rs ps (l .i + 1) fits (l .i) (omega arith) e refl w (b .told-at .result) (told-next b) in
     let next = stepped rs ps (l .i) (l .n) (l .gs) (omega arith)
-    (none-itself _ (w .proper (l .i + 1) (omega arith))) (l .inv .3) e refl _ all in
+    (none-itself _ (x .turn .proper (l .i + 1) (omega arith))) (l .inv .3) _ refl _ (x .conflicts) in
     let r = c .before .before .before .step-apart in
     record {
       few = λ h. absurd (omega arith);
-      many =
-          λ h turn. omega (
-            arith,
-            r .ensures .0,
-            ap length next,
-            in-more rs ps (l .i + 1) (a .k) (omega arith) (none-itself _ (turn .proper (a .k) (omega arith))),
-          );
+      many = λ h turn.
+          let irr = none-itself _ (turn .proper (a .k) (omega arith)) in
+          omega (arith, r .ensures .0, ap length next, in-more rs ps (l .i + 1) (a .k) (omega arith) irr);
     }
 
 put-told-requires : tie.Need-put-told-requires Inv-loop μ-loop
@@ -188,8 +174,7 @@ put-told-requires c κs =
     let b = c .before .before .before .before .before .before .before .before in
     let y = b .before .before .before .before .before in
     let l = y .before .loop in
-    let s = y .before .before .before .before .before .before .before .before .before in
-    let a = s .args in (
+    let s = y .before .before .before .before .before .before .before .before .before in (
       omega (arith, s .pre .6, y .loop-test .taken),
       omega (arith, l .inv .4, s .pre .2, y .loop-test .taken),
       omega (arith, l .inv .5, s .pre .3, y .loop-test .taken),
@@ -198,25 +183,22 @@ put-told-requires c κs =
 
 mul-sees : tie.Need-mul-sees Inv-loop μ-loop
 mul-sees c =
-    let back = c .before .before .before .before .before .before .before .before in
-    let far = back .before .before .before .before .before .before .before .before in
-    let y = far .before .before in
+    let back = c .before .before .before .before .before .before .before .before .before in
+    let y = back .before .before .before .before .before .before .before .before .before in
     let s = y .before .before .before .before .before .before .before .before .before in
     record { fits = omega (arith, y .loop-test .taken, s .pre .6) }
 
 slice-write-sees : tie.Need-slice-write-sees Inv-loop μ-loop
 slice-write-sees c =
-    let back = c .before .before .before .before .before .before .before .before in
-    let far = back .before .before .before .before .before .before .before .before in
-    let y = far .before .before in
+    let back = c .before .before .before .before .before .before .before .before .before in
+    let y = back .before .before .before .before .before .before .before .before .before in
     let s = y .before .before .before .before .before .before .before .before .before in
     omega (arith, y .before .loop .inv .6, s .pre .4, y .loop-test .taken)
 
 add-i : tie.Need-add-i Inv-loop μ-loop
 add-i c =
-    let back = c .before .before .before .before .before .before .before .before in
-    let b = back .before .before .before .before .before in
-    let y = b .before .before .before .before .before in
+    let back = c .before .before .before .before .before .before .before .before .before in
+    let y = back .before .before .before .before .before .before .before .before .before in
     let s = y .before .before .before .before .before .before .before .before .before in
     omega (arith, y .loop-test .taken, s .pre .6)
 
@@ -227,23 +209,20 @@ loop-again : tie.Need-loop-again Inv-loop μ-loop
 loop-again c =
     let p = c .before .before .before .before .put-told in
     let f = c .before .before .before .before .before .before .before .if2 in
-    let r = c .before .before .before .before .before .before .before .before .before .before .step-apart in
-    let b = c .before .before .before .before .before .before .before .before .before .before .before .before .before in
+    let back = c .before .before .before .before .before .before .before .before .before .before in
+    let r = back .step-apart in
+    let b = back .before .before .before in
     let t = b .told-at .result in
-    let told = told-next b in
+    let (told, _, taken-next) = next-told b in
+    let x = taken-next (back .before .before .if1 .left) in
     let y = b .before .before .before .before .before in
     let l = y .before .loop in
     let s = y .before .before .before .before .before .before .before .before .before in
     let a = s .args in
     let rs = now (a .recs) in
     let ps = now (a .places) in
-    let e = recordAt rs (getD ps (l .i) 0) in
-    let free = passed-one-more rs ps (l .i) (sym (nameless-next b) ∙ c .before .before .before .before .before .before .before .before .before .before .before .before .if1 .left) (l .inv .9) in
-    let w = turn-to rs ps (a .k) (s .pre .5) (l .i + 1) (omega arith) (s .pre .7) free in
-    let fits : l .i + 1 ≤ length ps = omega (arith, s .pre .5) in
-    let all = told-are-all rs ps (l .i + 1) fits (l .i) (omega arith) e refl w (b .told-at .result) (told-next b) in
     let next = stepped rs ps (l .i) (l .n) (l .gs) (omega arith)
-    (none-itself _ (w .proper (l .i + 1) (omega arith))) (l .inv .3) e refl _ all in (
+    (none-itself _ (x .turn .proper (l .i + 1) (omega arith))) (l .inv .3) _ refl _ (x .conflicts) in (
       omega arith,
       r .kept .0 ∙ l .inv .1,
       omega (arith, f .left),
@@ -252,11 +231,10 @@ loop-again c =
       p .kept .1 .0 ∙ l .inv .5,
       length-set (l .sees) (l .i % mostRecent) (t .seen) ∙ l .inv .6,
       rows-more rs ps (l .i) (omega arith) (t .row) (t .context) (l .plain) (l .ctx) (p .last .0) (p .last .1 .0)
-          (l .inv .7) (told .row)
-          (told-context rs ps (l .i + 1) fits (l .i) (omega arith) e refl w t told) (p .ensures),
+          (l .inv .7) (told .row) (x .context) (p .ensures),
       sees-more rs ps (l .i) (omega arith) (l .sees) (t .seen) (l .inv .8) (told .seen)
           (omega (arith, l .inv .6, s .pre .4)),
-      free,
+      x .free,
     )
 
 same-length-9 : tie.Need-same-length-9 Inv-loop μ-loop

@@ -41,7 +41,8 @@ same-length-2 c = search needs
 returns-2 : tie.Need-returns-2
 returns-2 c =
     let y = c .before .before .before .before .before .before .is-sound-but-named in
-    let t = tables-of (c .before .before .before .before .before .before .before .before .before .before .before .before) in
+    let back = c .before .before .before .before .before .before .before .before in
+    let t = tables-of (back .before .before .before .before) in
     let yes = not-false (y .result) (c .before .before .before .if1 .left) in
     let s = but-at t (sym (y .ensures .0) ∙ yes) in
     let indexed = y .ensures .1 yes in

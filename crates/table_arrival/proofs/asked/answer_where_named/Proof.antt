@@ -1,7 +1,5 @@
 -- `table_arrival::asked::answer_where_named` meets its contract. Assumes nothing.
-use mathlib.Core.Path.{_≡_, sym, ap, _∙_}
-use mathlib.Core.Bool.{Bool, true, false, cond}
-use Prim.Native.Nat.{ℕ}
+use mathlib.Core.Path.{_≡_, sym, _∙_}
 use denote.Ref.{now}
 use Rattle.edit_history.specs.Answer16.{recordsNamed}
 use borrow.Author.Needs.{needs}

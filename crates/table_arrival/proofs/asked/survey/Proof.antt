@@ -33,7 +33,8 @@ survey-held-requires c κs =
 returns-2 : tie.Need-returns-2
 unfolding surveyOf
 returns-2 c =
-    let v = c .survey-held .ensures (sym (c .before .if2 .taken) ∙ c .before .before .before .before .aim-of .ensures .0) in
+    let a = c .before .before .before .before .aim-of in
+    let v = c .survey-held .ensures (sym (c .before .if2 .taken) ∙ a .ensures .0) in
     record { torn = rw v; found = rw v; whole = λ y. v }
 
 survey-held-requires-2 : tie.Need-survey-held-requires-2
@@ -45,7 +46,8 @@ survey-held-requires-2 c κs =
 returns-3 : tie.Need-returns-3
 unfolding surveyOf
 returns-3 c =
-    let v = c .survey-held2 .ensures (sym (c .before .if2 .left) ∙ c .before .before .before .before .aim-of .ensures .0) in
+    let a = c .before .before .before .before .aim-of in
+    let v = c .survey-held2 .ensures (sym (c .before .if2 .left) ∙ a .ensures .0) in
     record { torn = rw v; found = rw v; whole = λ y. v }
 
 pub survey-spec : {M : Type 1} → statement M

@@ -68,8 +68,9 @@ returns-3 c =
     let a = s .args in
     let h = s .pre .0 in
     let e = decodeOf (now (a .rec)) in
+    let kind = c .before .before .before .before .before .before .byte-at in
     let first : (a .v .found && isLimited e) ≡ false
-    = ap (λ (x : ℕ). a .v .found && eqb x limitedKind) (sym (c .before .before .before .before .before .before .byte-at .ensures))
+    = ap (λ (x : ℕ). a .v .found && eqb x limitedKind) (sym (kind .ensures))
     ∙ c .before .before .before .before .if1 .left in
     record {
       named = c .are-all-named .ensures (a .c .sites) (h .few-sites) (h .pass) (s .pre .1);

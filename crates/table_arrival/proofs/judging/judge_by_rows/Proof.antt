@@ -1,5 +1,5 @@
--- `table_arrival::judging::judge_by_rows` meets its contract: the rows that are left are those of the edit's box. Assumes
--- nothing.
+-- `table_arrival::judging::judge_by_rows` meets its contract: the rows that are left are those of the edit's box.
+-- Assumes nothing.
 use mathlib.Core.Path.{_≡_, ap, _∙_}
 use mathlib.Core.Bool.{true}
 use Prim.Native.Nat.{_≤_}
@@ -74,7 +74,8 @@ are-named-last-requires c κs =
 
 -- what is left, where 16 is given to no record
 left-told : (y : tie.After-are-named-last) → y .are-named-last .result ≡ true →
-    let a = y .before .before .before .before .before .before .before .before .before .before .before .before .before .args in
+    let back = y .before .before .before .before .before .before .before .before in
+    let a = back .before .before .before .before .before .args in
     let e = decodeOf (now (a .rec)) in
     let l = y .are-named-last .last in
     SetsTold (now (a .recs)) (setsOn (e .tsite) (e .tseq) (editsOf (now (a .recs)) (a .c .records)))
@@ -90,7 +91,8 @@ left-told y on =
 returns : tie.Need-returns
 returns c =
     let y = c .before .before .before .before .before .before in
-    let s = y .before .before .before .before .before .before .before .before .before .before .before .before .before in
+    let x = y .before .before .before .before .before .before .before in
+    let s = x .before .before .before .before .before .before in
     let h = s .pre .0 in
     let named = y .are-named-last in
     record {
@@ -116,25 +118,28 @@ slice-aggregate-judge-5 c = search needs
 judge-requires : tie.Need-judge-requires
 judge-requires c κs =
     let y = c .before .before .before .before .before .before .before .before .before .before .before in
-    let s = y .before .before .before .before .before .before .before .before .before .before .before .before .before in
+    let x = y .before .before .before .before .before .before .before in
+    let s = x .before .before .before .before .before .before in
     let a = s .args in
     let (h, ix, _, held, many) = s .pre in
     let e = decodeOf (now (a .rec)) in
     let few : a .k ≤ mostSets = rw many (h .few-sets (e .tsite) (e .tseq)) in
-    let told = left-told y (not-false (y .are-named-last .result) (c .before .before .before .before .before .if1 .left)) in (
+    let on = not-false (y .are-named-last .result) (c .before .before .before .before .before .if1 .left) in
+    let told = left-told y on in (
       few,
       search (needs, few),
       search (needs, few),
       search (needs, few),
       search (needs, few),
       search (needs, few),
-      names-told (a .c) (now (a .recs)) h (now (a .places)) ix e held _ (placed (y .before .before .before .before .before .before .before)) (a .k) many _ _ _ _ _ told,
+      names-told (a .c) (now (a .recs)) h (now (a .places)) ix e held _ (placed x) (a .k) many _ _ _ _ _ told,
     )
 
 returns-2 : tie.Need-returns-2
 returns-2 c =
     let y = c .before .before .before .before .before .before .before .before .before .before .before .before in
-    let s = y .before .before .before .before .before .before .before .before .before .before .before .before .before in
+    let x = y .before .before .before .before .before .before .before in
+    let s = x .before .before .before .before .before .before in
     let a = s .args in
     let (h, ix, _, held, many) = s .pre in
     let e = decodeOf (now (a .rec)) in
@@ -142,7 +147,7 @@ returns-2 c =
     record {
       named = named .ensures (a .c .sites) (h .few-sites) (h .pass) ix .0;
       judged = λ on.
-          judged-told (a .c) (now (a .recs)) h (now (a .places)) ix e held _ (placed (y .before .before .before .before .before .before .before)) (a .k) many _ _ _ _ _
+          judged-told (a .c) (now (a .recs)) h (now (a .places)) ix e held _ (placed x) (a .k) many _ _ _ _ _
           (left-told y on) (c .judge .result) (c .judge .ensures);
     }
 
