@@ -14,12 +14,12 @@ use Rattle.edit_history.specs.EditsHeld.{recordAt}
 use Rattle.edit_walk.specs.WalkForms.{placesLength, slotOf, placeOf, Spaced, SameStarts, countIn}
 use Rattle.table_drawing.specs.Tables.{Tables, tablesOf}
 use Rattle.table_drawing.specs.AnswerNumbers.{outcomeOf}
-use Rattle.table_soundness.proofs.SoundFacts.{Sound, sound-at}
+use Rattle.table_soundness.proofs.SoundFacts.{sound-at}
 use Rattle.table_index.specs.IndexForms.{numberAt, IndexOf, Holds, countersOf, linkedIn}
 use Rattle.table_index.proofs.OneRecordMore.{spot-low, starts-kept, create-added, place-added, set-added, target-at}
 use Rattle.table_index.proofs.OneRecordMore.{on-target}
 use Rattle.table_arrival.specs.Arrival.{acceptanceOf}
-use Rattle.table_arrival.proofs.Admitted.{Admitted, admitted, accepted, was-taken}
+use Rattle.table_arrival.proofs.Admitted.{accepted, was-taken}
 use Rattle.table_arrival.proofs.CodeOutcomes.{count-room}
 use Rattle.table_arrival.proofs.RecordsOneMore.{put-here}
 use Rattle.table_plain.specs.TakingForms.{TakesShort, LeavesShort, spotOf, Enters}

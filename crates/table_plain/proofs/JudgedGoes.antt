@@ -1,6 +1,6 @@
 -- A Set that was judged by the rows of its box: what the code asks to store it, and what it leaves is what taking it
 -- leaves, with the index of the tables after it. Assumes nothing.
-use mathlib.Core.Path.{_≡_, refl, _∙_}
+use mathlib.Core.Path.{_≡_, refl}
 use mathlib.Core.Bool.{true, false}
 use mathlib.Core.List.{List}
 use Prim.Native.Nat.{ℕ, _+_, _≤_, _<_}

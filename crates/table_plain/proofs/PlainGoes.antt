@@ -134,11 +134,14 @@ module _
     module _ (st : StoredBeside n m e r true os gs ns cs hs os′ gs′ ns′ cs′ hs′) where
       pub enters : Enters held n ps b
       enters = elim (decide (eqb (e .kind) setKind)) [
-        | inl k ↦ enter-asks sites n m sum held rs os gs ps ns cs hs b p _ (set-stored t b s whole (p .few) ps ns cs r f (set-by-kind k) (st .of-set k .1
+        | inl k ↦ enter-asks sites n m sum held rs os gs ps ns cs hs b p _ (set-stored t b s whole (p .few) ps ns
+            cs r f (set-by-kind k) (st .of-set k .1
             refl .0))
         | inr k ↦ elim (decide (isCreate e)) [
-          | inl c ↦ enter-asks sites n m sum held rs os gs ps ns cs hs b p _ (create-stored t b s whole (p .few) ps ns cs r f c)
-          | inr c ↦ enter-asks sites n m sum held rs os gs ps ns cs hs b p _ (layer-stored t b s whole (p .few) ps ns cs r f c (no-set-by-kind k))
+          | inl c ↦ enter-asks sites n m sum held rs os gs ps ns cs hs b p _ (create-stored t b s whole (p .few) ps
+              ns cs r f c)
+          | inr c ↦ enter-asks sites n m sum held rs os gs ps ns cs hs b p _ (layer-stored t b s whole (p .few) ps
+              ns cs r f c (no-set-by-kind k))
         ]
       ]
 
@@ -160,7 +163,8 @@ module _
             let (_, g, d, h) = st .no-set k in
             let (o, a) = st .of-create c in
             rw (bumped, put, placed, made, added, o, g, a, d, h, c)
-            (create-leaves sites n m sum held rs os gs ps ns cs hs b p _ (create-stored t b s whole (p .few) ps ns cs r f c) c)
+            (create-leaves sites n m sum held rs os gs ps ns cs hs b p _ (create-stored t b s whole (p .few) ps ns
+            cs r f c) c)
 
         layer-left : isCreate e ≡ false → eqb (e .kind) setKind ≡ false → Left
         layer-left c k =
@@ -168,7 +172,8 @@ module _
             let (o, a) = st .of-layer c k in
             let no-set = no-set-by-kind k in
             rw (bumped, put, placed, made, added, o, g, a, d, h, c)
-            (layer-leaves sites n m sum held rs os gs ps ns cs hs b p _ (layer-stored t b s whole (p .few) ps ns cs r f c no-set) c no-set)
+            (layer-leaves sites n m sum held rs os gs ps ns cs hs b p _ (layer-stored t b s whole (p .few) ps ns cs
+            r f c no-set) c no-set)
 
         set-left : eqb (e .kind) setKind ≡ true → Left
         set-left k =
@@ -177,7 +182,8 @@ module _
             let (few, o, a, d, h) = fits refl in
             let no-create : isCreate e ≡ false = rw (eqb-true (e .kind) setKind k) refl in
             rw (bumped, put, placed, made, added, o, g, a, d, h, no-create)
-            (rw (set-kind is) at (set-leaves sites n m sum held rs os gs ps ns cs hs b p _ (set-stored t b s whole (p .few) ps ns cs r f is few) (r .object)
+            (rw (set-kind is) at (set-leaves sites n m sum held rs os gs ps ns cs hs b p _ (set-stored t b s whole
+            (p .few) ps ns cs r f is few) (r .object)
             (f .set is .number) is))
 
         pub stored-left : Left

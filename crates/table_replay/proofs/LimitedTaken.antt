@@ -1,5 +1,5 @@
--- A Set that is judged by what is kept of its box: what the look found of it is its survey, and where it names a version
--- none of 1 to 6 is given to it. Assumes nothing.
+-- A Set that is judged by what is kept of its box: what the look found of it is its survey, and where it names a
+-- version none of 1 to 6 is given to it. Assumes nothing.
 use mathlib.Core.Path.{_≡_, refl, sym, _∙_}
 use mathlib.Core.Bool.{Bool, true, false, _&&_, _||_, cond}
 use mathlib.Core.List.{List, [], _∷_, _++_}
@@ -28,7 +28,7 @@ use Rattle.table_index.specs.IndexForms.{countersOf, MetOf, PassedOf}
 use Rattle.table_index.specs.declared.Looked.{Looked}
 use Rattle.table_index.proofs.LookByIndex.{target-of}
 use Rattle.table_arrival.specs.Answers6and7.{isFull, firstOf, inTurn}
-use Rattle.table_arrival.specs.ArrivalForms.{threeBy, firstToSix, Ready}
+use Rattle.table_arrival.specs.ArrivalForms.{threeBy, firstToSix}
 use Rattle.table_arrival.proofs.CodeInHand.{holds}
 use Rattle.table_arrival.proofs.ProperWith.{judges}
 use Rattle.table_arrival.proofs.SixByCounters.{three-are}

@@ -117,8 +117,8 @@ fn count_stretch(recs: &[u8], form: u8, n: usize) -> [u16; SITES]
     counts
 }
 
-// Takes the first n records of a stretch, one after another, into an empty drawing: an old one as a long one, a long one
-// where it stands. Each goes the short way if it can, else the long one. The index has room for all of them.
+// Takes the first n records of a stretch, one after another, into an empty drawing: an old one as a long one, a long
+// one where it stands. Each goes the short way if it can, else the long one. The index has room for all of them.
 fn take_records(
     sites: u8,
     records: &mut [u8],

@@ -1,5 +1,5 @@
-// The short way of a record: all that is asked of it is asked in one look. Where it or another Set of its box is limited
-// it is judged by what is kept of the box. A record that is not taken here goes the long way, which says why.
+// The short way of a record: all that is asked of it is asked in one look. Where it or another Set of its box is
+// limited it is judged by what is kept of the box. A record that is not taken here goes the long way, which says why.
 use edit_history::Surveyed;
 use edit_record::AT_KIND;
 use edit_record::LIMITED;

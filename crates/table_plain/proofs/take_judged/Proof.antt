@@ -26,25 +26,32 @@ shared-slice-read-kind : tie.Need-shared-slice-read-kind
 shared-slice-read-kind c =
     let s = c .before .before .before .before .before .before .before .before .before .before in
     let a = s .args in
-    let there = judged-there (a .sites) (a .n) (a .m) (a .sum) (now (a .held)) (now (a .records)) (now (a .objects)) (now (a .groups))
-    (now (a .places)) (now (a .numbers)) (now (a .counts)) (now (a .chains)) (now (a .rec)) (s .pre .0) (a .a) (s .pre .1) in
+    let there = judged-there (a .sites) (a .n) (a .m) (a .sum) (now (a .held)) (now (a .records)) (now (a
+    .objects)) (now (a .groups))
+    (now (a .places)) (now (a .numbers)) (now (a .counts)) (now (a .chains)) (now (a .rec)) (s .pre .0) (a .a) (s
+    .pre .1) in
     search (needs, there)
 
 shared-slice-read-key : tie.Need-shared-slice-read-key
 shared-slice-read-key c =
     let s = c .before .before .before .before .before .before .before .before .before .before .before in
     let a = s .args in
-    let there = judged-there (a .sites) (a .n) (a .m) (a .sum) (now (a .held)) (now (a .records)) (now (a .objects)) (now (a .groups))
-    (now (a .places)) (now (a .numbers)) (now (a .counts)) (now (a .chains)) (now (a .rec)) (s .pre .0) (a .a) (s .pre .1) in
+    let there = judged-there (a .sites) (a .n) (a .m) (a .sum) (now (a .held)) (now (a .records)) (now (a
+    .objects)) (now (a .groups))
+    (now (a .places)) (now (a .numbers)) (now (a .counts)) (now (a .chains)) (now (a .rec)) (s .pre .0) (a .a) (s
+    .pre .1) in
     search (needs, there)
 
 store-set-requires : tie.Need-store-set-requires
 store-set-requires c κs =
-    let s = c .before .before .before .before .before .before .before .before .before .before .before .before .before .before .before .before in
+    let s = c .before .before .before .before .before .before .before .before .before .before .before .before
+    .before .before .before .before in
     let a = s .args in (
       s .pre .0 .few,
-      judged-steps (a .sites) (a .n) (a .m) (a .sum) (now (a .held)) (now (a .records)) (now (a .objects)) (now (a .groups))
-          (now (a .places)) (now (a .numbers)) (now (a .counts)) (now (a .chains)) (now (a .rec)) (s .pre .0) (a .a) (s .pre .1),
+      judged-steps (a .sites) (a .n) (a .m) (a .sum) (now (a .held)) (now (a .records)) (now (a .objects)) (now (a
+          .groups))
+          (now (a .places)) (now (a .numbers)) (now (a .counts)) (now (a .chains)) (now (a .rec)) (s .pre .0) (a
+          .a) (s .pre .1),
     )
 
 not-taken-requires : tie.Need-not-taken-requires
@@ -72,32 +79,43 @@ returns c =
     let a = s .args in
     let x = c .not-taken .ensures in
     rw (x .0, x .1, x .2, none-more (a .n))
-    (judged-crowded (a .sites) (a .n) (a .m) (a .sum) (now (a .held)) (now (a .records)) (now (a .objects)) (now (a .groups))
-    (now (a .places)) (now (a .numbers)) (now (a .counts)) (now (a .chains)) (now (a .rec)) (s .pre .0) (a .a) (s .pre .1) _ _ _ _ _
+    (judged-crowded (a .sites) (a .n) (a .m) (a .sum) (now (a .held)) (now (a .records)) (now (a .objects)) (now (a
+    .groups))
+    (now (a .places)) (now (a .numbers)) (now (a .counts)) (now (a .chains)) (now (a .rec)) (s .pre .0) (a .a) (s
+    .pre .1) _ _ _ _ _
     (rw (not-true (w .store-set .result) (c .before .if1 .taken)) at (w .store-set .ensures)))
 
 enter-requires : tie.Need-enter-requires
 enter-requires c κs =
-    let w = c .before .before .before .before .before .before .before .before .before .before .before .before .before in
+    let w = c .before .before .before .before .before .before .before .before .before .before .before .before
+    .before in
     let s = start-of w in
     let a = s .args in (
-      judged-there (a .sites) (a .n) (a .m) (a .sum) (now (a .held)) (now (a .records)) (now (a .objects)) (now (a .groups))
-          (now (a .places)) (now (a .numbers)) (now (a .counts)) (now (a .chains)) (now (a .rec)) (s .pre .0) (a .a) (s .pre .1),
-      judged-enters (a .sites) (a .n) (a .m) (a .sum) (now (a .held)) (now (a .records)) (now (a .objects)) (now (a .groups))
-          (now (a .places)) (now (a .numbers)) (now (a .counts)) (now (a .chains)) (now (a .rec)) (s .pre .0) (a .a) (s .pre .1) _ _ _ _ _
+      judged-there (a .sites) (a .n) (a .m) (a .sum) (now (a .held)) (now (a .records)) (now (a .objects)) (now (a
+          .groups))
+          (now (a .places)) (now (a .numbers)) (now (a .counts)) (now (a .chains)) (now (a .rec)) (s .pre .0) (a
+          .a) (s .pre .1),
+      judged-enters (a .sites) (a .n) (a .m) (a .sum) (now (a .held)) (now (a .records)) (now (a .objects)) (now (a
+          .groups))
+          (now (a .places)) (now (a .numbers)) (now (a .counts)) (now (a .chains)) (now (a .rec)) (s .pre .0) (a
+          .a) (s .pre .1) _ _ _ _ _
           (rw (not-false (w .store-set .result) (c .before .before .if1 .left)) at (w .store-set .ensures)),
     )
 
 put-record-requires : tie.Need-put-record-requires
 put-record-requires c κs =
-    let s = start-of (c .before .before .before .before .before .before .before .before .before .before .before .before .before .before .before .before .before .before .before) in
+    let s = start-of (c .before .before .before .before .before .before .before .before .before .before .before
+    .before .before .before .before .before .before .before .before) in
     let a = s .args in
-    judged-put (a .sites) (a .n) (a .m) (a .sum) (now (a .held)) (now (a .records)) (now (a .objects)) (now (a .groups))
-    (now (a .places)) (now (a .numbers)) (now (a .counts)) (now (a .chains)) (now (a .rec)) (s .pre .0) (a .a) (s .pre .1)
+    judged-put (a .sites) (a .n) (a .m) (a .sum) (now (a .held)) (now (a .records)) (now (a .objects)) (now (a
+    .groups))
+    (now (a .places)) (now (a .numbers)) (now (a .counts)) (now (a .chains)) (now (a .rec)) (s .pre .0) (a .a) (s
+    .pre .1)
 
 sum-record-requires : tie.Need-sum-record-requires
 sum-record-requires c κs =
-    let s = start-of (c .before .before .before .before .before .before .before .before .before .before .before .before .before .before .before .before .before .before .before .before .before .before) in
+    let s = start-of (c .before .before .before .before .before .before .before .before .before .before .before
+    .before .before .before .before .before .before .before .before .before .before .before) in
     omega (arith, s .pre .0 .whole)
 
 added-requires : tie.Need-added-requires
@@ -129,13 +147,17 @@ same-length-13 c = search needs
 
 returns-2 : tie.Need-returns-2
 returns-2 c =
-    let w = c .before .before .before .before .before .before .before .before .before .before .before .before .before .before .before .before .before .before .before .before .before .before .before .before in
+    let w = c .before .before .before .before .before .before .before .before .before .before .before .before
+    .before .before .before .before .before .before .before .before .before .before .before .before in
     let s = start-of w in
     let a = s .args in
     let n = c .before .before .before .before .before .before .before .before .before .before .enter .ensures in
-    judged-left (a .sites) (a .n) (a .m) (a .sum) (now (a .held)) (now (a .records)) (now (a .objects)) (now (a .groups))
-    (now (a .places)) (now (a .numbers)) (now (a .counts)) (now (a .chains)) (now (a .rec)) (s .pre .0) (a .a) (s .pre .1) _ _ _ _ _
-    (rw (not-false (w .store-set .result) (c .before .before .before .before .before .before .before .before .before .before .before .before .before .if1 .left)) at (w .store-set .ensures)) _ _ _ _ _ (n .0)
+    judged-left (a .sites) (a .n) (a .m) (a .sum) (now (a .held)) (now (a .records)) (now (a .objects)) (now (a
+    .groups))
+    (now (a .places)) (now (a .numbers)) (now (a .counts)) (now (a .chains)) (now (a .rec)) (s .pre .0) (a .a) (s
+    .pre .1) _ _ _ _ _
+    (rw (not-false (w .store-set .result) (c .before .before .before .before .before .before .before .before
+    .before .before .before .before .before .if1 .left)) at (w .store-set .ensures)) _ _ _ _ _ (n .0)
     (c .before .before .before .before .put-record .ensures) (n .1) (more-none (a .m))
     (c .added .ensures ∙ ap (λ (k : ℕ). wrapped (a .sum + k)) (c .before .sum-record .ensures))
 

@@ -1,6 +1,6 @@
 -- `table_plain::take_plain` meets its contract: what was found of the record is what taking it needs, and what it
 -- writes is what that leaves. Assumes nothing.
-use mathlib.Core.Path.{_≡_, refl, ap, _∙_}
+use mathlib.Core.Path.{_≡_, ap, _∙_}
 use mathlib.Core.List.{List}
 use Prim.Native.Nat.{ℕ, _+_, _≤_}
 use native.Mathlib.Omega.{arith}
@@ -29,19 +29,23 @@ long-of : (s : tie.Start) → length (now (s .args .rec)) ≡ recordLength
 long-of s =
     let a = s .args in
     long-is (a .sites) (a .n) (a .m) (a .sum) (now (a .held)) (now (a .records)) (now (a .objects)) (now (a .groups))
-    (now (a .places)) (now (a .numbers)) (now (a .counts)) (now (a .chains)) (now (a .rec)) (s .pre .0) (a .a) (s .pre .1)
+    (now (a .places)) (now (a .numbers)) (now (a .counts)) (now (a .chains)) (now (a .rec)) (s .pre .0) (a .a) (s
+    .pre .1)
 
 there : (s : tie.Start) → recordLength ≤ length (now (s .args .rec))
 there s = omega (arith, long-of s)
 
 store-requires : tie.Need-store-requires
 store-requires c κs =
-    let s = c .before .before .before .before .before .before .before .before .before .before .before .before .before .before in
+    let s = c .before .before .before .before .before .before .before .before .before .before .before .before
+    .before .before in
     let a = s .args in (
       s .pre .0 .few,
       there s,
-      store-asks (a .sites) (a .n) (a .m) (a .sum) (now (a .held)) (now (a .records)) (now (a .objects)) (now (a .groups))
-          (now (a .places)) (now (a .numbers)) (now (a .counts)) (now (a .chains)) (now (a .rec)) (s .pre .0) (a .a) (s .pre .1),
+      store-asks (a .sites) (a .n) (a .m) (a .sum) (now (a .held)) (now (a .records)) (now (a .objects)) (now (a
+          .groups))
+          (now (a .places)) (now (a .numbers)) (now (a .counts)) (now (a .chains)) (now (a .rec)) (s .pre .0) (a
+          .a) (s .pre .1),
     )
 
 not-taken-requires : tie.Need-not-taken-requires
@@ -69,36 +73,45 @@ returns c =
     let a = s .args in
     let x = c .not-taken .ensures in
     rw (x .0, x .1, x .2, none-more (a .n))
-    (not-stored (a .sites) (a .n) (a .m) (a .sum) (now (a .held)) (now (a .records)) (now (a .objects)) (now (a .groups))
-    (now (a .places)) (now (a .numbers)) (now (a .counts)) (now (a .chains)) (now (a .rec)) (s .pre .0) (a .a) (s .pre .1) _ _ _ _ _
+    (not-stored (a .sites) (a .n) (a .m) (a .sum) (now (a .held)) (now (a .records)) (now (a .objects)) (now (a
+    .groups))
+    (now (a .places)) (now (a .numbers)) (now (a .counts)) (now (a .chains)) (now (a .rec)) (s .pre .0) (a .a) (s
+    .pre .1) _ _ _ _ _
     (rw (not-true (w .store .result) (c .before .if1 .taken)) at (w .store .ensures)))
 
 enter-requires : tie.Need-enter-requires
 enter-requires c κs =
-    let w = c .before .before .before .before .before .before .before .before .before .before .before .before .before in
+    let w = c .before .before .before .before .before .before .before .before .before .before .before .before
+    .before in
     let s = start-of w in
     let a = s .args in (
       there s,
       enters (a .sites) (a .n) (a .m) (a .sum) (now (a .held)) (now (a .records)) (now (a .objects)) (now (a .groups))
-          (now (a .places)) (now (a .numbers)) (now (a .counts)) (now (a .chains)) (now (a .rec)) (s .pre .0) (a .a) (s .pre .1) _ _ _ _ _
+          (now (a .places)) (now (a .numbers)) (now (a .counts)) (now (a .chains)) (now (a .rec)) (s .pre .0) (a
+          .a) (s .pre .1) _ _ _ _ _
           (rw (not-false (w .store .result) (c .before .before .if1 .left)) at (w .store .ensures)),
     )
 
 whole-of-requires : tie.Need-whole-of-requires
-whole-of-requires c κs = long-of (start-of (c .before .before .before .before .before .before .before .before .before .before .before .before .before .before .before .before .before .before))
+whole-of-requires c κs = long-of (start-of (c .before .before .before .before .before .before .before .before
+    .before .before .before .before .before .before .before .before .before .before))
 
 put-plain-requires : tie.Need-put-plain-requires
 put-plain-requires c κs =
-    let s = start-of (c .before .before .before .before .before .before .before .before .before .before .before .before .before .before .before .before .before .before .before .before) in
+    let s = start-of (c .before .before .before .before .before .before .before .before .before .before .before
+    .before .before .before .before .before .before .before .before .before) in
     (s .pre .0 .few, sound-at _ (s .pre .0 .takes .isSound) .records-long)
 
 taken-requires : tie.Need-taken-requires
 taken-requires c κs =
-    let s = start-of (c .before .before .before .before .before .before .before .before .before .before .before .before .before .before .before .before .before .before .before .before .before .before .before) in
+    let s = start-of (c .before .before .before .before .before .before .before .before .before .before .before
+    .before .before .before .before .before .before .before .before .before .before .before .before) in
     let a = s .args in (
       long-of s,
-      span-is (a .sites) (a .n) (a .m) (a .sum) (now (a .held)) (now (a .records)) (now (a .objects)) (now (a .groups))
-          (now (a .places)) (now (a .numbers)) (now (a .counts)) (now (a .chains)) (now (a .rec)) (s .pre .0) (a .a) (s .pre .1),
+      span-is (a .sites) (a .n) (a .m) (a .sum) (now (a .held)) (now (a .records)) (now (a .objects)) (now (a
+          .groups))
+          (now (a .places)) (now (a .numbers)) (now (a .counts)) (now (a .chains)) (now (a .rec)) (s .pre .0) (a
+          .a) (s .pre .1),
       s .pre .1 .create-room,
     )
 
@@ -128,17 +141,22 @@ same-length-13 c = search needs
 
 returns-2 : tie.Need-returns-2
 returns-2 c =
-    let w = c .before .before .before .before .before .before .before .before .before .before .before .before .before .before .before .before .before .before .before .before .before .before .before .before in
+    let w = c .before .before .before .before .before .before .before .before .before .before .before .before
+    .before .before .before .before .before .before .before .before .before .before .before .before in
     let s = start-of w in
     let a = s .args in
     let put = c .before .before .before .put-plain .ensures
-    ∙ ap (λ (b : List ℕ). putRecord (now (a .records)) (a .n) b) (c .before .before .before .before .before .whole-of .ensures) in
+    ∙ ap (λ (b : List ℕ). putRecord (now (a .records)) (a .n) b) (c .before .before .before .before .before
+    .whole-of .ensures) in
     let n = c .before .before .before .before .before .before .before .before .before .before .enter .ensures in
     let x = c .taken .ensures in
     rw (x .0)
-    (stored-left (a .sites) (a .n) (a .m) (a .sum) (now (a .held)) (now (a .records)) (now (a .objects)) (now (a .groups))
-    (now (a .places)) (now (a .numbers)) (now (a .counts)) (now (a .chains)) (now (a .rec)) (s .pre .0) (a .a) (s .pre .1) _ _ _ _ _
-    (rw (not-false (w .store .result) (c .before .before .before .before .before .before .before .before .before .before .before .before .before .if1 .left)) at (w .store .ensures)) _ _ _ _ _ (n .0) put (n .1)
+    (stored-left (a .sites) (a .n) (a .m) (a .sum) (now (a .held)) (now (a .records)) (now (a .objects)) (now (a
+    .groups))
+    (now (a .places)) (now (a .numbers)) (now (a .counts)) (now (a .chains)) (now (a .rec)) (s .pre .0) (a .a) (s
+    .pre .1) _ _ _ _ _
+    (rw (not-false (w .store .result) (c .before .before .before .before .before .before .before .before .before
+    .before .before .before .before .if1 .left)) at (w .store .ensures)) _ _ _ _ _ (n .0) put (n .1)
     (x .1) (x .2))
 
 pub take-plain-spec : {M : Type 1} → statement M

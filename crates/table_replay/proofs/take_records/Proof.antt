@@ -1,7 +1,7 @@
 -- `table_replay::take_records` meets its contract. Assumes nothing.
 use mathlib.Core.Path.{_≡_, refl, sym, ap, subst, _∙_}
 use mathlib.Core.List.{List}
-use Prim.Native.Nat.{ℕ, _+_, _<_}
+use Prim.Native.Nat.{_+_, _<_}
 use native.Mathlib.Numerals.{add-one}
 use native.Mathlib.Omega.{arith}
 use lib.ListN.{length}
@@ -71,8 +71,12 @@ slice-aggregate-long-in : tie.Need-slice-aggregate-long-in Inv-loop μ-loop
 slice-aggregate-long-in c = search needs
 
 long-in-requires : tie.Need-long-in-requires Inv-loop μ-loop
-long-in-requires c κs =
-    (lent-long (c .before .before .before .before), c .before .before .length-from .ensures, c .before .widened-if .ensures)
+long-in-requires c κs = (
+  lent-long (c .before .before .before .before),
+  c .before .before .length-from .ensures,
+  c .before .widened-if
+      .ensures,
+)
 
 slice-aggregate-take-short : tie.Need-slice-aggregate-take-short Inv-loop μ-loop
 slice-aggregate-take-short c = sym (wide-at (c .before .before .before .before .before .before .before))
@@ -89,15 +93,21 @@ take-short-requires c κs =
 
 add-i : tie.Need-add-i Inv-loop μ-loop
 add-i c =
-    let r = round-of (c .before .before .before .before .before .before .before .before .before .before .before .before .before .before .before .before .before .before .before .before) in
+    let r = round-of (c .before .before .before .before .before .before .before .before .before .before .before
+    .before .before .before .before .before .before .before .before .before) in
     omega (arith, r .loop-test .taken, start-of (r .before) .pre .4)
 
 loop-less : tie.Need-loop-less Inv-loop μ-loop
-loop-less c = omega (arith, round-of (c .before .before .before .before .before .before .before .before .before .before .before .before .before .before .before .before .before .before .before .before) .loop-test .taken)
+loop-less c = omega (
+  arith,
+  round-of (c .before .before .before .before .before .before .before .before .before
+      .before .before .before .before .before .before .before .before .before .before .before) .loop-test .taken,
+)
 
 loop-again : tie.Need-loop-again Inv-loop μ-loop
 loop-again c =
-    let p = c .before .before .before .before .before .before .before .before .before .before .before .before .before .before .before .before .before .before .before .before in
+    let p = c .before .before .before .before .before .before .before .before .before .before .before .before
+    .before .before .before .before .before .before .before .before in
     let q = record-of p in
     let r = round-of p in
     let b = r .before in
@@ -113,7 +123,8 @@ loop-again c =
       going-next (s .args .sites) (given-of b) (s .pre .3) (l .i) _ (l .inv .2) _
           (lv .outcome ∙ ap (acceptanceOf (tables-of b)) (rec-is q)),
       lv .index refl,
-      spaced-same (counted-in (form-of b) (recs-of b) (s .args .n)) _ _ (lv .starts refl) (lv .index refl .places-long)
+      spaced-same (counted-in (form-of b) (recs-of b) (s .args .n)) _ _ (lv .starts refl) (lv .index refl
+          .places-long)
           (l .inv .4),
       kept-after (given-of b) (l .i) _ _ _ _ (held-now b) (ap decodeOf (rec-is q))
           (rw (c .if1 .taken) at (p .take-short .ensures .1)),
@@ -121,14 +132,16 @@ loop-again c =
 
 cast-t57 : tie.Need-cast-t57 Inv-loop μ-loop
 cast-t57 c =
-    let r = round-of (c .before .before .before .before .before .before .before .before .before .before .before .before .before .before .before .before .before .before .before .before) in
+    let r = round-of (c .before .before .before .before .before .before .before .before .before .before .before
+    .before .before .before .before .before .before .before .before .before) in
     let few : r .before .loop .i < mostRecords = omega (arith, r .loop-test .taken, start-of (r .before) .pre .4) in
     search (needs, few)
 
 take-next-requires : tie.Need-take-next-requires Inv-loop μ-loop
 take-next-requires c κs =
     let i = c .before .before .before .before .before .before .before .before .before in
-    let p = i .before .before .before .before .before .before .before .before .before .before .before .before .before .before .before .before .before .before .before .before in
+    let p = i .before .before .before .before .before .before .before .before .before .before .before .before
+    .before .before .before .before .before .before .before .before in
     let r = round-of p in
     let b = r .before in
     let s = start-of b in

@@ -20,13 +20,18 @@ start-of c =
 
 judge-requires : tie.Need-judge-requires
 judge-requires c κs =
-    let s = c .before .before .before .before .before .before .before .before .before .before .before .before .before .before .before .before .before in
+    let s = c .before .before .before .before .before .before .before .before .before .before .before .before
+    .before .before .before .before .before in
     let a = s .args in (
-      indexed-so (a .sites) (a .n) (a .m) (a .sum) (now (a .held)) (now (a .records)) (now (a .objects)) (now (a .groups))
-          (now (a .places)) (now (a .numbers)) (now (a .counts)) (now (a .chains)) (now (a .rec)) (s .pre .0) (a .a) (s .pre .1)
+      indexed-so (a .sites) (a .n) (a .m) (a .sum) (now (a .held)) (now (a .records)) (now (a .objects)) (now (a
+          .groups))
+          (now (a .places)) (now (a .numbers)) (now (a .counts)) (now (a .chains)) (now (a .rec)) (s .pre .0) (a
+          .a) (s .pre .1)
           (s .pre .2),
-      surveyed-so (a .sites) (a .n) (a .m) (a .sum) (now (a .held)) (now (a .records)) (now (a .objects)) (now (a .groups))
-          (now (a .places)) (now (a .numbers)) (now (a .counts)) (now (a .chains)) (now (a .rec)) (s .pre .0) (a .a) (s .pre .1)
+      surveyed-so (a .sites) (a .n) (a .m) (a .sum) (now (a .held)) (now (a .records)) (now (a .objects)) (now (a
+          .groups))
+          (now (a .places)) (now (a .numbers)) (now (a .counts)) (now (a .chains)) (now (a .rec)) (s .pre .0) (a
+          .a) (s .pre .1)
           (s .pre .2),
       s .pre .3,
     )
@@ -71,14 +76,18 @@ take-judged-requires c κs =
     let s = start-of j in
     let a = s .args in (
       s .pre .0,
-      judged-so (a .sites) (a .n) (a .m) (a .sum) (now (a .held)) (now (a .records)) (now (a .objects)) (now (a .groups))
-          (now (a .places)) (now (a .numbers)) (now (a .counts)) (now (a .chains)) (now (a .rec)) (s .pre .0) (a .a) (s .pre .1)
+      judged-so (a .sites) (a .n) (a .m) (a .sum) (now (a .held)) (now (a .records)) (now (a .objects)) (now (a
+          .groups))
+          (now (a .places)) (now (a .numbers)) (now (a .counts)) (now (a .chains)) (now (a .rec)) (s .pre .0) (a
+          .a) (s .pre .1)
           (s .pre .2)
           (j .judge .result) (j .judge .ensures .0) (i .if1 .left),
     )
 
 forget-requires-2 : tie.Need-forget-requires-2
-forget-requires-2 c κs = c .before .before .before .before .before .before .before .before .before .before .before .before .before .before .before .before .before .before .before .before .before .before .before .before .before .before .before .before .before .before .before .before .before .judge .ensures .1 .names-long
+forget-requires-2 c κs = c .before .before .before .before .before .before .before .before .before .before .before
+    .before .before .before .before .before .before .before .before .before .before .before .before .before .before
+    .before .before .before .before .before .before .before .before .judge .ensures .1 .names-long
 
 same-length-7 : tie.Need-same-length-7
 same-length-7 c = search needs
@@ -112,9 +121,12 @@ same-length-16 c = search needs
 
 returns-2 : tie.Need-returns-2
 returns-2 c =
-    let t = c .before .before .before .before .before .before .before .before .before .before .before .before .before .before .before .before .before .before .before .before .before .before .take-judged in
+    let t = c .before .before .before .before .before .before .before .before .before .before .before .before
+    .before .before .before .before .before .before .before .before .before .before .take-judged in
     let left = not-true (t .result .ok) (c .before .before .before .before .if2 .taken) in
-    let j = c .before .before .before .before .before .before .before .before .before .before .before .before .before .before .before .before .before .before .before .before .before .before .before .before .before .before .before .before .before .before .before .before .before .before .before .before .judge in
+    let j = c .before .before .before .before .before .before .before .before .before .before .before .before
+    .before .before .before .before .before .before .before .before .before .before .before .before .before .before
+    .before .before .before .before .before .before .before .before .before .before .judge in
     (t .ensures, rw left (c .before .before .forget2 .ensures _ _ (j .ensures .1 .rows-long)))
 
 same-length-17 : tie.Need-same-length-17
@@ -149,9 +161,14 @@ same-length-26 c = search needs
 
 returns-3 : tie.Need-returns-3
 returns-3 c =
-    let t = c .before .before .before .before .before .before .before .before .before .before .before .before .before .before .before .before .before .before .take-judged in
-    let took = not-false (t .result .ok) (c .if2 .left) in
-    (t .ensures, rw took (c .before .before .before .before .before .before .before .before .before .before .before .before .before .before .before .before .before .before .before .before .before .before .before .before .before .before .before .before .before .before .before .before .judge .ensures .1))
+    let t = c .before .before .before .before .before .before .before .before .before .before .before .before
+    .before .before .before .before .before .before .take-judged in
+    let took = not-false (t .result .ok) (c .if2 .left) in (
+      t .ensures,
+      rw took (c .before .before .before .before .before .before .before .before .before .before .before
+          .before .before .before .before .before .before .before .before .before .before .before .before .before .before
+          .before .before .before .before .before .before .before .judge .ensures .1),
+    )
 
 pub take-limited-spec : {M : Type 1} → statement M
 take-limited-spec =

@@ -1,6 +1,5 @@
 -- `table_replay::take_short` meets its contract. Assumes nothing.
 use mathlib.Core.Path.{_≡_, refl}
-use mathlib.Core.Bool.{true}
 use Prim.Native.Nat.{ℕ, _+_, _≤_}
 use native.Mathlib.Omega.{arith}
 use lib.ListN.{length}
@@ -37,9 +36,11 @@ there s = omega (arith, s .pre .0 .whole, span-least (now (s .args .rec)))
 
 look-requires : tie.Need-look-requires
 look-requires c κs =
-    let s = c .before .before .before .before .before .before .before .before .before .before .before .before .before .before .before .before .before in
+    let s = c .before .before .before .before .before .before .before .before .before .before .before .before
+    .before .before .before .before .before in
     let a = s .args in (
-      look-asks (a .sites) (a .n) (a .m) (a .sum) (now (a .held)) (now (a .records)) (now (a .objects)) (now (a .groups)) (s .pre .0 .takes .isSound),
+      look-asks (a .sites) (a .n) (a .m) (a .sum) (now (a .held)) (now (a .records)) (now (a .objects)) (now (a
+          .groups)) (s .pre .0 .takes .isSound),
       omega (arith, sound-at _ (s .pre .0 .takes .isSound) .records-long),
       s .pre .0 .takes .index,
       there s,
@@ -126,7 +127,8 @@ same-length-16 : tie.Need-same-length-16
 same-length-16 c = search needs
 
 returns-2 : tie.Need-returns-2
-returns-2 c = c .before .before .before .before .before .before .before .before .before .before .before .before .before .before .before .before .before .before .before .before .take-limited .ensures
+returns-2 c = c .before .before .before .before .before .before .before .before .before .before .before .before
+    .before .before .before .before .before .before .before .before .take-limited .ensures
 
 take-plain-requires : tie.Need-take-plain-requires
 take-plain-requires c κs =
@@ -137,7 +139,8 @@ take-plain-requires c κs =
     let f = l .look .ensures (not-false (l .look .result .ok) (i .before .before .before .if1 .left)) in
     let (none, plain) = neither (l .look .result .limited) (isLimited (e-of s)) (i .if2 .left) in (
       s .pre .0,
-      fit-of (a .sites) (a .n) (a .m) (now (a .records)) (now (a .places)) (now (a .numbers)) (now (a .counts)) (e-of s)
+      fit-of (a .sites) (a .n) (a .m) (now (a .records)) (now (a .places)) (now (a .numbers)) (now (a .counts))
+          (e-of s)
           (l .look .result) f plain none,
     )
 
@@ -167,11 +170,15 @@ same-length-24 c = search needs
 
 returns-3 : tie.Need-returns-3
 returns-3 c =
-    let t = c .before .before .before .before .before .before .before .before .before .before .before .before .before .before .before .before .take-plain in
-    let s = start-of (c .before .before .before .before .before .before .before .before .before .before .before .before .before .before .before .before .before .before .before .before .before .before .before .before .before .before .before .before .before .before) in
+    let t = c .before .before .before .before .before .before .before .before .before .before .before .before
+    .before .before .before .before .take-plain in
+    let s = start-of (c .before .before .before .before .before .before .before .before .before .before .before
+    .before .before .before .before .before .before .before .before .before .before .before .before .before .before
+    .before .before .before .before .before) in
     let a = s .args in (
       t .ensures,
-      kept-either (t .result .ok) (editsOf (now (a .records)) (a .n)) (e-of s) (now (a .names)) (now (a .rows)) (s .pre .1),
+      kept-either (t .result .ok) (editsOf (now (a .records)) (a .n)) (e-of s) (now (a .names)) (now (a .rows)) (s
+          .pre .1),
     )
 
 pub take-short-spec : {M : Type 1} → statement M
