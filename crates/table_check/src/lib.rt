@@ -12,7 +12,7 @@ use table_drawing::Counters;
 use table_drawing::ENTRY;
 use table_drawing::entries::at16;
 use table_sets::by_key::KEY_CHAINS;
-use table_sets::by_key::take_set;
+use table_sets::by_mask::mark_set;
 ghost use mathlib.Core.Path.{_≡_};
 ghost use mathlib.Core.Bool.{true, false};
 ghost use mathlib.Core.List.{[], _∷_};
@@ -121,15 +121,14 @@ fn step_plainly(gs: &mut [u64], recs: &[u8], places: &[u16], k: usize) -> usize
         × TellsIn (now recs) (now places) k ⌝ }
     ensures { λ r. ⌜ WorkedOut (groupsIn (now (recs .entry)) (now (places .entry)) k) (now (gs .exit)) r ⌝ }
 {
-    let mut latest = [0u8; KEY_CHAINS];
+    let mut sets = [0u64; KEY_CHAINS];
     // what work space holds at first does not matter; zeros would be set by memset (docs/DECISIONS.md, 24)
-    let mut earlier = [1u8; SETS];
     let mut tolds = [1u64; SETS];
     let mut n: usize = 1;
     let mut common: u64 = 0;
     let mut i: usize = 0;
     while i < k {
-        let m = take_set(&mut latest, &mut earlier, &mut tolds, recs, places, i);
+        let m = mark_set(&mut sets, &mut tolds, recs, places, i);
         let t = step_later(gs, n, common, m, i);
         n = t.count;
         common = t.common;
