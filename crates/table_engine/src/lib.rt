@@ -9,7 +9,7 @@ use group_step::SETS;
 use table_drawing::Answer;
 use table_drawing::Counters;
 use table_sets::by_key::KEY_CHAINS;
-use table_sets::by_key::take_set;
+use table_sets::by_mask::mark_set;
 ghost use mathlib.Core.Path.{_≡_};
 ghost use mathlib.Core.Bool.{false};
 ghost use Prim.Native.Nat.{_≤_};
@@ -46,13 +46,12 @@ fn put_plainly(recs: &[u8], places: &[u16], k: usize, masks: &mut [u64])
         × Asc Tells (setsIn (now recs) (now places) k) ⌝ }
     ensures { λ r. ⌜ MaskedTo k (setsIn (now (recs .entry)) (now (places .entry)) k) (now (masks .exit)) ⌝ }
 {
-    let mut latest = [0u8; KEY_CHAINS];
+    let mut sets = [0u64; KEY_CHAINS];
     // what work space holds at first does not matter; zeros would be set by memset (docs/DECISIONS.md, 24)
-    let mut earlier = [1u8; DECIDED];
     let mut tolds = [1u64; DECIDED];
     let mut i: usize = 0;
     while i < k {
-        let row = take_set(&mut latest, &mut earlier, &mut tolds, recs, places, i);
+        let row = mark_set(&mut sets, &mut tolds, recs, places, i);
         group_limited::put_row(masks, i, row);
         i += 1;
     }

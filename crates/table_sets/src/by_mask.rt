@@ -1,5 +1,5 @@
-// The Sets of an object by their keys, those of each key as one number: a Set is held against the members of it, and
-// its bytes are read where they stand.
+// The Sets of an object by their keys, those of each key as one number. Only Sets of one key conflict, so each is held
+// against the members of its key's number alone; its bytes are read where they stand.
 use super::by_key::KEY_CHAINS;
 use super::by_key::is_unlike;
 use super::by_key::told_of;

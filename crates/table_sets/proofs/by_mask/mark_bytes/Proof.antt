@@ -81,7 +81,7 @@ returns c =
     let fields = p .5 in
     let sets = a .sets .now in
     let y = told .told-of .result in (
-      c .before .marks-among .ensures ∙ all-marked rs ps (a .i) (p .0) (p .7) (omega arith),
+      c .before .marks-among .ensures ∙ all-marked rs ps (a .i) (omega arith),
       rw (c .only .ensures)
           (subst
           (λ (k : ℕ). MaskedTo rs ps (a .i + 1) (set sets (k % keys) (bitOr (getD sets (k % keys) 0) (2 ^ a .i)))
