@@ -29,9 +29,10 @@ use Rattle.edit_history.specs.Answer16.{namelessAmong}
 use Rattle.edit_history.proofs.EditsInPlaces.{sets-length, set-place}
 use Rattle.group_true.proofs.ProperSets.{named-version, named-snoc}
 use Rattle.group_context.specs.RowsOfBox.{whatIsLeft}
-use Rattle.group_limited.specs.LimitedForms.{setsIn, namedInTurn}
+use Rattle.group_limited.specs.LimitedForms.{namedInTurn}
+use Rattle.group_sight.specs.SightForms.{setsIn}
 use Rattle.group_limited.proofs.ToldByRows.{left-told}
-use Rattle.group_limited.proofs.OneMoreTaken.{sets-more}
+use Rattle.group_sight.proofs.OneMoreTaken.{sets-more}
 
 -- the first of some Sets that are lawful are lawful
 first-lawful :

@@ -2,15 +2,13 @@
 // 06): whether each limited one names a version, and which of the Sets held an arriving one conflicts with. The Sets
 // are taken one after another, each by the rows that tell of those before it: bit j of `plain[i]` says that Sets i and
 // j conflict by document 01's rule, and `ctx[i]` is the context of Set i.
-pub mod earlier;
-pub mod seen;
-
-use earlier::list_of;
-use earlier::marks_of;
-use earlier::put_names;
 use edit_record::AT_KIND;
 use edit_record::LIMITED;
 use edit_record::PLACE;
+use group_sight::RECENT;
+use group_sight::list_of;
+use group_sight::marks_of;
+use group_sight::put_names;
 ghost use mathlib.Core.Path.{_≡_};
 ghost use mathlib.Core.List.{List, [], _∷_, _++_};
 ghost use Prim.Native.Nat.{ℕ, suc, _^_, _≤_, _<_};
@@ -28,34 +26,9 @@ ghost use Rattle.edit_history.specs.EditsHeld.{recordAt};
 ghost use Rattle.edit_history.specs.Answer16.{namelessAmong};
 ghost use Rattle.group_step.specs.GroupRows.{mostSets};
 ghost use Rattle.group_context.specs.RowsOfBox.{whatIsLeft};
-ghost use Rattle.group_limited.specs.LimitedForms.{setsIn, mostRecent, NamesIn, SeesTell, SightedTo};
+ghost use Rattle.group_sight.specs.SightForms.{setsIn, mostRecent, NamesIn, SeesTell, SightedTo};
 ghost use Rattle.group_limited.specs.LimitedForms.{SightOf, withMark, RowsTell, ToldOf, JudgedOf};
 ghost use Rattle.group_limited.specs.LimitedForms.{NamedBy};
-
-// Of so many Sets of an object, the last ones, it is kept what their authors had seen.
-pub const RECENT: usize = 16;
-
-// What is asked of each of the Sets before a Set: bit i of `plain` says that the i-th conflicts with it by document
-// 01's rule, and of `seen` that its author had seen the i-th.
-pub struct Marks {
-    pub plain: u64,
-    pub seen: u64,
-}
-
-// What of a Set is held against those that its author had not seen: whether it is one, its name, its target and its key
-// as one number, and its value as it is compared.
-pub struct Side {
-    pub set: bool,
-    pub name: u32,
-    pub aim: u32,
-    pub shown: u32,
-}
-
-// The Sets before a Set that it lists, and whether it lists a name that is that of none which its author had seen.
-pub struct Listed {
-    pub named: u64,
-    pub strange: bool,
-}
 
 // All that is asked of the Sets before a Set, and whether it is limited.
 pub struct Sight {

@@ -20,7 +20,8 @@ use Rattle.edit_record.specs.declared.Edit.{Edit}
 use Rattle.edit_record.specs.Answer1.{isCreate}
 use Rattle.edit_history.specs.EditsHeld.{recordAt, editsOf, isSetOn, setsOn}
 use Rattle.group_step.specs.GroupRows.{mostSets}
-use Rattle.group_limited.specs.LimitedForms.{setsIn, NamesIn, NamedBy}
+use Rattle.group_limited.specs.LimitedForms.{NamedBy}
+use Rattle.group_sight.specs.SightForms.{setsIn, NamesIn}
 use Rattle.group_named.specs.ChainForms.{Follows, isOn, ByteChained}
 use Rattle.group_named.specs.NamedForms.{SetsTold}
 

@@ -14,7 +14,8 @@ use Rattle.edit_record.specs.Answer1.{isCreate}
 use Rattle.edit_causal.specs.Conflict.{boxOn}
 use Rattle.edit_history.specs.EditsHeld.{recordAt, editsOf, setsOn}
 use Rattle.group_step.specs.GroupRows.{mostSets}
-use Rattle.group_limited.specs.LimitedForms.{setsIn, NamesIn, SeesTell, RowsTell, namedInTurn}
+use Rattle.group_limited.specs.LimitedForms.{RowsTell, namedInTurn}
+use Rattle.group_sight.specs.SightForms.{setsIn, NamesIn, SeesTell}
 
 -- no Create has more Sets among the edits es than an object may have
 abbrev pub FewSets : List Edit → Type 0

@@ -6,7 +6,7 @@ mod chain;
 use edit_history::RECORDS;
 use edit_record::CREATE;
 use edit_record::LIMITED;
-use group_limited::RECENT;
+use group_sight::RECENT;
 use group_step::SETS;
 ghost use mathlib.Core.Path.{_≡_};
 ghost use mathlib.Core.Bool.{true};
@@ -23,7 +23,7 @@ ghost use Rattle.edit_history.specs.Answers2to5.{recordsPass};
 ghost use Rattle.edit_history.specs.Answer16.{recordsNamed};
 ghost use Rattle.edit_walk.specs.WalkForms.{Indexed};
 ghost use Rattle.group_step.specs.GroupRows.{mostSets};
-ghost use Rattle.group_limited.specs.LimitedForms.{mostRecent};
+ghost use Rattle.group_sight.specs.SightForms.{mostRecent};
 ghost use Rattle.group_named.specs.ChainForms.{ByteChained};
 ghost use Rattle.group_named.specs.NamedForms.{FewSets, LawfulSets, isNamedAt, swapOf, BoxTold};
 

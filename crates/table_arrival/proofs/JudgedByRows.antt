@@ -17,7 +17,8 @@ use Rattle.edit_history.specs.EditsHeld.{recordAt, editsOf, setsOn, isTarget}
 use Rattle.edit_history.proofs.EditsHeld.{Target, target-parts}
 use Rattle.edit_walk.specs.WalkForms.{placeOf, Indexed}
 use Rattle.group_limited.specs.declared.Judged.{Judged}
-use Rattle.group_limited.specs.LimitedForms.{setsIn, NamesIn, SeesTell, RowsTell, JudgedOf, JudgedWhere}
+use Rattle.group_limited.specs.LimitedForms.{RowsTell, JudgedOf, JudgedWhere}
+use Rattle.group_sight.specs.SightForms.{setsIn, NamesIn, SeesTell}
 use Rattle.group_named.specs.NamedForms.{SetsTold, BoxTold}
 use Rattle.table_drawing.specs.declared.Counters.{Counters}
 use Rattle.table_index.specs.IndexForms.{Holds}

@@ -9,7 +9,7 @@ use edit_record::LIMITED;
 use edit_record::Seq;
 use edit_record::Site;
 use group_limited::Judged;
-use group_limited::RECENT;
+use group_sight::RECENT;
 use group_step::SETS;
 use table_drawing::Counters;
 ghost use mathlib.Core.Path.{_≡_};

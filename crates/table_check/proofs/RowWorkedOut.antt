@@ -18,7 +18,8 @@ use Rattle.edit_causal.specs.Conflict.{boxOn, conflictsIn, conflictsWith}
 use Rattle.edit_causal.specs.ConflictForms.{NoneItself}
 use Rattle.edit_history.specs.EditsHeld.{recordAt}
 use Rattle.edit_history.proofs.EditsInPlaces.{sets-length}
-use Rattle.group_limited.specs.LimitedForms.{setsIn, namedInTurn}
+use Rattle.group_limited.specs.LimitedForms.{namedInTurn}
+use Rattle.group_sight.specs.SightForms.{setsIn}
 use Rattle.math_maximal.specs.Groups.{every}
 use Rattle.math_maximal.specs.Step.{step}
 use Rattle.math_maximal.proofs.Groups.{groups-ascending, no-elements}

@@ -23,7 +23,8 @@ use Rattle.edit_history.specs.EditsHeld.{recordAt, editsOf, setsOn}
 use Rattle.edit_history.proofs.EditsInPlaces.{sets-length, set-place}
 use Rattle.group_true.proofs.ProperSets.{in-order-table, named-version}
 use Rattle.group_limited.specs.declared.Told.{Told}
-use Rattle.group_limited.specs.LimitedForms.{setsIn, ToldOf, namedInTurn}
+use Rattle.group_limited.specs.LimitedForms.{ToldOf, namedInTurn}
+use Rattle.group_sight.specs.SightForms.{setsIn}
 use Rattle.group_limited.proofs.NamedInTurn.{nameless, proper-to, in-turn-on, in-turn-off}
 use Rattle.group_limited.proofs.NamedInTurn.{passed-one-more}
 use Rattle.group_named.specs.NamedForms.{isNamedAt}

@@ -12,7 +12,7 @@ use Rattle.edit_causal.specs.ConflictForms.{Proper}
 use Rattle.edit_history.specs.EditsHeld.{recordAt}
 use Rattle.edit_history.specs.Answer16.{namelessAmong}
 use Rattle.group_step.specs.GroupRows.{mostGroups}
-use Rattle.group_limited.specs.LimitedForms.{setsIn}
+use Rattle.group_sight.specs.SightForms.{setsIn}
 use Rattle.group_named.specs.NamedForms.{isNamedAt}
 use Rattle.table_drawing.specs.Tables.{Tables, placeAt, heldBy}
 use Rattle.table_arrival.specs.Answers6and7.{rowOf}

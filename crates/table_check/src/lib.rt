@@ -3,8 +3,8 @@
 // held against the table's. That tells 16 of these Sets as well, which is left out where soundness is tested.
 use edit_history::RECORDS;
 use edit_walk::PLACES;
-use group_limited::RECENT;
-use group_limited::earlier::put_names;
+use group_sight::RECENT;
+use group_sight::put_names;
 use group_step::GROUPS;
 use group_step::SETS;
 use table_drawing::Answer;
@@ -27,7 +27,7 @@ ghost use Rattle.edit_causal.specs.Conflict.{boxOn};
 ghost use Rattle.edit_walk.specs.WalkForms.{Indexed};
 ghost use Rattle.group_step.specs.GroupRows.{mostGroups, mostSets, row};
 ghost use Rattle.group_step.specs.StepForms.{Apart};
-ghost use Rattle.group_limited.specs.LimitedForms.{mostRecent, setsIn, NamesIn};
+ghost use Rattle.group_sight.specs.SightForms.{mostRecent, setsIn, NamesIn};
 ghost use Rattle.table_drawing.specs.Tables.{tablesOf};
 ghost use Rattle.table_drawing.specs.AnswerNumbers.{numberOf};
 ghost use Rattle.table_soundness.specs.SoundnessForms.{soundButNamed};

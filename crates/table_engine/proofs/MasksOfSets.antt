@@ -35,7 +35,8 @@ use Rattle.group_context.specs.RowsOfBox.{PlainRows}
 use Rattle.group_context.proofs.NamedByRows.{conflict-row-named}
 use Rattle.group_engine.specs.SearchForms.{conflict, byMasks, Conflicts}
 use Rattle.group_engine.proofs.MasksOfElements.{groups-of-elements, conflicts-of-elements}
-use Rattle.group_limited.specs.LimitedForms.{setsIn, withMark, RowsTell}
+use Rattle.group_limited.specs.LimitedForms.{withMark, RowsTell}
+use Rattle.group_sight.specs.SightForms.{setsIn}
 use Rattle.table_engine.specs.EngineForms.{groupsIn, MaskedTo, MaskedFirst}
 
 module _ (rs ps : List ℕ) (k : ℕ) (fits : k ≤ length ps) where

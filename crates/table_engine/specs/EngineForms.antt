@@ -6,7 +6,7 @@ use lib.ListN.{length, getD}
 use Rattle.math_lists.specs.NumbersBelow.{mask}
 use Rattle.edit_record.specs.declared.Edit.{Edit}
 use Rattle.edit_causal.specs.Conflict.{conflictsIn}
-use Rattle.group_limited.specs.LimitedForms.{setsIn}
+use Rattle.group_sight.specs.SightForms.{setsIn}
 use Rattle.group_true.specs.TrueGroups.{groupsOf}
 
 -- the groups of the Sets in the first k of the places ps

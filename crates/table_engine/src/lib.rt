@@ -2,8 +2,8 @@
 // arrival order, to be held against the row that the arriving step left.
 use edit_record::Seq;
 use edit_record::Site;
-use group_limited::RECENT;
-use group_limited::earlier::put_names;
+use group_sight::RECENT;
+use group_sight::put_names;
 use group_step::GROUPS;
 use group_step::SETS;
 use table_drawing::Answer;
@@ -20,7 +20,7 @@ ghost use Rattle.edit_causal.specs.ConflictForms.{Proper};
 ghost use Rattle.edit_history.specs.EditsHeld.{mostRecords, editsOf, setsOn};
 ghost use Rattle.group_step.specs.GroupRows.{mostGroups, mostSets, settled};
 ghost use Rattle.group_engine.specs.SearchForms.{countTold};
-ghost use Rattle.group_limited.specs.LimitedForms.{setsIn};
+ghost use Rattle.group_sight.specs.SightForms.{setsIn};
 ghost use Rattle.table_drawing.specs.Tables.{tablesOf};
 ghost use Rattle.table_drawing.specs.AnswerNumbers.{numberOf};
 ghost use Rattle.table_sets.specs.KeyForms.{Tells};

@@ -29,7 +29,7 @@ ghost use Rattle.edit_history.specs.Answers2to5.{isTorn};
 ghost use Rattle.edit_history.specs.SurveyForms.{surveyOf, SurveyedOf};
 ghost use Rattle.edit_walk.specs.WalkForms.{placesLength, Spaced, SameStarts, countIn, Indexed, inTurnAgainst};
 ghost use Rattle.group_step.specs.GroupRows.{mostObjects, mostSets};
-ghost use Rattle.group_limited.specs.LimitedForms.{setsIn};
+ghost use Rattle.group_sight.specs.SightForms.{setsIn};
 ghost use Rattle.table_drawing.specs.declared.Counters.{Counters};
 ghost use Rattle.table_index.specs.IndexForms.{numberAt, chainsLength, IndexOf, Holds, matesOf};
 ghost use Rattle.table_index.specs.IndexForms.{linkedIn};

@@ -11,7 +11,7 @@ use edit_record::LIMITED;
 use edit_record::Seq;
 use edit_record::Site;
 use group_limited::Judged;
-use group_limited::earlier::put_names;
+use group_sight::put_names;
 use group_step::SETS;
 ghost use mathlib.Core.Path.{_≡_};
 ghost use mathlib.Core.Bool.{true, _&&_, _||_, cond};

@@ -27,8 +27,8 @@ use Rattle.edit_causal.proofs.CausalLaws.{conflict-symmetric, conflict-irreflex
 use Rattle.edit_history.specs.EditsHeld.{recordAt}
 use Rattle.edit_history.proofs.EditsInPlaces.{sets-length, set-place}
 use Rattle.group_true.specs.Disputed.{isDisputed}
-use Rattle.group_limited.specs.LimitedForms.{setsIn}
-use Rattle.group_limited.proofs.OneMoreTaken.{any-more}
+use Rattle.group_sight.specs.SightForms.{setsIn}
+use Rattle.group_sight.proofs.OneMoreTaken.{any-more}
 use Rattle.table_index.proofs.MarksInPlaces.{marks-below}
 use Rattle.table_sets.specs.KeyForms.{setAt, DisputedBy}
 use Rattle.table_sets.proofs.MarksByKey.{mask-skips}

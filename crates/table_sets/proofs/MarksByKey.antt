@@ -21,7 +21,7 @@ use Rattle.edit_causal.specs.ShownValue.{shownValue}
 use Rattle.edit_history.specs.EditsHeld.{recordAt}
 use Rattle.edit_history.proofs.EditsInPlaces.{sets-length, set-place}
 use Rattle.group_step.specs.GroupRows.{mostSets}
-use Rattle.group_limited.specs.LimitedForms.{setsIn}
+use Rattle.group_sight.specs.SightForms.{setsIn}
 use Rattle.table_sets.specs.KeyForms.{setAt, values, ToldAs}
 use Rattle.table_sets.specs.MaskForms.{ToldTo}
 

@@ -27,7 +27,7 @@ use Rattle.edit_history.proofs.EditsByPlaces.{edits-pairs}
 use Rattle.edit_history.proofs.EditsInPlaces.{sets-length, set-place}
 use Rattle.edit_history.proofs.RecordsPassed.{formed-at, one-place}
 use Rattle.edit_history.proofs.SeenRanksBefore.{stands-before}
-use Rattle.group_limited.specs.LimitedForms.{setsIn}
+use Rattle.group_sight.specs.SightForms.{setsIn}
 use Rattle.table_drawing.specs.Tables.{Tables, heldBy}
 use Rattle.table_soundness.proofs.SoundFacts.{Sound}
 use Rattle.table_sets.specs.KeyForms.{setAt, chainOf, Tells, TellsIn}

@@ -14,7 +14,7 @@ use Rattle.edit_causal.specs.ShownValue.{shownValue}
 use Rattle.edit_history.specs.EditsHeld.{recordAt}
 use Rattle.math_maximal.specs.Groups.{bit}
 use Rattle.group_true.specs.Disputed.{isDisputed}
-use Rattle.group_limited.specs.LimitedForms.{setsIn}
+use Rattle.group_sight.specs.SightForms.{setsIn}
 
 -- the Set in the i-th of the places ps
 abbrev pub setAt : List ℕ → List ℕ → ℕ → Edit

@@ -20,7 +20,7 @@ ghost use Rattle.edit_record.specs.Layout.{keys, recordLength};
 ghost use Rattle.edit_causal.specs.Conflict.{doConflict};
 ghost use Rattle.edit_causal.specs.ConflictForms.{plainMarks};
 ghost use Rattle.group_step.specs.GroupRows.{mostSets};
-ghost use Rattle.group_limited.specs.LimitedForms.{setsIn};
+ghost use Rattle.group_sight.specs.SightForms.{setsIn};
 ghost use Rattle.table_sets.specs.FieldForms.{HasFields};
 ghost use Rattle.table_sets.specs.KeyForms.{setAt, chainOf, Tells, TellsIn, ToldAs, DisputedBy};
 ghost use Rattle.table_sets.specs.MaskForms.{SetsOf, ToldTo, MaskedTo};

@@ -11,7 +11,8 @@ use Rattle.math_contexts.specs.Box.{Lawful}
 use Rattle.edit_causal.specs.Conflict.{boxOn}
 use Rattle.edit_history.specs.EditsHeld.{recordAt}
 use Rattle.edit_history.proofs.EditsInPlaces.{sets-length}
-use Rattle.group_limited.specs.LimitedForms.{setsIn, mostRecent, SeesTell, RowsTell}
+use Rattle.group_limited.specs.LimitedForms.{RowsTell}
+use Rattle.group_sight.specs.SightForms.{setsIn, mostRecent, SeesTell}
 use Rattle.group_limited.proofs.RowsInPlaces.{no-rows, rows-more, none-sees, sees-more}
 use Rattle.group_limited.proofs.NamedInTurn.{nameless, lawful-to, left-where-named}
 use Rattle.group_limited.proofs.NamedInTurn.{named-where-told, in-turn-on, in-turn-off, passed-one-more}

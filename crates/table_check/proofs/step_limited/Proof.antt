@@ -10,7 +10,8 @@ use Rattle.math_lists.proofs.Booleans.{clash}
 use Rattle.edit_causal.proofs.ConflictsAmongSets.{none-itself}
 use Rattle.edit_history.specs.EditsHeld.{recordAt}
 use Rattle.group_step.specs.GroupRows.{mostGroups}
-use Rattle.group_limited.specs.LimitedForms.{setsIn, mostRecent, SeesTell, RowsTell, ToldOf}
+use Rattle.group_limited.specs.LimitedForms.{RowsTell, ToldOf}
+use Rattle.group_sight.specs.SightForms.{setsIn, mostRecent, SeesTell}
 use Rattle.group_limited.proofs.RowsInPlaces.{no-rows, rows-more, none-sees, sees-more}
 use Rattle.group_limited.proofs.NamedInTurn.{nameless, lawful-to}
 use Rattle.table_check.specs.CheckForms.{groupsIn}

@@ -9,7 +9,7 @@ use Rattle.math_lists.specs.NumbersBelow.{mask}
 use Rattle.edit_record.specs.Layout.{keys}
 use Rattle.edit_causal.specs.Conflict.{conflictsIn}
 use Rattle.edit_history.proofs.EditsInPlaces.{sets-length}
-use Rattle.group_limited.specs.LimitedForms.{setsIn}
+use Rattle.group_sight.specs.SightForms.{setsIn}
 use Rattle.table_sets.specs.MaskForms.{MaskedTo}
 use Rattle.table_sets.proofs.MarksByMask.{masked-none}
 use Rattle.table_sets.proofs.SetsTold.{tells-in-places}
