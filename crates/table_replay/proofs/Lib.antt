@@ -1,3 +1,2 @@
 pub mod RoomForAll
 pub mod ShortOrLong
-pub mod LimitedTaken

@@ -1,4 +1,4 @@
--- `table_replay::take_short` meets its contract. Assumes nothing.
+-- `table_next::take_short` meets its contract. Assumes nothing.
 use mathlib.Core.Path.{_≡_, refl}
 use Prim.Native.Nat.{ℕ, _+_, _≤_}
 use native.Mathlib.Omega.{arith}
@@ -15,10 +15,10 @@ use Rattle.edit_history.specs.EditsHeld.{editsOf}
 use Rattle.table_soundness.proofs.SoundFacts.{sound-at}
 use Rattle.table_index.proofs.LookByIndex.{fit-of}
 use Rattle.table_plain.proofs.PlainGoes.{look-asks}
-use Rattle.table_replay.proofs.LimitedTaken.{set-where, kept-either}
+use Rattle.table_next.proofs.LimitedTaken.{set-where, kept-either}
 use borrow.Author.Needs.{needs}
-use Rattle.table_replay.proofs.short.take_short.Statement.{statement}
-use Rattle.table_replay.proofs.short.take_short.Tie as tie
+use Rattle.table_next.proofs.short.take_short.Statement.{statement}
+use Rattle.table_next.proofs.short.take_short.Tie as tie
 
 none-more : (n : ℕ) → n + 0 ≡ n
 none-more n = omega arith

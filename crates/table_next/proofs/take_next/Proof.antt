@@ -1,4 +1,4 @@
--- `table_replay::take_next` meets its contract: what an accepted record leaves holds what the index needs to take it
+-- `table_next::take_next` meets its contract: what an accepted record leaves holds what the index needs to take it
 -- in. Assumes nothing.
 use mathlib.Core.Path.{_≡_, refl, sym, _∙_}
 use Prim.Native.Nat.{_≤_}
@@ -18,8 +18,8 @@ use Rattle.table_arrival.proofs.CodeInHand.{early-refused, holds}
 use Rattle.table_arrival.proofs.SixByCounters.{none-of-three}
 use Rattle.table_kept.proofs.KeptAlong.{kept-more}
 use Rattle.table_plain.proofs.IndexGoesAlong.{counted-on, room-on, holds-on, index-on, numbered-on}
-use Rattle.table_replay.proofs.take_next.Statement.{statement}
-use Rattle.table_replay.proofs.take_next.Tie as tie
+use Rattle.table_next.proofs.take_next.Statement.{statement}
+use Rattle.table_next.proofs.take_next.Tie as tie
 
 -- the start, and the first of 1 to 3
 abbrev start-of : tie.After-number → tie.Start

@@ -1,14 +1,14 @@
--- `table_replay::take_limited` meets its contract. Assumes nothing.
+-- `table_next::take_limited` meets its contract. Assumes nothing.
 use mathlib.Core.Path.{_≡_, refl}
 use Prim.Native.Nat.{ℕ, _+_}
 use native.Mathlib.Omega.{arith}
 use denote.Ref.{now}
 use borrow.Author.Tests.{not-true, not-false}
 use Rattle.math_lists.proofs.Booleans.{clash}
-use Rattle.table_replay.proofs.LimitedTaken.{surveyed-so, indexed-so, judged-so}
+use Rattle.table_next.proofs.LimitedTaken.{surveyed-so, indexed-so, judged-so}
 use borrow.Author.Needs.{needs}
-use Rattle.table_replay.proofs.short.take_limited.Statement.{statement}
-use Rattle.table_replay.proofs.short.take_limited.Tie as tie
+use Rattle.table_next.proofs.short.take_limited.Statement.{statement}
+use Rattle.table_next.proofs.short.take_limited.Tie as tie
 
 none-more : (n : ℕ) → n + 0 ≡ n
 none-more n = omega arith
