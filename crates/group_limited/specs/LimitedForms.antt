@@ -1,5 +1,5 @@
--- Forms that the code uses: what the rows of numbers tell of the Sets in some places of the records, and what is told of
--- a Set by those before it. No one need believe them: laws in proofs/ tie them to `Conflict` of `edit_causal` and to
+-- Forms that the code uses: what the rows of numbers tell of the Sets in some places of the records, and what is told
+-- of a Set by those before it. No one need believe them: laws in proofs/ tie them to `Conflict` of `edit_causal` and to
 -- `Answer16` of `edit_history`. Assumes nothing.
 use mathlib.Core.Path.{_≡_}
 use mathlib.Core.Bool.{Bool, true, false, not, cond}

@@ -1,5 +1,5 @@
--- `group_apart::gaining::gain` meets its contract: the part that is lent to be filled with zeros stands behind the groups.
--- Assumes nothing.
+-- `group_apart::gaining::gain` meets its contract: the part that is lent to be filled with zeros stands behind the
+-- groups. Assumes nothing.
 use native.Mathlib.Omega.{arith}
 use borrow.Author.Needs.{needs}
 use Rattle.group_step.proofs.RowAfterStep.{gained-stored}
