@@ -37,7 +37,7 @@ use Rattle.edit_record.proofs.WellFormed.{create-not-set, set-not-create, set-a
 use Rattle.edit_record.proofs.WellFormed.{layer-not-set}
 use Rattle.table_arrival.proofs.ObjectOfSet.{object-less, row-fits}
 use Rattle.table_arrival.proofs.SetKeepsSound.{not-on}
-use Rattle.table_arrival.proofs.ArrivalKeepsSound.{Kept, acceptance-keeps}
+use Rattle.table_arrival.proofs.ArrivalKeepsSound.{KeptSound, acceptance-keeps}
 use Rattle.math_lists.proofs.ListMembers.{chosen-at}
 use Rattle.list_line.specs.Line.{objectLines}
 use Rattle.math_lists.proofs.Choices.{not-chosen-snoc}
@@ -83,7 +83,7 @@ module _ (t u : Tables) (own : ℕ) (e : Edit) (l : LeavesOthers t u own e) wher
 
 -- ---- an accepted edit leaves them
 
-module _ (t : Tables) (b : List ℕ) (k : Kept t) (a : Accepted t b) where
+module _ (t : Tables) (b : List ℕ) (k : KeptSound t) (a : Accepted t b) where
   abbrev s : Sound t
   s = k .isSound
 
@@ -192,7 +192,7 @@ module _ (t : Tables) (b : List ℕ) (k : Kept t) (a : Accepted t b) where
 
 -- ---- an accepted record
 
-module _ (t : Tables) (k : Kept t) (b : List ℕ) (h : acceptanceOf t b .answer ≡ 0) where
+module _ (t : Tables) (k : KeptSound t) (b : List ℕ) (h : acceptanceOf t b .answer ≡ 0) where
   abbrev t′ : Tables
   t′ = acceptanceOf t b .after
 

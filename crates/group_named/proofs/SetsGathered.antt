@@ -26,8 +26,8 @@ use Rattle.group_named.specs.ChainForms.{Follows, isOn, ByteChained}
 use Rattle.group_named.specs.NamedForms.{SetsTold}
 
 -- of any places l that the chain goes through from p: the first k are put down in out, and the chain goes on with v
-abbrev pub FollowedTo : List ℕ → ℕ → ℕ → ℕ → List ℕ → Type 0
-FollowedTo ch p k v out =
+abbrev pub ByteFollowedTo : List ℕ → ℕ → ℕ → ℕ → List ℕ → Type 0
+ByteFollowedTo ch p k v out =
     (l : List ℕ) → Follows ch (getD ch p 0) l → (take k out ≡ take k l) × Follows ch v (drop k l)
 
 -- whether it is to be followed on: it has not ended, and there is room
@@ -53,7 +53,7 @@ some-left ch k v l some r = go (drop k l) (length-drop k l) r
 
 pub followed-more :
     (ch : List ℕ) (p k v : ℕ) (out : List ℕ) → k < length out → (v ≡ 0 → ⊥) →
-    FollowedTo ch p k v out → FollowedTo ch p (k + 1) (getD ch v 0) (set out k v)
+    ByteFollowedTo ch p k v out → ByteFollowedTo ch p (k + 1) (getD ch v 0) (set out k v)
 followed-more ch p k v out fits some h l r =
     let (front, rest) = h l r in
     let more = some-left ch k v l some rest in
@@ -66,7 +66,7 @@ followed-more ch p k v out fits some h l r =
 
 -- at its end, and where there are as many as out may take
 pub followed-end :
-    (ch : List ℕ) (p k v : ℕ) (out l : List ℕ) → v ≡ 0 → FollowedTo ch p k v out → Follows ch (getD ch p 0) l →
+    (ch : List ℕ) (p k v : ℕ) (out l : List ℕ) → v ≡ 0 → ByteFollowedTo ch p k v out → Follows ch (getD ch p 0) l →
     take k out ≡ l
 followed-end ch p k v out l none h r =
     let (front, rest) = h l r in
@@ -77,7 +77,7 @@ followed-end ch p k v out l none h r =
     go (y ∷ m) e (here, some, _) = absurd (omega (arith, here, none))
 
 pub followed-full :
-    (ch : List ℕ) (p k v : ℕ) (out l : List ℕ) → length l ≤ k → FollowedTo ch p k v out →
+    (ch : List ℕ) (p k v : ℕ) (out l : List ℕ) → length l ≤ k → ByteFollowedTo ch p k v out →
     Follows ch (getD ch p 0) l → take k out ≡ l
 followed-full ch p k v out l few h r = h l r .0 ∙ take-all k l few
 

@@ -114,7 +114,7 @@ module _ (rs ms : List ℕ) (k : ℕ) (fits : k ≤ length ms) (i : ℕ) (l : i 
 -- ---- the next Set, which is told t
 
 -- 16 is not given to it: those with it are proper in turn, and it is told its conflicts and its context
-pub record Taken (rs ms : List ℕ) (i : ℕ) (t : Told) : Type 0 where
+pub record TakenInTurn (rs ms : List ℕ) (i : ℕ) (t : Told) : Type 0 where
   pub free : (j : ℕ) → j < i + 1 → nameless rs ms j ≡ false
   pub turn : ProperInTurn rs ms (i + 1)
   pub conflicts : t .conflicts ≡ conflictsWith (recordAt rs (getD ms i 0)) (setsIn rs ms i)
@@ -133,7 +133,7 @@ module _ (rs ms : List ℕ) (k : ℕ) (fits : k ≤ length ms) (i : ℕ) (l : i 
   pub next-nameless : t .nameless ≡ nameless rs ms i
   next-nameless = told .nameless named
 
-  pub taken : t .nameless ≡ false → Taken rs ms i t
+  pub taken : t .nameless ≡ false → TakenInTurn rs ms i t
   taken h =
       let own : nameless rs ms i ≡ false = sym next-nameless ∙ h in
       let free = passed-one-more rs ms i own before in

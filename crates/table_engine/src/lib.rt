@@ -25,7 +25,7 @@ ghost use Rattle.table_drawing.specs.Tables.{tablesOf};
 ghost use Rattle.table_drawing.specs.AnswerNumbers.{numberOf};
 ghost use Rattle.table_sets.specs.KeyForms.{Tells};
 ghost use Rattle.table_engine.specs.Enumeration.{mostDecided, enumeration, enumerationIn, enumerationOf};
-ghost use Rattle.table_engine.specs.EngineForms.{groupsIn, MaskedTo};
+ghost use Rattle.table_engine.specs.EngineForms.{groupsIn, MasksTell};
 
 // The Sets of a box that the engine decides at most.
 pub const DECIDED: usize = 20;
@@ -44,7 +44,7 @@ fn put_plainly(recs: &[u8], places: &[u16], k: usize, masks: &mut [u64])
         × (k ≤ length (now masks))
         × (any isLimited (setsIn (now recs) (now places) k) ≡ false)
         × Asc Tells (setsIn (now recs) (now places) k) ⌝ }
-    ensures { λ r. ⌜ MaskedTo k (setsIn (now (recs .entry)) (now (places .entry)) k) (now (masks .exit)) ⌝ }
+    ensures { λ r. ⌜ MasksTell k (setsIn (now (recs .entry)) (now (places .entry)) k) (now (masks .exit)) ⌝ }
 {
     let mut sets = [0u64; KEY_CHAINS];
     // what work space holds at first does not matter; zeros would be set by memset (docs/DECISIONS.md, 24)
@@ -63,7 +63,7 @@ fn put_by_rows(recs: &[u8], places: &[u16], k: usize, masks: &mut [u64])
         × (k ≤ mostDecided)
         × (k ≤ length (now masks))
         × Proper (setsIn (now recs) (now places) k) ⌝ }
-    ensures { λ r. ⌜ MaskedTo k (setsIn (now (recs .entry)) (now (places .entry)) k) (now (masks .exit)) ⌝ }
+    ensures { λ r. ⌜ MasksTell k (setsIn (now (recs .entry)) (now (places .entry)) k) (now (masks .exit)) ⌝ }
 {
     // what work space holds at first does not matter; zeros would be set by memset (docs/DECISIONS.md, 24)
     let mut plain = [1u64; DECIDED];
@@ -82,7 +82,7 @@ fn put_masks(recs: &[u8], places: &[u16], k: usize, masks: &mut [u64])
         × (k ≤ length (now masks))
         × Proper (setsIn (now recs) (now places) k)
         × Asc Tells (setsIn (now recs) (now places) k) ⌝ }
-    ensures { λ r. ⌜ MaskedTo k (setsIn (now (recs .entry)) (now (places .entry)) k) (now (masks .exit)) ⌝ }
+    ensures { λ r. ⌜ MasksTell k (setsIn (now (recs .entry)) (now (places .entry)) k) (now (masks .exit)) ⌝ }
 {
     let limited = group_limited::is_any_limited(recs, places, k);
     // in two places, so that the work space of the rows is no part of that in which soundness is tested

@@ -25,7 +25,7 @@ use Rattle.table_arrival.specs.Arrival.{counted, putRecord, putCounts, acceptan
 use Rattle.table_arrival.proofs.Admitted.{admitted}
 use Rattle.table_arrival.proofs.CodeOutcomes.{row-back}
 use Rattle.table_arrival.proofs.ObjectOfSet.{row-rest}
-use Rattle.table_arrival.proofs.SetReady.{Given, set-given, set-apart, set-stored}
+use Rattle.table_arrival.proofs.SetReady.{GivenSet, set-given, set-apart, set-stored}
 use Rattle.table_plain.specs.TakingForms.{TakesShort, LeavesShort, spotOf, Enters, Steps, SetStored, JudgedBy}
 use Rattle.table_plain.specs.TakingForms.{steppedBy, rowsBy}
 use Rattle.table_plain.proofs.IndexAfter.{enter-asks, set-leaves}
@@ -45,7 +45,7 @@ module _
   abbrev s : Sound t
   s = sound-at t (p .takes .isSound)
 
-  given : Given t b (x .survey)
+  given : GivenSet t b (x .survey)
   given = set-given t b (x .survey) (x .judged) true (x .ready)
 
   -- ---- what the code asks

@@ -34,7 +34,7 @@ use Rattle.table_sets.specs.KeyForms.{setAt, chainOf, Tells, TellsIn}
 
 -- ---- an edit and a later one
 
-pub record Later (a b : Edit) : Type 0 where
+pub record ArrivedLater (a b : Edit) : Type 0 where
   unseen : comesBefore b a ≡ false
   other : sameEdit (a .site) (a .seq) (b .site) (b .seq) ≡ false
   key : a .key < keys
@@ -53,7 +53,7 @@ shape false true false = refl
 shape false false true = refl
 shape false false false = refl
 
-told-on : (s : Site) (q : Seq) (a b : Edit) → isSetOn s q a ≡ true → isSetOn s q b ≡ true → Later a b → Tells a b
+told-on : (s : Site) (q : Seq) (a b : Edit) → isSetOn s q a ≡ true → isSetOn s q b ≡ true → ArrivedLater a b → Tells a b
 told-on s q a b on on′ l =
     let (set, aim) = both (isSet a) (sameEdit (a .tsite) (a .tseq) s q) on in
     let (set′, aim′) = both (isSet b) (sameEdit (b .tsite) (b .tseq) s q) on′ in
@@ -87,9 +87,9 @@ module _ (t : Tables) (few : t .counters .sites ≤ mostSites)
   abbrev sites : ℕ
   sites = t .counters .sites
 
-  later : Asc Later (heldBy t)
+  later : Asc ArrivedLater (heldBy t)
   later =
-      edits-pairs rs Later n (λ p q l m.
+      edits-pairs rs ArrivedLater n (λ p q l m.
       let a = recordAt rs p in
       let b = recordAt rs q in
       record {
@@ -112,9 +112,9 @@ module _ (t : Tables) (few : t .counters .sites ≤ mostSites)
   unfolding setsOn
   passed-told c q =
       let f = isSetOn c q in
-      pairs-weaken Later Tells (filter f (heldBy t))
+      pairs-weaken ArrivedLater Tells (filter f (heldBy t))
       (λ a b m k. told-on c q a b (chosen-at f a (heldBy t) m .1) (chosen-at f b (heldBy t) k .1))
-      (pairs-chosen Later f (heldBy t) later)
+      (pairs-chosen ArrivedLater f (heldBy t) later)
 
   pub passed-tells-in :
       (c : Site) (q : Seq) (ps : List ℕ) (k : ℕ) → k ≤ length ps → setsIn rs ps k ≡ setsOn c q (heldBy t) →

@@ -17,7 +17,7 @@ use Rattle.group_limited.proofs.NamedInTurn.{nameless, lawful-to}
 use Rattle.table_check.specs.CheckForms.{groupsIn}
 use Rattle.table_check.proofs.RowWorkedOut.{groups-none, stepped, in-ascending, in-below, in-apart, in-more}
 use Rattle.table_check.proofs.RowWorkedOut.{settled-front}
-use Rattle.table_check.proofs.SetsInTurn.{Taken, taken, next-nameless, turn-to}
+use Rattle.table_check.proofs.SetsInTurn.{TakenInTurn, taken, next-nameless, turn-to}
 use borrow.Author.Needs.{needs}
 use Rattle.table_check.proofs.step_limited.Statement.{statement}
 use Rattle.table_check.proofs.step_limited.Tie as tie
@@ -64,7 +64,7 @@ next-told :
     let i = y .loop .i in
     ToldOf (setsIn rs ps i) (recordAt rs (getD ps i 0)) t
     × (t .nameless ≡ nameless rs ps i)
-    × (t .nameless ≡ false → Taken rs ps i t)
+    × (t .nameless ≡ false → TakenInTurn rs ps i t)
 next-told b =
     let y = b .before .before .before .before .before in
     let l = y .before .loop in
