@@ -93,7 +93,7 @@ block-located t ok ahead room =
 
 -- ---- a block that is located
 
-pub record Accepted (file : List ℕ) (l : Located) : Type 0 where
+pub record AcceptedFile (file : List ℕ) (l : Located) : Type 0 where
   pub few-records : l .trailer .records ≤ mostRecords
   pub right-sites : sitesRight (l .trailer .sites) ≡ true
   pub walked : startOf (l .trailer .form) (l .stretch) (l .trailer .records) ≡ length (l .stretch)
@@ -118,7 +118,7 @@ module _ (file : List ℕ) where
       (trailer-again s (simp length-drop (omega (arith, f .long))) (bytes-drop at file bytes)
       (getD-drop at file 3 0 ∙ l))
 
-  fit-accepted : Fit file → sitesFit file ≡ true → Accepted file (acceptedIn file)
+  fit-accepted : Fit file → sitesFit file ≡ true → AcceptedFile file (acceptedIn file)
   fit-accepted f k =
       let d = distanceIn file in
       let start = startIn file in
@@ -135,9 +135,9 @@ module _ (file : List ℕ) where
             λ bytes l. rw (long, tail bytes l, take-append-drop d (drop start file)) (take-append-drop start file);
       }
 
-  pub accepted-at : located file .trailer .answer ≡ 0 → Accepted file (located file)
+  pub accepted-at : located file .trailer .answer ≡ 0 → AcceptedFile file (located file)
   accepted-at =
-      located-by file (λ l. l .trailer .answer ≡ 0 → Accepted file l) (λ e. absurd (omega arith))
+      located-by file (λ l. l .trailer .answer ≡ 0 → AcceptedFile file l) (λ e. absurd (omega arith))
       (λ e. absurd (omega arith)) (λ f k e. fit-accepted f k)
 
   -- tables that hold the records of the stretch, for the N of the trailer, are written as the same block

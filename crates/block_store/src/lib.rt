@@ -178,7 +178,10 @@ pub fn read_file(
             counters: c,
         };
     }
-    let stretch = block_trailer::locate(file);
+    // by what was read of the trailer, which else would be looked into twice
+    let start = f.start;
+    let end = block_trailer::stretch_end(answer, file.len());
+    let stretch = &file[start..end];
     read_records(
         f.sites,
         records,

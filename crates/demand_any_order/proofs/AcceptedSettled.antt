@@ -34,13 +34,14 @@ use Rattle.table_arrival.proofs.UntouchedSound.{creates-snoc, sets-snoc}
 use Rattle.group_true.proofs.TrueGroups.{groups-same, groups-first}
 use Rattle.group_true.proofs.ProperSets.{Orderly, orderly-none, orderly-more}
 use Rattle.math_lists.specs.Rearranged.{Mem}
-use Rattle.demand_any_order.specs.Settled.{named, AllAccepted, MayPrecede, Causal, Differ, Apart}
+use Rattle.demand_any_order.specs.Settled.{named, AllAccepted, MayPrecede, Causal}
+use Rattle.group_true.specs.Identities.{Differ, AllDiffer}
 use Rattle.demand_any_order.specs.Settled.{SeqsFit, Known, Settled}
 use Rattle.math_lists.proofs.ListMembers.{any-at, chosen-at, split-mem, mem-along, mem-middle, fronts}
 use Rattle.math_lists.proofs.PairsInList.{pairs-snoc, pairs-cross, pairs-weaken}
-use Rattle.demand_any_order.proofs.Identities.{same-at, seen-on, one-object}
+use Rattle.group_true.proofs.Identities.{same-at, seen-on, one-object}
 use Rattle.demand_any_order.proofs.AnswerNought.{Fine, fine-at, fine-passes}
-use Rattle.demand_any_order.proofs.CountsInTurn.{Counted, counted-none, counted-more}
+use Rattle.demand_any_order.proofs.CountsInTurn.{CountedInTurn, counted-none, counted-more}
 
 -- a's author had not applied b
 abbrev Unseen : Edit → Edit → Type 0
@@ -77,20 +78,20 @@ module _ (n : ℕ) (few : n ≤ mostSites) (es : List Edit) (t : AllAccepted n e
 
   -- ---- what an edit has seen
 
-  counted : Counted es
-  counted = over Counted counted-none (λ us x f c. counted-more n us x (f .inTurn) c)
+  counted : CountedInTurn es
+  counted = over CountedInTurn counted-none (λ us x f c. counted-more n us x (f .inTurn) c)
 
   -- no edit has seen a later one
   later-unseen : Asc Unseen es
   later-unseen =
-      over (λ us. Counted us × Asc Unseen us) (counted-none, tt) (λ us x f (c, h). (
+      over (λ us. CountedInTurn us × Asc Unseen us) (counted-none, tt) (λ us x f (c, h). (
         counted-more n us x (f .inTurn) c,
         pairs-snoc Unseen us x h (λ a m.
             lt-leb (x .seq .0) (getD (a .vector) (x .site .0) 0)
             (omega (arith, c .entries a m (x .site .0) (omega (arith, f .inTurn .formed .site)), f .inTurn .next))),
       )) .1
 
-  pub accepted-apart : Apart es
+  pub accepted-apart : AllDiffer es
   accepted-apart =
       pairs-weaken Unseen Differ es
       (λ a b m k h. off (sameEdit (a .site) (a .seq) (b .site) (b .seq)) (λ s.

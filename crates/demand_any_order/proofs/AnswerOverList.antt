@@ -30,7 +30,7 @@ use Rattle.table_arrival.proofs.ProperWith.{none-itself-with}
 use Rattle.table_arrival.proofs.RefusedForReason.{crowded-exactly}
 use Rattle.demand_any_order.specs.Settled.{fullOver, crowdedOver, listAnswer}
 use Rattle.demand_any_order.specs.Settled as settled
-use Rattle.demand_any_order.proofs.Identities.{one-object}
+use Rattle.group_true.proofs.Identities.{one-object}
 
 -- 7 is looked at only where none of those before it applies
 first-same :

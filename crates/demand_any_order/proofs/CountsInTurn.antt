@@ -19,18 +19,18 @@ use Rattle.table_arrival.proofs.UntouchedSound.{count-snoc}
 use Rattle.math_lists.specs.Rearranged.{Mem}
 use Rattle.math_lists.proofs.ListMembers.{mem-middle}
 
-pub record Counted (xs : List Edit) : Type 0 where
+pub record CountedInTurn (xs : List Edit) : Type 0 where
   pub entries : (a : Edit) → Mem a xs → (s : ℕ) → s < mostSites → getD (a .vector) s 0 ≤ countFrom s xs
   pub present :
       (s q : ℕ) → 0 < q → q ≤ countFrom s xs → (a : Edit) × Mem a xs × (a .site .0 ≡ s) × (a .seq .0 ≡ q)
 
-pub counted-none : Counted []
+pub counted-none : CountedInTurn []
 unfolding countFrom filter
 counted-none = record { entries = λ a m. absurd (List·Memᴰ·not-nil m); present = λ s q a b. absurd (omega arith) }
 
 -- ---- one edit more, which is in turn
 
-module _ (n : ℕ) (xs : List Edit) (e : Edit) (t : InTurn n xs e) (c : Counted xs) where
+module _ (n : ℕ) (xs : List Edit) (e : Edit) (t : InTurn n xs e) (c : CountedInTurn xs) where
   count-own : countFrom (e .site .0) (xs ++ (e ∷ [])) ≡ countFrom (e .site .0) xs + 1
   count-own = count-snoc (e .site .0) xs e ∙ rw (eqb-self (e .site .0))
 
@@ -42,7 +42,7 @@ module _ (n : ℕ) (xs : List Edit) (e : Edit) (t : InTurn n xs e) (c : Counted 
       elim (ℕ-discrete s (e .site .0))
       [ yes q ↦ rw q (omega (arith, count-own)) | no d ↦ omega (arith, count-other s d) ]
 
-  pub counted-more : Counted (xs ++ (e ∷ []))
+  pub counted-more : CountedInTurn (xs ++ (e ∷ []))
   counted-more = record {
     entries = λ a m s l. elim (List·Memᴰ·append-cases xs m) [
       | inl k ↦ omega (arith, c .entries a k s l, count-grown s)

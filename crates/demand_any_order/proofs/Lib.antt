@@ -1,4 +1,3 @@
-pub mod Identities
 pub mod AnswerNought
 pub mod CountsInTurn
 pub mod AcceptedSettled

@@ -22,10 +22,11 @@ use Rattle.table_given.specs.Replay.{replayOf, editsIn}
 use Rattle.table_given.proofs.ReplayFaithful.{replay-faithful}
 use Rattle.math_lists.specs.Rearranged.{Rearranged}
 use Rattle.demand_any_order.specs.Records.{recordsOf}
-use Rattle.demand_any_order.specs.Settled.{AllAccepted, Causal, Apart, Settled}
+use Rattle.demand_any_order.specs.Settled.{AllAccepted, Causal, Settled}
+use Rattle.group_true.specs.Identities.{AllDiffer}
 use Rattle.math_lists.proofs.ListMembers.{mem-place, place-of}
 use Rattle.math_lists.proofs.Rearranged.{same-length, same-members, chosen-rearranged}
-use Rattle.demand_any_order.proofs.Identities.{one-object}
+use Rattle.group_true.proofs.Identities.{one-object}
 use Rattle.demand_any_order.proofs.AcceptedSettled.{accepted-apart, accepted-causal, accepted-settled}
 use Rattle.demand_any_order.proofs.SettledBoxes.{ordered}
 use Rattle.demand_any_order.proofs.ReplayAccepted.{replay-holds, refuses-none-exactly}
@@ -63,8 +64,8 @@ module _ (sites : ℕ) (some : 1 ≤ sites) (few : sites ≤ mostSites) (rs rs�
       subst P (sym (replay-holds sites some few qs n k .0))
       (f (editsIn qs n) (refuses-none-exactly sites some few qs n .0 k .1))
 
-  pub held-apart : Apart (heldBy t)
-  held-apart = held-by Apart rs h (accepted-apart sites few)
+  pub held-apart : AllDiffer (heldBy t)
+  held-apart = held-by AllDiffer rs h (accepted-apart sites few)
 
   pub held-settled : Settled sites (heldBy t)
   held-settled = held-by (Settled sites) rs h (accepted-settled sites few)

@@ -26,9 +26,9 @@ use Rattle.edit_record.specs.RecordBytes.{noEdit}
 use Rattle.group_true.specs.TrueGroups.{groupsOf, trueGroups}
 use Rattle.math_lists.specs.Rearranged.{Rearranged}
 use Rattle.demand_any_order.specs.Settled.{Causal}
-use Rattle.demand_any_order.specs.EqualEdits.{isEqual}
+use Rattle.group_true.specs.EqualEdits.{isEqual}
 use Rattle.math_lists.proofs.Rearranged.{turned, same-members}
-use Rattle.demand_any_order.proofs.Identities.{equal-at, equal-self, sets-distinct, sets-among}
+use Rattle.group_true.proofs.Identities.{equal-at, equal-self, sets-distinct, sets-among}
 use Rattle.demand_any_order.proofs.SettledBoxes.{Ordered, box-lawful, box-causal}
 
 -- the Sets in the group g of the object whose Create is c, where es are held

@@ -37,13 +37,14 @@ use Rattle.group_true.specs.TrueGroups.{trueGroups}
 use Rattle.group_true.proofs.TrueGroups.{sets-more, groups-grow}
 use Rattle.edit_causal.proofs.Identities.{same-site, same-seq}
 use Rattle.math_lists.specs.Rearranged.{Mem}
-use Rattle.demand_any_order.specs.Settled.{named, AllAccepted, MayPrecede, Causal, Differ, Apart, Settled}
+use Rattle.demand_any_order.specs.Settled.{named, AllAccepted, MayPrecede, Causal, Settled}
+use Rattle.group_true.specs.Identities.{Differ, AllDiffer}
 use Rattle.math_lists.proofs.ListMembers.{here, any-on, chosen-on, chosen-more, mem-along, mem-middle, fronts}
 use Rattle.math_lists.proofs.PairsInList.{pairs-cross}
-use Rattle.demand_any_order.proofs.Identities.{same-on, same-at, seen-on, before-on, one-edit, one-object}
+use Rattle.group_true.proofs.Identities.{same-on, same-at, seen-on, before-on, one-edit, one-object}
 use Rattle.demand_any_order.proofs.SettledBoxes.{ordered, box-lawful}
 use Rattle.demand_any_order.proofs.AnswerNought.{Fine, fine-on}
-use Rattle.demand_any_order.proofs.CountsInTurn.{Counted, counted-none, counted-more}
+use Rattle.demand_any_order.proofs.CountsInTurn.{CountedInTurn, counted-none, counted-more}
 
 sets-append : (x : Site) (q : Seq) (us vs : List Edit) → setsOn x q (us ++ vs) ≡ setsOn x q us ++ setsOn x q vs
 unfolding setsOn
@@ -84,7 +85,7 @@ module _ (n : ℕ) (few : n ≤ mostSites) (es : List Edit) (s : Settled n es) (
       ]
     ]
 
-    module _ (c : Counted xs) where
+    module _ (c : CountedInTurn xs) where
       -- the edit that e has seen is counted
       reached : (x r : ℕ) → x < mostSites → 0 < r → r ≤ getD (e .vector) x 0 →
           (x ≡ e .site .0 → r ≡ e .seq .0 → ⊥) → r ≤ countFrom x xs
@@ -106,7 +107,7 @@ module _ (n : ℕ) (few : n ≤ mostSites) (es : List Edit) (s : Settled n es) (
             next = elim (decLt k (e .seq .0)) [
               | no l ↦
                   (let (a, m, y, z) = c .present (e .site .0) (e .seq .0) (w .seq) (omega arith) in
-                  let apart : Apart (xs ++ (e ∷ ys)) = subst Apart q (s .apart) in
+                  let apart : AllDiffer (xs ++ (e ∷ ys)) = subst AllDiffer q (s .apart) in
                   clash (same-on a e y z) (pairs-cross Differ xs (e ∷ ys) apart a e m here))
               | yes l ↦ elim (decLt (k + 1) (e .seq .0)) [
                 | no g ↦ omega arith
@@ -229,8 +230,8 @@ module _ (n : ℕ) (few : n ≤ mostSites) (es : List Edit) (s : Settled n es) (
 
   -- ---- the whole list
 
-  counted : (xs ys : List Edit) → es ≡ xs ++ ys → Counted xs
-  counted = fronts Counted es counted-none (λ us vs x q c. counted-more n us x (in-turn-here us vs x q c) c)
+  counted : (xs ys : List Edit) → es ≡ xs ++ ys → CountedInTurn xs
+  counted = fronts CountedInTurn es counted-none (λ us vs x q c. counted-more n us x (in-turn-here us vs x q c) c)
 
   pub settled-accepted : AllAccepted n es
   settled-accepted xs ys e q = fine-on n xs e (fine-here xs ys e q (counted xs (e ∷ ys) q))

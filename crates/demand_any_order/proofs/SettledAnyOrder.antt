@@ -7,10 +7,11 @@ use Rattle.edit_record.specs.Layout.{mostSites}
 use Rattle.edit_record.specs.Answer1.{isCreate}
 use Rattle.edit_history.specs.EditsHeld.{creates, isSetOn, setsOn}
 use Rattle.math_lists.specs.Rearranged.{Mem, Rearranged}
-use Rattle.demand_any_order.specs.Settled.{createNamed, Causal, Differ, Settled}
+use Rattle.demand_any_order.specs.Settled.{createNamed, Causal, Settled}
+use Rattle.group_true.specs.Identities.{Differ}
 use Rattle.math_lists.proofs.Rearranged.{turned, same-length, same-members, chosen-rearranged}
 use Rattle.math_lists.proofs.PairsInList.{pairs-rearranged}
-use Rattle.demand_any_order.proofs.Identities.{differ-turned}
+use Rattle.group_true.proofs.Identities.{differ-turned}
 use Rattle.demand_any_order.proofs.SameGroups.{named-in-any-order, as-many-in-any-order}
 use Rattle.demand_any_order.proofs.SettledBoxes.{Ordered, ordered}
 

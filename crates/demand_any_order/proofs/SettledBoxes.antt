@@ -32,13 +32,14 @@ use Rattle.edit_history.specs.EditsHeld.{isSetOn, setsOn}
 use Rattle.edit_history.specs.Answers2to5.{largerSomewhere, tears}
 use Rattle.group_true.proofs.ProperSets.{seen-agrees}
 use Rattle.math_lists.specs.Rearranged.{Mem}
-use Rattle.demand_any_order.specs.Settled.{MayPrecede, Causal, Apart, SeqsFit, Known, Settled}
-use Rattle.demand_any_order.proofs.Identities.{same-on, one-edit}
+use Rattle.demand_any_order.specs.Settled.{MayPrecede, Causal, SeqsFit, Known, Settled}
+use Rattle.group_true.specs.Identities.{AllDiffer}
+use Rattle.group_true.proofs.Identities.{same-on, one-edit}
 
 -- what is asked of the edits, in any order
 pub record Ordered (n : ℕ) (es : List Edit) : Type 0 where
   pub fit : (e : Edit) → Mem e es → unfit n e ≡ false
-  pub apart : Apart es
+  pub apart : AllDiffer es
   pub whole : (a e : Edit) → Mem a es → Mem e es → tears e a ≡ false
   pub numbered : SeqsFit es
   pub known : Known es
@@ -137,6 +138,6 @@ module _ (n : ℕ) (few : n ≤ mostSites) (es : List Edit) (o : Ordered n es) (
         (names-told m b (o .numbered m mem) (o .numbered b (member j k)) name) in
         rw one at seen
 
-    pub box-causal : box.Causal (boxOn ms) (length ms)
+    pub box-causal : box.CausalBox (boxOn ms) (length ms)
     unfolding rel
     box-causal = record { seenFirst = seen-first; namesSeen = names-seen }

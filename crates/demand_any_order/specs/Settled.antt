@@ -13,7 +13,7 @@ use Rattle.edit_record.specs.declared.Site.{Site}
 use Rattle.edit_record.specs.declared.Seq.{Seq}
 use Rattle.edit_record.specs.Layout.{mostSites, twoBytes, createKind}
 use Rattle.edit_record.specs.Answer1.{isCreate, isSet, isLimited, isAimed, unfit, nameOf}
-use Rattle.edit_causal.specs.Causal.{sameEdit, comesBefore}
+use Rattle.edit_causal.specs.Causal.{comesBefore}
 use Rattle.edit_causal.specs.Conflict.{listedBy, boxOn}
 use Rattle.edit_causal.specs.ConflictForms.{saw}
 use Rattle.edit_history.specs.EditsHeld.{creates, isSetOn, setsOn, isTarget, mostRecords}
@@ -23,6 +23,7 @@ use Rattle.group_step.specs.GroupRows.{mostObjects, mostSets, mostGroups}
 use Rattle.math_contexts.specs.Versions.{AllNamed}
 use Rattle.table_arrival.specs.Answers6and7.{firstOf, inTurn}
 use Rattle.group_true.specs.TrueGroups.{trueGroups}
+use Rattle.group_true.specs.Identities.{AllDiffer}
 use Rattle.math_lists.specs.Rearranged.{Mem}
 
 -- ---- the answer over a list
@@ -89,13 +90,6 @@ Causal es = Asc MayPrecede es
 
 -- ---- what has no order in it
 
-abbrev pub Differ : Edit → Edit → Type 0
-Differ a b = sameEdit (a .site) (a .seq) (b .site) (b .seq) ≡ false
-
--- no identity stands twice
-abbrev pub Apart : List Edit → Type 0
-Apart es = Asc Differ es
-
 -- every sequence number fits two bytes
 abbrev pub SeqsFit : List Edit → Type 0
 SeqsFit es = (e : Edit) → Mem e es → e .seq .0 < twoBytes
@@ -112,7 +106,7 @@ Named es = (s : Site) (q : Seq) → AllNamed (boxOn (setsOn s q es)) (length (se
 
 pub record Settled (n : ℕ) (es : List Edit) : Type 0 where
   pub fit : (e : Edit) → Mem e es → unfit n e ≡ false
-  pub apart : Apart es
+  pub apart : AllDiffer es
   -- every edit that one has seen is there, so that a site's sequence numbers are 1, 2, .. up to its count
   pub closed :
       (e : Edit) → Mem e es → (s q : ℕ) → s < mostSites → 0 < q → q ≤ getD (e .vector) s 0 →

@@ -23,7 +23,7 @@ use Rattle.table_given.specs.Replay.{oneMore, replayOf}
 use Rattle.table_given.proofs.ReplayFaithful.{replay-faithful}
 use Rattle.list_objects.specs.Objects.{createOf, setsFor}
 use Rattle.demand_list.specs.OtherBoxes.{ownOf}
-use Rattle.demand_list.proofs.OtherBoxes.{Leaves, leaves}
+use Rattle.demand_list.proofs.OtherBoxes.{LeavesOthers, leaves}
 use Rattle.demand_growth.specs.Versions.{arrivals}
 
 pub record Later (t u : Tables) : Type 0 where
@@ -51,7 +51,7 @@ later-then {t} {u} {v} p q = record {
 -- ---- one record
 
 -- what an accepted edit leaves
-left-later : (t u : Tables) (own : ℕ) (e : Edit) → Leaves t u own e → Later t u
+left-later : (t u : Tables) (own : ℕ) (e : Edit) → LeavesOthers t u own e → Later t u
 left-later t u own e l = record {
   objects = l .objects;
   creates = l .creates;

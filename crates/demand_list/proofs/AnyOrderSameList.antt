@@ -23,7 +23,7 @@ use Rattle.demand_any_order.proofs.SameDrawings.{held-rearranged, held-settled,
 use Rattle.demand_any_order.proofs.SameDrawings.{held-causal-too}
 use Rattle.list_text.specs.HeadAndRefusal.{headLine}
 use Rattle.list_version.proofs.RanksStrict.{held-ranked}
-use Rattle.list_line.proofs.AnyOrderLines.{any-order-lines}
+use Rattle.demand_list.proofs.AnyOrderLines.{any-order-lines}
 use Rattle.list_order.specs.Moves.{layeredOrder}
 use Rattle.list_order.proofs.Deciding.{AllRanked}
 use Rattle.list_order.proofs.AnyOrder.{layered-any-order}

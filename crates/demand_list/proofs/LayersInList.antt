@@ -12,7 +12,7 @@ use Rattle.edit_record.specs.Answer1.{isCreate, isSet, isTop, isLayer}
 use Rattle.edit_record.proofs.WellFormed.{create-not-set, layer-not-set}
 use Rattle.edit_history.specs.EditsHeld.{creates, isSetOn}
 use Rattle.group_true.proofs.TrueGroups.{sets-same, groups-same}
-use Rattle.demand_any_order.specs.Settled.{Apart}
+use Rattle.group_true.specs.Identities.{AllDiffer}
 use Rattle.math_lists.proofs.ListMembers.{chosen-at}
 use Rattle.list_line.specs.Line.{objectLines}
 use Rattle.list_order.specs.Layers.{isOn, inOrder}
@@ -26,7 +26,7 @@ use Rattle.math_lists.proofs.FlatMaps.{flat-same}
 
 -- ---- by moves
 
-pub lines-by-moves : (es : List Edit) → Apart es → AllRanked es → versionLines es ≡ flatMap (linesIn es) (moved es)
+pub lines-by-moves : (es : List Edit) → AllDiffer es → AllRanked es → versionLines es ≡ flatMap (linesIn es) (moved es)
 unfolding versionLines
 lines-by-moves es u ranked = ap (flatMap (linesIn es)) (sym (theorem-of-the-moves es u ranked))
 
@@ -42,7 +42,7 @@ module _ (es : List Edit) (e : Edit) where
   pub layer-keeps-text : isLayer e ≡ true → (c : Edit) → linesIn (es ++ (e ∷ [])) c ≡ linesIn es c
   layer-keeps-text l c = same-text c (rw (layer-not-set e l))
 
-  module _ (u : Apart (es ++ (e ∷ []))) (ranked : AllRanked (es ++ (e ∷ []))) where
+  module _ (u : AllDiffer (es ++ (e ∷ []))) (ranked : AllRanked (es ++ (e ∷ []))) where
     -- a Create leaves all lines that were there, in their order
     pub create-leaves-other-lines :
         isCreate e ≡ true →

@@ -1,6 +1,7 @@
 pub mod ObjectsInOrder
 pub mod HeadTotal
 pub mod ListOverEdits
+pub mod AnyOrderLines
 pub mod AnyOrderSameList
 pub mod LayersInList
 pub mod BottomsLeftOut

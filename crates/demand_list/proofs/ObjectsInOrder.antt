@@ -16,9 +16,9 @@ use Rattle.table_drawing.specs.Tables.{Tables, heldBy}
 use Rattle.table_soundness.proofs.SoundFacts.{Sound}
 use Rattle.table_soundness.proofs.ObjectsByNumber.{target-object}
 use Rattle.math_lists.specs.Rearranged.{Mem, Rearranged}
-use Rattle.demand_any_order.specs.Settled.{Differ}
+use Rattle.group_true.specs.Identities.{Differ}
 use Rattle.math_lists.proofs.Rearranged.{same-members}
-use Rattle.demand_any_order.proofs.Identities.{differ-turned}
+use Rattle.group_true.proofs.Identities.{differ-turned}
 use Rattle.math_lists.proofs.PairsInList.{pairs-chosen, pairs-two}
 use Rattle.list_version.proofs.NeverShared.{held-apart}
 use Rattle.list_version.proofs.RanksStrict.{held-ranked}

@@ -37,7 +37,7 @@ use Rattle.edit_record.proofs.WellFormed.{create-not-set, set-not-create, set-a
 use Rattle.edit_record.proofs.WellFormed.{layer-not-set}
 use Rattle.table_arrival.proofs.ObjectOfSet.{object-less, row-fits}
 use Rattle.table_arrival.proofs.SetKeepsSound.{not-on}
-use Rattle.table_arrival.proofs.ArrivalKeepsSound.{Kept, acceptance-keeps}
+use Rattle.table_arrival.proofs.ArrivalKeepsSound.{KeptSound, acceptance-keeps}
 use Rattle.math_lists.proofs.ListMembers.{chosen-at}
 use Rattle.list_line.specs.Line.{objectLines}
 use Rattle.math_lists.proofs.Choices.{not-chosen-snoc}
@@ -50,7 +50,7 @@ use Rattle.demand_list.proofs.ObjectsInOrder.{object-below, not-on-othe
 
 -- ---- what an edit e about the object own leaves of the tables t, where they are u after it
 
-pub record Leaves (t u : Tables) (own : ℕ) (e : Edit) : Type 0 where
+pub record LeavesOthers (t u : Tables) (own : ℕ) (e : Edit) : Type 0 where
   pub objects : t .counters .objects ≤ u .counters .objects
   pub others : filter (isOther own) (numbers u) ≡ filter (isOther own) (numbers t)
   pub creates : (o : ℕ) → o < t .counters .objects → createOf u o ≡ createOf t o
@@ -60,7 +60,7 @@ pub record Leaves (t u : Tables) (own : ℕ) (e : Edit) : Type 0 where
       isSetOn (createOf t o .site) (createOf t o .seq) e ≡ false
   pub row : (o : ℕ) → o < t .counters .objects → (o ≡ own → ⊥) → rowOf u o ≡ rowOf t o
 
-module _ (t u : Tables) (own : ℕ) (e : Edit) (l : Leaves t u own e) where
+module _ (t u : Tables) (own : ℕ) (e : Edit) (l : LeavesOthers t u own e) where
   same-sets : (o : ℕ) → o < t .counters .objects → (o ≡ own → ⊥) →
       setsOn (createOf t o .site) (createOf t o .seq) (heldBy u) ≡ setsFor t o
   same-sets o m d =
@@ -83,7 +83,7 @@ module _ (t u : Tables) (own : ℕ) (e : Edit) (l : Leaves t u own e) where
 
 -- ---- an accepted edit leaves them
 
-module _ (t : Tables) (b : List ℕ) (k : Kept t) (a : Accepted t b) where
+module _ (t : Tables) (b : List ℕ) (k : KeptSound t) (a : Accepted t b) where
   abbrev s : Sound t
   s = k .isSound
 
@@ -114,7 +114,7 @@ module _ (t : Tables) (b : List ℕ) (k : Kept t) (a : Accepted t b) where
         (entry-other (t .objects) m (t .counters .records) 0 1 o (λ q. omega arith) .0)
         ∙ create-stays o l
 
-    create-leaves : Leaves t (withCreate t b) m e
+    create-leaves : LeavesOthers t (withCreate t b) m e
     unfolding withCreate
     create-leaves = record {
       objects = omega arith;
@@ -157,7 +157,7 @@ module _ (t : Tables) (b : List ℕ) (k : Kept t) (a : Accepted t b) where
         ] in
         ap (recordAt (putRecord (t .records) (t .counters .records) b)) place ∙ create-stays o l
 
-    set-leaves : Leaves t (withSet t b) x e
+    set-leaves : LeavesOthers t (withSet t b) x e
     unfolding withSet
     set-leaves = record {
       objects = omega arith;
@@ -179,7 +179,7 @@ module _ (t : Tables) (b : List ℕ) (k : Kept t) (a : Accepted t b) where
     unfolding withLayer
     layer-same o l = create-stays o l
 
-    layer-leaves : Leaves t (withLayer t b) own e
+    layer-leaves : LeavesOthers t (withLayer t b) own e
     unfolding withLayer
     layer-leaves = record {
       objects = omega arith;
@@ -192,18 +192,18 @@ module _ (t : Tables) (b : List ℕ) (k : Kept t) (a : Accepted t b) where
 
 -- ---- an accepted record
 
-module _ (t : Tables) (k : Kept t) (b : List ℕ) (h : acceptanceOf t b .answer ≡ 0) where
+module _ (t : Tables) (k : KeptSound t) (b : List ℕ) (h : acceptanceOf t b .answer ≡ 0) where
   abbrev t′ : Tables
   t′ = acceptanceOf t b .after
 
-  pub leaves : Leaves t t′ (ownOf t b) (decodeOf b)
+  pub leaves : LeavesOthers t t′ (ownOf t b) (decodeOf b)
   leaves =
       let (z, q) = was-taken t t′ b (ap (λ (n : ℕ). outcomeOf n t′) (sym h)) in
-      subst (λ (u : Tables). Leaves t u (ownOf t b) (decodeOf b)) (sym q) (go (accepted t b z))
+      subst (λ (u : Tables). LeavesOthers t u (ownOf t b) (decodeOf b)) (sym q) (go (accepted t b z))
     where
-      go : Accepted t b → Leaves t (taken t b) (ownOf t b) (decodeOf b)
+      go : Accepted t b → LeavesOthers t (taken t b) (ownOf t b) (decodeOf b)
       go a =
-          taken-by-kind t b (a .admitted) (λ u. Leaves t u (ownOf t b) (decodeOf b))
+          taken-by-kind t b (a .admitted) (λ u. LeavesOthers t u (ownOf t b) (decodeOf b))
           (λ c. unfold ownOf in rw c (create-leaves t b k a c))
           (λ c. unfold ownOf in rw (set-not-create (decodeOf b) c) (set-leaves t b k a c))
           (λ c. layer-leaves t b k a c (ownOf t b))

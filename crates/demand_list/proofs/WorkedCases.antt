@@ -42,7 +42,7 @@ use Rattle.list_order.specs.Layers.{inOrder, lastOn, deciding, standing}
 use Rattle.list_order.specs.Moves.{layeredOrder}
 use Rattle.demand_list.specs.ListOverEdits.{linesIn, versionLines, linesOver}
 use Rattle.demand_list.specs.WorkedCases.{Expected, refused, prints, Case, bytesOf, sites, recordBytes, Meets}
-use Rattle.demand_list.specs.WorkedCases.{Holds, AllHold, cases}
+use Rattle.demand_list.specs.WorkedCases.{CaseHolds, AllHold, cases}
 use Rattle.demand_list.proofs.ReplayAnswered.{answerOver, index-next, answered, printed}
 
 -- ---- what is computed of a case
@@ -86,7 +86,7 @@ abbrev pub AllComputed : List Case → Type 0
 AllComputed [] = Unit {0}
 AllComputed (c ∷ cs) = Computed c × AllComputed cs
 
-by-computing : (c : Case) → Computed c → Holds c
+by-computing : (c : Case) → Computed c → CaseHolds c
 by-computing c (some-edit, long, are, gives) = go (c .expected) gives
   where
     es : List Edit

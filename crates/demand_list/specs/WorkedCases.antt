@@ -42,14 +42,14 @@ Meets r n (refused a) = (r .answer ≡ a) × (r .index + 1 ≡ n)
 Meets r n (prints ls) = (r .answer ≡ 0) × (linesOf (r .after) ≡ map bytesOf ls)
 
 -- the records taken from an empty drawing are answered and printed as expected
-abbrev pub Holds : Case → Type 0
-Holds c =
+abbrev pub CaseHolds : Case → Type 0
+CaseHolds c =
     let n = length (c .arrivals) in
     Meets (replayOf sites (storedIn longForm (recordBytes (c .arrivals))) n) n (c .expected)
 
 abbrev pub AllHold : List Case → Type 0
 AllHold [] = Unit {0}
-AllHold (c ∷ cs) = Holds c × AllHold cs
+AllHold (c ∷ cs) = CaseHolds c × AllHold cs
 
 -- ---- the edits
 

@@ -94,20 +94,6 @@ pub old-by-kind :
     ≡ cond (hasOldForm (getD rest kindAt 0)) (widened (take oldLength rest)) (replicate recordLength 0)
 old-by-kind rest = rw (getD-take oldLength rest kindAt 0 (lit< tt))
 
--- ---- the front of a long record
-
-pub front-there :
-    (form : ℕ) (rest : List ℕ) → eqb form oldForm ≡ false → lengthFrom form rest ≤ length rest →
-    recordLength ≤ length rest
-front-there form rest long there =
-    let whole : spanOf rest ≤ length rest = rw long at there in
-    omega (arith, whole, span-least rest)
-
-pub front-copied :
-    (rest : List ℕ) →
-    put (replicate recordLength 0) 0 recordLength (take recordLength (drop 0 rest)) ≡ take recordLength rest
-front-copied rest = append-nil (take recordLength rest)
-
 -- ---- the site
 
 -- in front of the zeros a byte stands where it stood

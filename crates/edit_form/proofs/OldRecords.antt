@@ -2,7 +2,7 @@
 -- form is a long one; and the edit in an old record, with zeros for the entries that its vector lacks. What is said of
 -- entries holds for any number of them. Assumes nothing.
 use mathlib.Core.Path.{_≡_, refl, sym, ap, ap₂, _∙_}
-use mathlib.Core.Logic.{_⊎_, inl, inr}
+use mathlib.Core.Logic.{inl, inr}
 use mathlib.Core.Bool.{Bool, true, false, not, _&&_, cond, and-false, or-false}
 use mathlib.Core.List.{List, [], _∷_, _++_, append-assoc}
 use Prim.Native.Nat.{ℕ, zero, suc, _+_, _-_, _*_, _≤_, _<_}
@@ -10,7 +10,7 @@ use native.Mathlib.Omega.{arith}
 use lib.Dec.{eqb, leb, lit<}
 use borrow.Author.Tests.{eqb-true}
 use lib.ListN.{length, getD, take, drop, replicate, length-append, length-drop, List·getD-append}
-use lib.Seq.{length-take-le, take-all, take-take, drop-at, drop-append-le, drop-drop, getD-drop}
+use lib.Seq.{length-take-le, drop-at, drop-append-le, drop-drop, getD-drop}
 use lib.Seq.{getD-append-add}
 use Rattle.math_lists.specs.NumbersBelow.{some}
 use Rattle.math_lists.proofs.NumbersBelow.{some-same}
@@ -25,7 +25,7 @@ use Rattle.edit_record.proofs.NumbersInBytes.{counts-length}
 use Rattle.edit_record.proofs.FoursInBytes.{fours-none}
 use Rattle.edit_record.proofs.AgreeingBytes.{span-plain}
 use Rattle.edit_record.proofs.EntriesPastSites.{isPast}
-use Rattle.edit_record.proofs.RecordSpans.{span-least, span-own}
+use Rattle.edit_record.proofs.RecordSpans.{span-own}
 use Rattle.edit_form.specs.OldForm.{oldForm, oldSites, lacking, oldLength, lengthFrom, widened, hasOldForm}
 use Rattle.edit_form.specs.OldForm.{longOf, longFrom}
 use Rattle.edit_form.proofs.CopiedParts.{oldEnd, drop-take, widened-before}
@@ -93,38 +93,6 @@ long-from-whole form rest h = go (eqb form oldForm) h
         let long = length-take-le oldLength rest l in
         longOf-long (take oldLength rest) long ∙ sym (old-span (take oldLength rest) long)
     go false l = length-take-le (spanOf rest) rest l ∙ sym (span-own rest)
-
--- ---- its first bytes
-
--- so many of an old record are all of it
-pub old-whole :
-    (form : ℕ) (rest : List ℕ) → eqb form oldForm ≡ true → oldLength ≤ length rest →
-    length (longFrom form rest) ≡ recordLength
-old-whole form rest old l =
-    ap length (long-old form rest old) ∙ longOf-long (take oldLength rest) (length-take-le oldLength rest l)
-
-pub front-old :
-    (form : ℕ) (rest : List ℕ) → eqb form oldForm ≡ true → oldLength ≤ length rest →
-    take recordLength (longFrom form rest) ≡ longFrom form rest
-front-old form rest old l =
-    take-all recordLength (longFrom form rest) (omega (arith, old-whole form rest old l))
-
--- and of a long one they stand where it does
-pub front-long :
-    (form : ℕ) (rest : List ℕ) → eqb form oldForm ≡ false →
-    take recordLength (longFrom form rest) ≡ take recordLength rest
-front-long form rest long =
-    ap (take recordLength) (long-own form rest long)
-    ∙ rw long (take-take recordLength (spanOf rest) rest (span-least rest))
-
--- unless it is limited, they are all of it
-pub front-plain :
-    (form : ℕ) (rest : List ℕ) → lengthFrom form rest ≤ length rest →
-    eqb (getD (longFrom form rest) kindAt 0) limitedKind ≡ false →
-    take recordLength (longFrom form rest) ≡ longFrom form rest
-front-plain form rest l plain =
-    let b = longFrom form rest in
-    take-all recordLength b (omega (arith, long-from-whole form rest l, span-plain b plain))
 
 -- ---- counts
 

@@ -14,7 +14,8 @@ ghost use Prim.Native.Nat.{_+_, _≤_};
 ghost use lib.ListN.{length, getD, take, drop};
 ghost use Rattle.edit_record.specs.Layout.{siteAt, recordLength};
 ghost use Rattle.edit_record.specs.RecordBytes.{decodeOf};
-ghost use Rattle.edit_form.specs.OldForm.{sitesBy, lengthFrom, oldLength, hasOldForm, longOf, longFrom};
+ghost use Rattle.edit_form.specs.OldForm.{oldForm, sitesBy, lengthFrom, oldLength, hasOldForm, longOf};
+ghost use Rattle.edit_form.specs.OldForm.{longFrom};
 
 // The forms, by the number that a trailer has for each.
 pub const OLD: u8 = 0;
@@ -91,29 +92,29 @@ pub fn widened_from(rest: &[u8]) -> [u8; RECORD]
     )
 }
 
-// The first bytes of that record as a long one, where it is there whole: all of it, unless it is limited.
-pub fn front_from(rest: &[u8], form: u8) -> [u8; RECORD]
+// An old record as a long one; of a long one, which is read where it stands, zeros.
+pub fn widened_if(rest: &[u8], form: u8) -> [u8; RECORD]
     requires { ⌜ lengthFrom form (now rest) ≤ length (now rest) ⌝ }
-    ensures { λ r. ⌜ r ≡ take recordLength (longFrom form (now (rest .entry))) ⌝ }
+    ensures { λ r. ⌜ (form ≡ oldForm → r ≡ longFrom form (now (rest .entry))) ⌝ }
 {
     if form == OLD {
         return widened_from(rest);
     }
-    with_part([0u8; RECORD], 0, rest, 0, RECORD)
+    [0u8; RECORD]
 }
 
-// Where that record stands as a long one: a long one where it is, an old one in its first bytes as a long one. A copy
-// is read slowly right after it was made, so what can be read where it stands is.
-pub fn long_in<'a>(rest: &'a [u8], form: u8, front: &'a [u8]) -> &'a [u8]
+// Where that record, of so many bytes, stands as a long one: a long one where it is, an old one in `wide`. A copy is
+// read slowly right after it was made, so what can be read where it stands is.
+pub fn long_in<'a>(rest: &'a [u8], form: u8, used: usize, wide: &'a [u8]) -> &'a [u8]
     requires { ⌜ (lengthFrom form (now rest) ≤ length (now rest))
-        × (now front ≡ take recordLength (longFrom form (now rest))) ⌝ }
-    ensures { λ r. ⌜ (recordLength ≤ length (now r))
-        × (decodeOf (now r) ≡ decodeOf (longFrom form (now (rest .entry)))) ⌝ }
+        × (used ≡ lengthFrom form (now rest))
+        × (form ≡ oldForm → now wide ≡ longFrom form (now rest)) ⌝ }
+    ensures { λ r. ⌜ now r ≡ longFrom form (now (rest .entry)) ⌝ }
 {
     if form == OLD {
-        return front;
+        return wide;
     }
-    rest
+    &rest[..used]
 }
 
 // The edit in that record, where it is there whole: a long one is read where it stands.

@@ -12,17 +12,17 @@ use Rattle.edit_record.specs.RecordBytes.{decodeOf}
 use Rattle.edit_record.proofs.AgreeingBytes.{decode-agree}
 
 -- s and t have the same byte everywhere; past the end stands 0
-abbrev pub Same : List ℕ → List ℕ → Type 0
-Same s t = (i : ℕ) → getD s i 0 ≡ getD t i 0
+abbrev pub SameByEntry : List ℕ → List ℕ → Type 0
+SameByEntry s t = (i : ℕ) → getD s i 0 ≡ getD t i 0
 
 -- ---- copied one by one
 
-pub zeros : (n : ℕ) (t : List ℕ) → Same (replicate n 0) (take 0 t)
+pub zeros : (n : ℕ) (t : List ℕ) → SameByEntry (replicate n 0) (take 0 t)
 zeros n t = zero-anywhere n
 
 pub one-more :
-    (s t : List ℕ) (n : ℕ) → n < length s → n < length t → Same s (take n t) →
-    Same (set s n (getD t n 0)) (take (n + 1) t)
+    (s t : List ℕ) (n : ℕ) → n < length s → n < length t → SameByEntry s (take n t) →
+    SameByEntry (set s n (getD t n 0)) (take (n + 1) t)
 one-more s t n l m h i = go (decLt i n) (ℕ-discrete i n)
   where
     before : i < n → getD (set s n (getD t n 0)) i 0 ≡ getD (take (n + 1) t) i 0
@@ -49,5 +49,5 @@ one-more s t n l m h i = go (decLt i n) (ℕ-discrete i n)
 
 -- ---- read
 
-pub decode-same : (s t : List ℕ) → Same s t → decodeOf s ≡ decodeOf t
+pub decode-same : (s t : List ℕ) → SameByEntry s t → decodeOf s ≡ decodeOf t
 decode-same s t h = decode-agree s t (λ i l. h i)

@@ -28,7 +28,7 @@ use Rattle.math_lists.proofs.Booleans.{decide}
 use Rattle.math_lists.proofs.ByPlaces.{zero-anywhere}
 
 -- the fields are values of their types; there is a count in a limited Set alone, and past it no member
-pub record Fits (e : Edit) : Type 0 where
+pub record FieldsFit (e : Edit) : Type 0 where
   pub kind : e .kind < 256
   pub site : e .site .0 < 256
   pub seq : e .seq .0 < 65536
@@ -59,7 +59,7 @@ past-fits s h i l = elim (decide (limits s)) [
   | inr off ↦ rw off (fours-past mostMembers 0 (drop membersAt s) i (omega arith))
 ]
 
-pub decoded-fits : (s : List ℕ) → Bytes s → Fits (decodeOf s)
+pub decoded-fits : (s : List ℕ) → Bytes s → FieldsFit (decodeOf s)
 decoded-fits s h =
     record {
       kind = h 0;
@@ -116,7 +116,7 @@ fields-length e long = simp length-append (omega (arith, countBytes-length (e .v
 
 -- what a limited Set lists, and what every other does not
 list-back :
-    (e : Edit) (rest : List ℕ) → Fits e →
+    (e : Edit) (rest : List ℕ) → FieldsFit e →
     (cond (isLimited e) (four (encodeOf e ++ rest) countAt) 0 ≡ e .count)
     × (firstFours mostMembers (cond (isLimited e) (two (encodeOf e ++ rest) countAt) 0)
     (drop membersAt (encodeOf e ++ rest)) ≡ e .members)
@@ -148,7 +148,7 @@ list-back e rest h = elim (decide (isLimited e)) [
       rw on (count, rw (half, members) all)
 ]
 
-pub decode-undoes-encode : (e : Edit) (rest : List ℕ) → Fits e → decodeOf (encodeOf e ++ rest) ≡ e
+pub decode-undoes-encode : (e : Edit) (rest : List ℕ) → FieldsFit e → decodeOf (encodeOf e ++ rest) ≡ e
 unfolding countBytes
 decode-undoes-encode e rest h =
     let v = e .vector in
@@ -240,7 +240,7 @@ encode-undoes-decode s l few h = elim (decide (limits s)) [
 -- ---- in a place
 
 pub placed-encoded :
-    (e : Edit) → Fits e → e .count ≤ mostMembers →
+    (e : Edit) → FieldsFit e → e .count ≤ mostMembers →
     placed e ≡ encodeOf e ++ replicate (placeLength - length (encodeOf e)) 0
 placed-encoded e h few = elim (decide (isLimited e)) [
   | inr off ↦

@@ -1,22 +1,20 @@
-// The edit record of document 01: sites and sequence numbers, a record's bytes to an edit and back, and answer 1.
+// The edit record of document 01: sites and sequence numbers, and a record's bytes to an edit and back.
 mod lists;
 mod writing;
 
 use lists::count_of;
-use lists::is_list_unfit_in;
 use lists::members_of;
 use writing::encode_fields;
 use writing::with_list;
 ghost use mathlib.Core.Path.{_≡_};
 ghost use Prim.Native.Nat.{ℕ, _+_, _*_, _≤_, _<_, _^_};
 ghost use lib.ListN.{length, getD, drop};
-ghost use mathlib.Core.Bool.{false, _||_};
-ghost use lib.Dec.{eqb, leb};
+ghost use mathlib.Core.Bool.{_||_};
+ghost use lib.Dec.{eqb};
 ghost use Rattle.edit_record.specs.Layout.{mostSites, vectorAt, valueAt, recordLength};
 ghost use Rattle.edit_record.specs.Layout.{setKind, limitedKind, topKind, bottomKind};
 ghost use Rattle.edit_record.specs.RecordBytes.{two, four, counts, decodeOf, placed, spanOf};
-ghost use Rattle.edit_record.specs.Answer1.{entryOf, nonzeroPast, nameIn};
-ghost use Rattle.edit_record.specs.Answer1.{unfit, malformed};
+ghost use Rattle.edit_record.specs.Answer1.{entryOf, nameIn};
 
 // The sites that a drawing has at most: the entries of a vector.
 pub const SITES: usize = 16;
@@ -276,20 +274,6 @@ pub fn own_entry(rec: &[u8], site: u8) -> u16
     0
 }
 
-// Whether an entry of that vector is nonzero at or past n.
-fn is_nonzero_past(n: u8, rec: &[u8]) -> bool
-    requires { ⌜ recordLength ≤ length (now rec) ⌝ }
-    ensures { λ r. ⌜ r ≡ nonzeroPast n (counts mostSites (drop vectorAt (now (rec .entry)))) ⌝ }
-{
-    let mut found = false;
-    let mut i = n as usize;
-    while i < SITES {
-        found = found | (pair_at(rec, AT_VECTOR + 2 * i) != 0);
-        i += 1;
-    }
-    found
-}
-
 // The value of a record that is there whole.
 pub fn value_of(rec: &[u8]) -> u32
     requires { ⌜ recordLength ≤ length (now rec) ⌝ }
@@ -298,62 +282,4 @@ pub fn value_of(rec: &[u8]) -> u32
     let low = pair_at(rec, AT_VALUE);
     let high = pair_at(rec, AT_VALUE + 2);
     low as u32 + high as u32 * 65536
-}
-
-// Whether answer 1 is given, in a drawing of n sites, to the edit of a record that is there whole, but that the entries
-// at or past n are not looked at. The fields are read where they stand: an edit is longer than all that is asked of
-// most. Most are plain Sets, of which less is asked.
-pub fn is_body_unfit(n: u8, rec: &[u8]) -> bool
-    requires { ⌜ recordLength ≤ length (now rec) ⌝ }
-    ensures { λ r.
-        ⌜ ((leb n (decodeOf (now (rec .entry)) .site .0) ≡ false →
-        nonzeroPast n (decodeOf (now (rec .entry)) .vector) ≡ false) →
-        r ≡ unfit n (decodeOf (now (rec .entry)))) ⌝ }
-{
-    let kind = rec[AT_KIND];
-    let site = rec[AT_SITE];
-    if n <= site {
-        return true;
-    }
-    let key = rec[AT_KEY];
-    let seq = pair_at(rec, AT_SEQ);
-    let tseq = pair_at(rec, AT_TARGET_SEQ);
-    let own = own_entry(rec, site);
-    if kind == SET {
-        return (seq == 0) | (seq != own) | (KEYS <= key) | (tseq == 0);
-    }
-    let tsite = rec[AT_TARGET];
-    let value = value_of(rec);
-    let layer = is_layer_kind(kind);
-    let aimed = is_aimed_kind(kind);
-    let list = is_list_unfit_in(rec);
-    !((kind == CREATE) | aimed)
-        | (seq == 0)
-        | (seq != own)
-        | (KEYS <= key)
-        | (aimed & (tseq == 0))
-        | ((kind == CREATE) & !((tsite == 0) & (key == 0) & (tseq == 0) & (value == 0)))
-        | (layer & !((key == 0) & (value == 0)))
-        | list
-}
-
-// Whether answer 1 is given, in a drawing of n sites, to the edit of a record that is there whole.
-pub fn is_unfit(n: u8, rec: &[u8]) -> bool
-    requires { ⌜ recordLength ≤ length (now rec) ⌝ }
-    ensures { λ r. ⌜ r ≡ unfit n (decodeOf (now (rec .entry))) ⌝ }
-{
-    if is_nonzero_past(n, rec) {
-        return true;
-    }
-    is_body_unfit(n, rec)
-}
-
-// Whether answer 1 is given to these bytes, of any length, in a drawing of n sites.
-pub fn is_malformed(n: u8, rec: &[u8]) -> bool
-    ensures { λ r. ⌜ r ≡ malformed n (now (rec .entry)) ⌝ }
-{
-    if rec.len() != span_of(rec) {
-        return true;
-    }
-    is_unfit(n, rec)
 }

@@ -1,8 +1,6 @@
 // The walk that tests the records of a table: whether each passes answers 1 to 5 of document 01 after those before it,
-// with the counts of the edits and the index of their places that it keeps. The loop is its caller's.
-pub mod next;
-pub mod whole;
-
+// with the counts of the edits and the index of their places that it keeps. The loop is its caller's, and the short way
+// that most records take stands in `edit_next`.
 use edit_history::RECORDS;
 use edit_record::AT_KIND;
 use edit_record::AT_SEQ;
@@ -15,7 +13,6 @@ use edit_record::SITES;
 use edit_record::Seq;
 use edit_record::Site;
 ghost use mathlib.Core.Path.{_≡_};
-ghost use mathlib.Core.Bool.{true, false};
 ghost use Prim.Native.Nat.{ℕ, _+_, _-_, _*_, _≤_, _<_};
 ghost use lib.ListN.{length, getD};
 ghost use Rattle.math_lists.specs.NumbersBelow.{sum};
@@ -25,7 +22,7 @@ ghost use Rattle.edit_history.specs.EditsHeld.{mostRecords, recordAt, editsOf};
 ghost use Rattle.edit_history.specs.SurveyForms.{Counted};
 ghost use Rattle.edit_walk.specs.WalkForms.{placesLength, slotOf, placeOf, countIn, Spaced};
 ghost use Rattle.edit_walk.specs.WalkForms.{seenBefore, vectorBy, tornBy, tornByNews};
-ghost use Rattle.edit_walk.specs.WalkForms.{targetHeld, inTurnAgainst, passesAgainst, Walking, GoesOn, Stops};
+ghost use Rattle.edit_walk.specs.WalkForms.{targetHeld, inTurnAgainst, passesAgainst, Walking, GoesOn};
 
 // The entries of an index of places: a start for each site, then the places of the edits, site after site. The edit s.q
 // has its place q entries past the start of s.
@@ -190,7 +187,7 @@ pub fn is_in_turn(sites: u8, held: &[u16], rec: &[u8]) -> bool
     requires { ⌜ (recordLength ≤ length (now rec)) × (mostSites ≤ length (now held)) ⌝ }
     ensures { λ r. ⌜ r ≡ inTurnAgainst sites (now (held .entry)) (decodeOf (now (rec .entry))) ⌝ }
 {
-    if edit_record::is_unfit(sites, rec) {
+    if edit_fit::is_unfit(sites, rec) {
         return false;
     }
     let v = edit_record::vector_of(rec);
@@ -201,7 +198,7 @@ pub fn is_in_turn(sites: u8, held: &[u16], rec: &[u8]) -> bool
 
 // Whether none of 1 to 5 is given to it, by the counts and the index of the records before it. What costs more is
 // tested where the rest has passed.
-fn is_passing(sites: u8, held: &[u16], recs: &[u8], places: &[u16], rec: &[u8]) -> bool
+pub fn is_passing(sites: u8, held: &[u16], recs: &[u8], places: &[u16], rec: &[u8]) -> bool
     requires { ⌜ (recordLength ≤ length (now rec)) × (mostSites ≤ length (now held)) ⌝ }
     ensures { λ r. ⌜ r
         ≡ passesAgainst sites (now (held .entry)) (now (recs .entry)) (now (places .entry))
@@ -221,7 +218,7 @@ fn is_passing(sites: u8, held: &[u16], recs: &[u8], places: &[u16], rec: &[u8]) 
 }
 
 // The same of the record in place p.
-fn is_passing_at(sites: u8, held: &[u16], recs: &[u8], places: &[u16], p: usize) -> bool
+pub fn is_passing_at(sites: u8, held: &[u16], recs: &[u8], places: &[u16], p: usize) -> bool
     requires { ⌜ (p < mostRecords)
         × (p * placeLength + placeLength ≤ length (now recs))
         × (mostSites ≤ length (now held)) ⌝ }
@@ -231,26 +228,6 @@ fn is_passing_at(sites: u8, held: &[u16], recs: &[u8], places: &[u16], p: usize)
 {
     let at = p * PLACE;
     is_passing(sites, held, recs, places, &recs[at..])
-}
-
-// Whether the walk over the first i records goes on: none of 1 to 5 is given to the record in place i, and the index
-// has room for its edit.
-pub fn goes_on(sites: u8, room: &[u16], held: &[u16], recs: &[u8], places: &[u16], i: usize) -> bool
-    requires { ⌜ (sites ≤ mostSites)
-        × (length (now room) ≡ mostSites)
-        × (i < mostRecords)
-        × (i * placeLength + placeLength ≤ length (now recs))
-        × Walking sites (λ s. getD (now room) s 0) (now recs) i (now held) (now places) ⌝ }
-    ensures { λ r. ⌜ (r ≡ true →
-        GoesOn sites (λ s. getD (now (room .entry)) s 0) (now (recs .entry)) i (now (held .entry))
-        (now (places .entry)))
-        × (r ≡ false → Stops sites (λ s. getD (now (room .entry)) s 0) (now (recs .entry)) i) ⌝ }
-{
-    if !next::is_passing_next(sites, held, recs, places, i) {
-        return false;
-    }
-    let own = recs[i * PLACE + AT_SITE] as usize;
-    held[own] < room[own]
 }
 
 // Takes the record in place i, with which the walk goes on, into the counts and the index.

@@ -17,7 +17,8 @@ use Rattle.edit_causal.specs.Conflict.{boxOn}
 use Rattle.edit_causal.specs.ConflictForms.{Proper}
 use Rattle.group_step.specs.GroupRows.{mostSets}
 use Rattle.group_context.specs.RowsOfBox.{whatIsLeft}
-use Rattle.group_limited.specs.LimitedForms.{mostRecent, NameOf, NamesOf, withMark, SeesTell, RowsTell}
+use Rattle.group_limited.specs.LimitedForms.{withMark, RowsTell}
+use Rattle.group_sight.specs.SightForms.{mostRecent, NameOf, NamesOf, SeesTell}
 use Rattle.group_limited.proofs.RowsOneMore.{tell-one-more}
 use Rattle.group_limited.proofs.RowsInPlaces.{sees-one-more}
 use Rattle.group_limited.proofs.ToldByRows.{left-told}

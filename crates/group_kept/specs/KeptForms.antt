@@ -9,7 +9,8 @@ use Rattle.edit_record.specs.declared.Edit.{Edit}
 use Rattle.edit_causal.specs.Conflict.{boxOn}
 use Rattle.edit_causal.specs.ConflictForms.{Proper, plainMarks}
 use Rattle.group_step.specs.GroupRows.{mostSets}
-use Rattle.group_limited.specs.LimitedForms.{mostRecent, seenMarks, SeesTell, RowsTell}
+use Rattle.group_limited.specs.LimitedForms.{RowsTell}
+use Rattle.group_sight.specs.SightForms.{mostRecent, seenMarks, SeesTell}
 use Rattle.group_kept.specs.declared.Noted.{Noted}
 
 abbrev pub contextsAt : ℕ

@@ -1,9 +1,4 @@
-pub mod OneMoreTaken
 pub mod MarkedRows
-pub mod NamesOfSets
-pub mod FoesConflict
-pub mod SeenThrough
-pub mod MarksOfSets
 pub mod RowsOneMore
 pub mod ToldByRows
 pub mod RowsInPlaces

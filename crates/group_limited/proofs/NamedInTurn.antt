@@ -29,9 +29,10 @@ use Rattle.edit_history.specs.Answer16.{namelessAmong}
 use Rattle.edit_history.proofs.EditsInPlaces.{sets-length, set-place}
 use Rattle.group_true.proofs.ProperSets.{named-version, named-snoc}
 use Rattle.group_context.specs.RowsOfBox.{whatIsLeft}
-use Rattle.group_limited.specs.LimitedForms.{setsIn, namedInTurn}
+use Rattle.group_limited.specs.LimitedForms.{namedInTurn}
+use Rattle.group_sight.specs.SightForms.{setsIn}
 use Rattle.group_limited.proofs.ToldByRows.{left-told}
-use Rattle.group_limited.proofs.OneMoreTaken.{sets-more}
+use Rattle.group_sight.proofs.OneMoreTaken.{sets-more}
 
 -- the first of some Sets that are lawful are lawful
 first-lawful :
@@ -150,6 +151,17 @@ module _ (rs ps : List ℕ) where
         let e = recordAt rs (getD ps i 0) in
         left-told ms′ e (lawful-to i l e refl law)
         (rw (sets-length rs ps i (omega arith)) (all-named i (omega arith) before)) (named-version ms′ e own)
+
+    -- where 16 is given to none of the first, they are proper
+    pub proper-to :
+        (i : ℕ) → i ≤ k → Lawful (boxOn ms) k → ((j : ℕ) → j < i → nameless j ≡ false) → Proper (setsIn rs ps i)
+    proper-to i l law free =
+        let size = sets-length rs ps i (omega arith) in
+        record {
+          lawful = first-lawful (setsIn rs ps i) (map (recordAt rs) (drop i (take k ps))) k (omega arith)
+              (subst (λ (xs : List Edit). Lawful (boxOn xs) k) (split i l) law);
+          named = rw size (all-named i (omega arith) free);
+        }
 
     -- ---- the test
 

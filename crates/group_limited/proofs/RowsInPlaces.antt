@@ -17,8 +17,9 @@ use Rattle.edit_causal.specs.Conflict.{boxOn}
 use Rattle.edit_causal.specs.ConflictForms.{plainMarks, saw}
 use Rattle.edit_history.specs.EditsHeld.{recordAt}
 use Rattle.edit_history.proofs.EditsInPlaces.{sets-length}
-use Rattle.group_limited.specs.LimitedForms.{setsIn, mostRecent, seenMarks, SeesTell, RowsTell}
-use Rattle.group_limited.proofs.OneMoreTaken.{sets-more}
+use Rattle.group_limited.specs.LimitedForms.{RowsTell}
+use Rattle.group_sight.specs.SightForms.{setsIn, mostRecent, seenMarks, SeesTell}
+use Rattle.group_sight.proofs.OneMoreTaken.{sets-more}
 
 -- rows of no Set, whatever stands there
 pub no-rows : (plains cs : List ℕ) → RowsTell [] plains cs

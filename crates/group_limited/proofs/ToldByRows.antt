@@ -29,7 +29,8 @@ use Rattle.group_context.proofs.ContextByListed.{left-is-context}
 use Rattle.group_context.proofs.RowsOfArrival.{next-arrives, row-arrives}
 use Rattle.group_context.proofs.NamedByRows.{names-unless-none, conflicts-named}
 use Rattle.group_limited.specs.declared.Sight.{Sight}
-use Rattle.group_limited.specs.LimitedForms.{seenMarks, namedMarks, SightOf, RowsTell, ToldOf}
+use Rattle.group_limited.specs.LimitedForms.{SightOf, RowsTell, ToldOf}
+use Rattle.group_sight.specs.SightForms.{seenMarks, namedMarks}
 
 module _ (ms : List Edit) (e : Edit) where
   abbrev ns : List Edit

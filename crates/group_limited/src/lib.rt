@@ -2,16 +2,13 @@
 // 06): whether each limited one names a version, and which of the Sets held an arriving one conflicts with. The Sets
 // are taken one after another, each by the rows that tell of those before it: bit j of `plain[i]` says that Sets i and
 // j conflict by document 01's rule, and `ctx[i]` is the context of Set i.
-pub mod earlier;
-pub mod seen;
-
-use earlier::list_of;
-use earlier::marks_of;
-use earlier::put_names;
 use edit_record::AT_KIND;
 use edit_record::LIMITED;
 use edit_record::PLACE;
-use group_step::SETS;
+use group_sight::RECENT;
+use group_sight::list_of;
+use group_sight::marks_of;
+use group_sight::put_names;
 ghost use mathlib.Core.Path.{_≡_};
 ghost use mathlib.Core.List.{List, [], _∷_, _++_};
 ghost use Prim.Native.Nat.{ℕ, suc, _^_, _≤_, _<_};
@@ -29,34 +26,9 @@ ghost use Rattle.edit_history.specs.EditsHeld.{recordAt};
 ghost use Rattle.edit_history.specs.Answer16.{namelessAmong};
 ghost use Rattle.group_step.specs.GroupRows.{mostSets};
 ghost use Rattle.group_context.specs.RowsOfBox.{whatIsLeft};
-ghost use Rattle.group_limited.specs.LimitedForms.{setsIn, mostRecent, NamesIn, SeesTell, SightedTo};
+ghost use Rattle.group_sight.specs.SightForms.{setsIn, mostRecent, NamesIn, SeesTell, SightedTo};
 ghost use Rattle.group_limited.specs.LimitedForms.{SightOf, withMark, RowsTell, ToldOf, JudgedOf};
-ghost use Rattle.group_limited.specs.LimitedForms.{namedInTurn};
-
-// Of so many Sets of an object, the last ones, it is kept what their authors had seen.
-pub const RECENT: usize = 16;
-
-// What is asked of each of the Sets before a Set: bit i of `plain` says that the i-th conflicts with it by document
-// 01's rule, and of `seen` that its author had seen the i-th.
-pub struct Marks {
-    pub plain: u64,
-    pub seen: u64,
-}
-
-// What of a Set is held against those that its author had not seen: whether it is one, its name, its target and its key
-// as one number, and its value as it is compared.
-pub struct Side {
-    pub set: bool,
-    pub name: u32,
-    pub aim: u32,
-    pub shown: u32,
-}
-
-// The Sets before a Set that it lists, and whether it lists a name that is that of none which its author had seen.
-pub struct Listed {
-    pub named: u64,
-    pub strange: bool,
-}
+ghost use Rattle.group_limited.specs.LimitedForms.{NamedBy};
 
 // All that is asked of the Sets before a Set, and whether it is limited.
 pub struct Sight {
@@ -277,28 +249,39 @@ pub fn put_rows(
     }
 }
 
-// What the Set of rec is told, which arrives after those in the k first places.
-pub fn judge(recs: &[u8], places: &[u16], k: usize, rec: &[u8]) -> Judged
-    requires { ⌜ (k ≤ mostSets) × (k ≤ length (now places)) ⌝ }
+// What the Set of rec is told, which arrives after those in the k first places, by their names and their rows.
+pub fn judge(
+    recs: &[u8],
+    places: &[u16],
+    names: &[u32],
+    sees: &[u64],
+    k: usize,
+    plain: &[u64],
+    ctx: &[u64],
+    rec: &[u8],
+) -> Judged
+    requires { ⌜ (k ≤ mostSets)
+        × (k ≤ length (now places))
+        × (k ≤ length (now names))
+        × (mostRecent ≤ length (now sees))
+        × (k ≤ length (now plain))
+        × (k ≤ length (now ctx))
+        × NamesIn (now recs) (now places) k (now names) ⌝ }
     ensures { λ r.
-        ⌜ JudgedOf (setsIn (now (recs .entry)) (now (places .entry)) k) (decodeOf (now (rec .entry))) r ⌝ }
+        ⌜ (RowsTell (setsIn (now (recs .entry)) (now (places .entry)) k) (now (plain .entry)) (now (ctx .entry)) →
+        SeesTell (setsIn (now (recs .entry)) (now (places .entry)) k) (now (sees .entry)) →
+        JudgedOf (setsIn (now (recs .entry)) (now (places .entry)) k) (decodeOf (now (rec .entry))) r) ⌝ }
 {
-    // what work space holds at first does not matter; zeros would be set by memset (docs/DECISIONS.md, 24)
-    let mut plain = [1u64; SETS];
-    let mut ctx = [1u64; SETS];
-    let mut sees = [1u64; RECENT];
-    let mut names = [1u32; SETS];
-    put_names(&mut names, recs, places, k);
-    put_rows(&mut plain, &mut ctx, &mut sees, recs, places, &names, k);
-    let s = sight_of(recs, places, &names, &sees, k, rec);
-    let t = told_by(&plain, &ctx, k, s);
+    let s = sight_of(recs, places, names, sees, k, rec);
+    let t = told_by(plain, ctx, k, s);
     Judged {
         nameless: t.nameless,
         conflicts: t.conflicts,
     }
 }
 
-// Whether 16 is given to none of the Sets in the k first places, each after those before it, whose rows are put down.
+// Whether 16 is given to none of the Sets in the k first places, each after those before it, whose rows are put down,
+// and in `sees` what the authors of the last of them had seen.
 fn are_named_with(
     plain: &mut [u64],
     ctx: &mut [u64],
@@ -317,7 +300,8 @@ fn are_named_with(
         × NamesIn (now recs) (now places) k (now names) ⌝ }
     ensures { λ r.
         ⌜ (Lawful (boxOn (setsIn (now (recs .entry)) (now (places .entry)) k)) k →
-        r ≡ namedInTurn (setsIn (now (recs .entry)) (now (places .entry)) k)) ⌝ }
+        NamedBy (setsIn (now (recs .entry)) (now (places .entry)) k) r (now (plain .exit)) (now (ctx .exit))
+        (now (sees .exit))) ⌝ }
 {
     let mut i: usize = 0;
     while i < k {
@@ -350,9 +334,10 @@ pub fn are_named(
         × (k ≤ length (now plain))
         × (k ≤ length (now ctx))
         × (mostRecent ≤ length (now sees)) ⌝ }
-    ensures { λ r.
-        ⌜ (Lawful (boxOn (setsIn (now (recs .entry)) (now (places .entry)) k)) k →
-        r ≡ namedInTurn (setsIn (now (recs .entry)) (now (places .entry)) k)) ⌝ }
+    ensures { λ r. ⌜ NamesIn (now (recs .entry)) (now (places .entry)) k (now (names .exit))
+        × (Lawful (boxOn (setsIn (now (recs .entry)) (now (places .entry)) k)) k →
+        NamedBy (setsIn (now (recs .entry)) (now (places .entry)) k) r (now (plain .exit)) (now (ctx .exit))
+        (now (sees .exit))) ⌝ }
 {
     put_names(names, recs, places, k);
     are_named_with(plain, ctx, sees, recs, places, names, k)

@@ -163,3 +163,9 @@ module _ (rs : List ℕ) where
       (λ p l. let e = recordAt rs p in
       ap not (plain-named (setsOn (e .tsite) (e .tseq) (editsOf rs p)) e
       (off (isLimited e) (λ t. clash (any-edit-on isLimited rs n p l t) h))))
+
+  -- and where one is, there is a record
+  pub some-limited : (n : ℕ) → any isLimited (editsOf rs n) ≡ true → 0 < n
+  unfolding editsOf any
+  some-limited zero h = clash h refl
+  some-limited (suc n) h = omega arith

@@ -65,14 +65,14 @@ module _ (ch : List ℕ) (p q : ℕ) (less : p < q) (fits : q < length ch) where
 
 -- ---- the chain from each Create through the Sets on it from place i on
 
-abbrev pub LinkedFrom : List ℕ → ℕ → ℕ → List ℕ → Type 0
-LinkedFrom rs n i ch =
+abbrev pub ByteLinkedFrom : List ℕ → ℕ → ℕ → List ℕ → Type 0
+ByteLinkedFrom rs n i ch =
     (x : ℕ) → x < n → isCreate (recordAt rs x) ≡ true → Follows ch (getD ch x 0) (from (isOn rs x) i (n - i))
 
-pub linked-none : (rs : List ℕ) (n : ℕ) (ch : List ℕ) → ((i : ℕ) → i < n → getD ch i 0 ≡ 0) → LinkedFrom rs n n ch
+pub linked-none : (rs : List ℕ) (n : ℕ) (ch : List ℕ) → ((i : ℕ) → i < n → getD ch i 0 ≡ 0) → ByteLinkedFrom rs n n ch
 linked-none rs n ch zeros x l create = rw (from-none (isOn rs x) n) (zeros x l)
 
-pub linked-all : (rs : List ℕ) (n i : ℕ) (ch : List ℕ) → i ≡ 0 → LinkedFrom rs n i ch → ByteChained rs n ch
+pub linked-all : (rs : List ℕ) (n i : ℕ) (ch : List ℕ) → i ≡ 0 → ByteLinkedFrom rs n i ch → ByteChained rs n ch
 linked-all rs n i ch e h x l create =
     let all : n - i ≡ n = omega arith in
     let f = isOn rs x in
@@ -82,8 +82,8 @@ linked-all rs n i ch e h x l create =
 
 -- a record that is no Set
 not-linked :
-    (rs : List ℕ) (n q : ℕ) (ch : List ℕ) → q < n → isSet (recordAt rs q) ≡ false → LinkedFrom rs n (q + 1) ch →
-    LinkedFrom rs n q ch
+    (rs : List ℕ) (n q : ℕ) (ch : List ℕ) → q < n → isSet (recordAt rs q) ≡ false → ByteLinkedFrom rs n (q + 1) ch →
+    ByteLinkedFrom rs n q ch
 not-linked rs n q ch l unset h x m create =
     let f = isOn rs x in
     let none : f q ≡ false = rw unset in
@@ -119,7 +119,7 @@ module _ (rs ps : List ℕ) (n : ℕ) (index : Indexed rs n ps) (targets : Targe
         (eq-eqb (e .tsite .0) (a .site .0) (sym u ∙ ap (λ (y : ℕ). recordAt rs y .site .0) same))
         (eq-eqb (e .tseq .0) (a .seq .0) (sym v ∙ ap (λ (y : ℕ). recordAt rs y .seq .0) same))))
 
-    linked : (ch : List ℕ) → n ≤ length ch → LinkedFrom rs n (q + 1) ch → LinkedFrom rs n q (put ch aim q)
+    linked : (ch : List ℕ) → n ≤ length ch → ByteLinkedFrom rs n (q + 1) ch → ByteLinkedFrom rs n q (put ch aim q)
     linked ch fits h x m create = go (ℕ-discrete x aim)
       where
         f : ℕ → Bool
@@ -149,11 +149,11 @@ module _ (rs ps : List ℕ) (n : ℕ) (index : Indexed rs n ps) (targets : Targe
 
   -- any record
   pub linked-with :
-      (ch : List ℕ) → n ≤ length ch → LinkedFrom rs n (q + 1) ch → LinkedFrom rs n q (linkedWith rs ps q ch)
+      (ch : List ℕ) → n ≤ length ch → ByteLinkedFrom rs n (q + 1) ch → ByteLinkedFrom rs n q (linkedWith rs ps q ch)
   unfolding linkedWith
   linked-with ch fits h = go (decide (isSet (recordAt rs q)))
     where
       go : (isSet (recordAt rs q) ≡ true) ⊎ (isSet (recordAt rs q) ≡ false) →
-          LinkedFrom rs n q (cond (isSet (recordAt rs q) && ltb aim q) (put ch aim q) ch)
+          ByteLinkedFrom rs n q (cond (isSet (recordAt rs q) && ltb aim q) (put ch aim q) ch)
       go (inl set) = rw (set, lt-ltb aim q (aim-before set)) (linked set ch fits h)
       go (inr unset) = rw unset (not-linked rs n q ch l unset h)

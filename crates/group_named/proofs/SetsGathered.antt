@@ -20,12 +20,14 @@ use Rattle.edit_record.specs.declared.Edit.{Edit}
 use Rattle.edit_record.specs.Answer1.{isCreate}
 use Rattle.edit_history.specs.EditsHeld.{recordAt, editsOf, isSetOn, setsOn}
 use Rattle.group_step.specs.GroupRows.{mostSets}
-use Rattle.group_limited.specs.LimitedForms.{setsIn}
+use Rattle.group_limited.specs.LimitedForms.{NamedBy}
+use Rattle.group_sight.specs.SightForms.{setsIn, NamesIn}
 use Rattle.group_named.specs.ChainForms.{Follows, isOn, ByteChained}
+use Rattle.group_named.specs.NamedForms.{SetsTold}
 
 -- of any places l that the chain goes through from p: the first k are put down in out, and the chain goes on with v
-abbrev pub FollowedTo : List ℕ → ℕ → ℕ → ℕ → List ℕ → Type 0
-FollowedTo ch p k v out =
+abbrev pub ByteFollowedTo : List ℕ → ℕ → ℕ → ℕ → List ℕ → Type 0
+ByteFollowedTo ch p k v out =
     (l : List ℕ) → Follows ch (getD ch p 0) l → (take k out ≡ take k l) × Follows ch v (drop k l)
 
 -- whether it is to be followed on: it has not ended, and there is room
@@ -51,7 +53,7 @@ some-left ch k v l some r = go (drop k l) (length-drop k l) r
 
 pub followed-more :
     (ch : List ℕ) (p k v : ℕ) (out : List ℕ) → k < length out → (v ≡ 0 → ⊥) →
-    FollowedTo ch p k v out → FollowedTo ch p (k + 1) (getD ch v 0) (set out k v)
+    ByteFollowedTo ch p k v out → ByteFollowedTo ch p (k + 1) (getD ch v 0) (set out k v)
 followed-more ch p k v out fits some h l r =
     let (front, rest) = h l r in
     let more = some-left ch k v l some rest in
@@ -64,7 +66,7 @@ followed-more ch p k v out fits some h l r =
 
 -- at its end, and where there are as many as out may take
 pub followed-end :
-    (ch : List ℕ) (p k v : ℕ) (out l : List ℕ) → v ≡ 0 → FollowedTo ch p k v out → Follows ch (getD ch p 0) l →
+    (ch : List ℕ) (p k v : ℕ) (out l : List ℕ) → v ≡ 0 → ByteFollowedTo ch p k v out → Follows ch (getD ch p 0) l →
     take k out ≡ l
 followed-end ch p k v out l none h r =
     let (front, rest) = h l r in
@@ -75,7 +77,7 @@ followed-end ch p k v out l none h r =
     go (y ∷ m) e (here, some, _) = absurd (omega (arith, here, none))
 
 pub followed-full :
-    (ch : List ℕ) (p k v : ℕ) (out l : List ℕ) → length l ≤ k → FollowedTo ch p k v out →
+    (ch : List ℕ) (p k v : ℕ) (out l : List ℕ) → length l ≤ k → ByteFollowedTo ch p k v out →
     Follows ch (getD ch p 0) l → take k out ≡ l
 followed-full ch p k v out l few h r = h l r .0 ∙ take-all k l few
 
@@ -116,3 +118,15 @@ module _ (rs : List ℕ) (p : ℕ) where
   gathered n k ch out l create chained few h =
       ap (map (recordAt rs)) (h (keep n (isOn rs p)) (chained p l create) (omega (arith, kept-length n)))
       ∙ sets-kept n
+
+-- what is put down of Sets of which 16 is given to none
+pub told-of :
+    (rs ps : List ℕ) (k : ℕ) (ms : List Edit) → setsIn rs ps k ≡ ms → length ms ≡ k → (r : Bool) →
+    (ns plains cs sees : List ℕ) → NamesIn rs ps k ns → NamedBy (setsIn rs ps k) r plains cs sees → r ≡ true →
+    SetsTold rs ms ps ns plains cs sees
+told-of rs ps k ms same size r ns plains cs sees names by h = record {
+  sets = rw size same;
+  names = rw size names;
+  rows = rw same at (by .rows h);
+  seen = rw same at (by .seen h);
+}

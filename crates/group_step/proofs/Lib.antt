@@ -4,5 +4,3 @@ pub mod LoopRuns
 pub mod PutAmong
 pub mod LoopTurns
 pub mod RowAfterStep
-pub mod StepApart
-pub mod StepCovered

@@ -1,2 +1,4 @@
 pub mod TrueGroups
 pub mod Disputed
+pub mod Identities
+pub mod EqualEdits

@@ -18,8 +18,8 @@ use Rattle.edit_record.specs.RecordBytes.{noEdit}
 use Rattle.group_true.specs.Disputed.{isDisputed}
 use Rattle.list_text.specs.Pieces.{space, newline, dotted}
 use Rattle.math_lists.specs.Rearranged.{Rearranged}
-use Rattle.demand_any_order.specs.EqualEdits.{isEqual}
-use Rattle.demand_any_order.proofs.Identities.{equal-at, equal-self}
+use Rattle.group_true.specs.EqualEdits.{isEqual}
+use Rattle.group_true.proofs.Identities.{equal-at, equal-self}
 use Rattle.math_lists.proofs.Rearranged.{turned, any-rearranged, chosen-rearranged, made-rearranged}
 use Rattle.edit_record.specs.Answer1.{nameOf}
 use Rattle.list_version.specs.Identifier.{identifierOf}

@@ -12,7 +12,7 @@ use Rattle.edit_record.specs.Answer1.{isCreate, isTop}
 use Rattle.edit_causal.specs.TotalOrder.{ranksBefore}
 use Rattle.edit_history.specs.EditsHeld.{creates}
 use Rattle.math_lists.specs.Rearranged.{Rearranged, then}
-use Rattle.demand_any_order.specs.Settled.{Apart}
+use Rattle.group_true.specs.Identities.{AllDiffer}
 use Rattle.math_lists.proofs.Rearranged.{turned, same-members, chosen-rearranged}
 use Rattle.math_lists.proofs.PairsInList.{pairs-rearranged}
 use Rattle.list_version.proofs.RanksStrict.{not-itself, ranks-through}
@@ -42,7 +42,7 @@ module _ (es fs : List Edit) (r : Rearranged es fs) (ranked : AllRanked es) wher
   unfolding deciding
   deciding-any-order c = ap (lastOn c c) (counted-any-order isTop)
 
-  pub layered-any-order : Apart es → layeredOrder es ≡ layeredOrder fs
+  pub layered-any-order : AllDiffer es → layeredOrder es ≡ layeredOrder fs
   unfolding layeredOrder creates
   layered-any-order u =
       standing-any-order (deciding es) (chosen-rearranged isCreate r) (deciding-ranked es u ranked)

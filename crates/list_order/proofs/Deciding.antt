@@ -16,7 +16,7 @@ use Rattle.edit_causal.proofs.Identities.{same-parts}
 use Rattle.edit_causal.proofs.CausalLaws.{same-reflexive}
 use Rattle.edit_history.specs.EditsHeld.{creates}
 use Rattle.math_lists.specs.Rearranged.{Mem}
-use Rattle.demand_any_order.specs.Settled.{Differ, Apart}
+use Rattle.group_true.specs.Identities.{Differ, AllDiffer}
 use Rattle.math_lists.proofs.Rearranged.{turned, same-members}
 use Rattle.math_lists.proofs.ListMembers.{chosen-at, chosen-on}
 use Rattle.math_lists.proofs.PairsInList.{pairs-two, pairs-chosen, pairs-weaken}
@@ -107,7 +107,7 @@ module _ (es : List Edit) where
   apart a b d ca cb differ (inr (m, k, on)) (inl q) = clash (rw q at k) (create-not-top b cb)
   apart a b d ca cb differ (inr (m, k, on)) (inr (n, l, at)) = clash (one-aim a b d on at) differ
 
-  module _ (u : Apart es) (ranked : AllRanked es) where
+  module _ (u : AllDiffer es) (ranked : AllRanked es) where
     pub deciding-ranked : Asc (OneRanks (deciding es)) (creates es)
     unfolding creates
     deciding-ranked =

@@ -12,11 +12,11 @@ use Rattle.edit_record.specs.Answer1.{isCreate, isTop}
 use Rattle.edit_causal.specs.TotalOrder.{ranksBefore}
 use Rattle.edit_history.specs.EditsHeld.{creates}
 use Rattle.math_lists.specs.Rearranged.{Mem, Rearranged, then}
-use Rattle.demand_any_order.specs.Settled.{Apart}
+use Rattle.group_true.specs.Identities.{AllDiffer}
 use Rattle.math_lists.proofs.Rearranged.{unchanged, turned, same-members}
 use Rattle.math_lists.proofs.ListMembers.{here, chosen-at}
 use Rattle.math_lists.proofs.PairsInList.{pairs-chosen, pairs-weaken}
-use Rattle.demand_any_order.proofs.Identities.{one-edit}
+use Rattle.group_true.proofs.Identities.{one-edit}
 use Rattle.list_order.specs.Layers.{isOn, inOrder, lastOn, deciding}
 use Rattle.list_order.specs.Moves.{layeredOrder, without, alone, move, moves, moved}
 use Rattle.math_lists.proofs.Choices.{pairs-append}
@@ -42,7 +42,7 @@ moves-rearranged xs (e ∷ ls) = then (moves-rearranged (move e xs) ls) (move-re
 abbrev after : (Edit → Edit) → Edit → Edit → Edit
 after M e c = cond (isOn c e) e (M c)
 
-module _ (es : List Edit) (u : Apart es) where
+module _ (es : List Edit) (u : AllDiffer es) where
   module _ (M : Edit → Edit) (xs : List Edit) (e : Edit) (a : Asc (Goes M) xs)
       (held : (x : Edit) → Mem x xs → Mem x es)
       (later : (x : Edit) → Mem x xs → isTop (M x) ≡ true → Ranked (M x) e) where
@@ -104,7 +104,7 @@ module _ (es : List Edit) (u : Apart es) where
 
 -- ---- the theorem
 
-module _ (es : List Edit) (u : Apart es) (ranked : AllRanked es) where
+module _ (es : List Edit) (u : AllDiffer es) (ranked : AllRanked es) where
   create-at : (x : Edit) → Mem x (inOrder (creates es)) → Mem x es × (isCreate x ≡ true)
   unfolding creates
   create-at x m = counted-at isCreate es x m

@@ -18,7 +18,7 @@ use Rattle.edit_causal.specs.Causal.{sameEdit}
 use Rattle.edit_causal.specs.TotalOrder.{ranksBefore}
 use Rattle.edit_causal.proofs.CausalLaws.{same-reflexive}
 use Rattle.edit_history.specs.EditsHeld.{creates}
-use Rattle.demand_any_order.specs.Settled.{Differ, Apart}
+use Rattle.group_true.specs.Identities.{Differ, AllDiffer}
 use Rattle.math_lists.proofs.Rearranged.{same-members}
 use Rattle.math_lists.proofs.ListMembers.{here, chosen-at}
 use Rattle.math_lists.proofs.PairsInList.{pairs-front, pairs-cross}
@@ -96,8 +96,8 @@ module _ (es : List Edit) (e : Edit) where
 
   -- ---- no effect between the others
 
-  module _ (u : Apart grown) (ranked : AllRanked grown) where
-    before-apart : Apart es
+  module _ (u : AllDiffer grown) (ranked : AllRanked grown) where
+    before-apart : AllDiffer es
     before-apart = pairs-front Differ es (e ∷ []) u
 
     before-ranked : AllRanked es

@@ -11,7 +11,7 @@ use Rattle.edit_record.specs.Answer1.{isCreate, isTop}
 use Rattle.edit_causal.specs.TotalOrder.{ranksBefore}
 use Rattle.edit_history.specs.EditsHeld.{creates}
 use Rattle.math_lists.specs.Rearranged.{Mem}
-use Rattle.demand_any_order.specs.Settled.{Apart}
+use Rattle.group_true.specs.Identities.{AllDiffer}
 use Rattle.math_lists.proofs.ListMembers.{chosen-at}
 use Rattle.list_order.specs.Layers.{inOrder, lastOn, deciding, byLast, standing}
 use Rattle.list_order.specs.Moves.{layeredOrder}
@@ -35,7 +35,7 @@ plain-standing last xs h =
 -- ---- the rest
 
 pub rest-in-order :
-    (es : List Edit) → Apart es → AllRanked es →
+    (es : List Edit) → AllDiffer es → AllRanked es →
     filter (λ c. not (isTop (deciding es c))) (layeredOrder es)
     ≡ inOrder (filter (λ c. not (isTop (deciding es c))) (creates es))
 unfolding layeredOrder inOrder

@@ -14,3 +14,5 @@ pub mod ValueShown
 pub mod LastInAnyOrder
 pub mod HighestMember
 pub mod StampsByKey
+pub mod NamesOfSome
+pub mod SitesInTurn

@@ -22,9 +22,9 @@ use Rattle.table_arrival.proofs.ProperWith.{proper-held}
 use Rattle.edit_record.specs.RecordBytes.{noEdit}
 use Rattle.group_true.specs.TrueGroups.{groupsOf, trueGroups}
 use Rattle.math_lists.specs.Rearranged.{Mem}
-use Rattle.demand_any_order.specs.Settled.{Differ, Apart}
+use Rattle.group_true.specs.Identities.{Differ, AllDiffer}
 use Rattle.math_lists.proofs.ListMembers.{chosen-at, mem-place}
-use Rattle.demand_any_order.proofs.Identities.{same-on, same-at, one-edit, sets-distinct}
+use Rattle.group_true.proofs.Identities.{same-on, same-at, one-edit, sets-distinct}
 use Rattle.list_version.specs.Identifier.{identifierOf}
 use Rattle.list_version.proofs.IdentifiersGrow.{NamesDiffer, identifiers-never-in-one}
 
@@ -40,7 +40,7 @@ module _ (ms : List Edit) (proper : Proper ms) (differ : NamesDiffer ms) where
 
 -- where no identity stands twice and every sequence number fits two bytes, the Sets of an object have different names
 pub names-apart :
-    (es : List Edit) → Apart es → ((e : Edit) → Mem e es → e .seq .0 < twoBytes) → (c : Edit) →
+    (es : List Edit) → AllDiffer es → ((e : Edit) → Mem e es → e .seq .0 < twoBytes) → (c : Edit) →
     NamesDiffer (setsOn (c .site) (c .seq) es)
 unfolding setsOn
 names-apart es u small c i j li lj e =
@@ -79,7 +79,7 @@ module _ (t : Tables) (s : Sound t) where
       ) in
       rw q low
 
-  pub held-apart : Apart (heldBy t)
+  pub held-apart : AllDiffer (heldBy t)
   held-apart =
       edits-pairs rs Differ n (λ p q l m.
       let a = recordAt rs p in

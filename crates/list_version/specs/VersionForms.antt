@@ -38,6 +38,23 @@ namedAt ms i = nameOf (getD ms i noEdit) * mostSets + i
 unfoldable pub disputesBelow : List Edit → ℕ → List ℕ
 disputesBelow ms n = ascending (map (namedAt ms) (keep n (λ i. isDisputed ms (getD ms i noEdit))))
 
+-- those of the Sets whose numbers pass the test f, by their names
+unfoldable pub namesOf : List Edit → (ℕ → Bool) → List ℕ
+namesOf ms f = ascending (map (namedAt ms) (keep (length ms) f))
+
+-- the members of m are below t
+abbrev pub Below : ℕ → ℕ → Type 0
+Below t m = (j : ℕ) → bit m j ≡ true → j < t
+
+-- the entry that the site of e has in a vector
+abbrev pub entryOf : Edit → ℕ
+entryOf e = e .site .0 % mostSites
+
+-- own has the members of m whose sites have each entry
+abbrev pub BySites : List ℕ → List ℕ → ℕ → List ℕ → Type 0
+BySites rs ps m own =
+    (s : ℕ) → s < mostSites → (j : ℕ) → bit (getD own s 0) j ≡ (bit m j && eqb (entryOf (recordAt rs (getD ps j 0))) s)
+
 abbrev pub disputesIn : List Edit → List ℕ
 disputesIn ms = disputesBelow ms (length ms)
 

@@ -7,7 +7,7 @@ use Prim.Native.Nat.{ℕ, _<_}
 use lib.ListN.{length, getD}
 use Rattle.math_maximal.specs.MaximalSets.{_⊆_}
 use Rattle.math_maximal.proofs.AnotherOrder.{has, Distinct, place, there, here, place-of}
-use Rattle.math_contexts.specs.Box.{Box, Causal}
+use Rattle.math_contexts.specs.Box.{Box, CausalBox}
 use Rattle.math_contexts.specs.SameSets.{SameSets}
 use Rattle.math_contexts.specs.BoxByArrival.{rel, boxOf}
 use Rattle.math_contexts.proofs.SameSetsTurned.{causal-seen, causal-named}
@@ -19,7 +19,7 @@ module _ {E : Type 0} (d : E) (conf saw lists : E → E → Bool) (lim : E → B
 
   module _ (xs zs : List E) (ux : Distinct d xs) (uz : Distinct d zs)
       (sub : has eq zs ⊆ has eq xs) (sup : has eq xs ⊆ has eq zs)
-      (causal : Causal (B xs) (length xs)) (causal' : Causal (B zs) (length zs)) where
+      (causal : CausalBox (B xs) (length xs)) (causal' : CausalBox (B zs) (length zs)) where
     -- the number in xs of the one that has the number i in zs; and the other way round
     abbrev to : ℕ → ℕ
     to i = place eq xs (getD zs i d)

@@ -8,7 +8,7 @@ use native.Mathlib.Omega.{arith}
 use Rattle.math_maximal.specs.MaximalSets.{_∈_}
 use Rattle.math_maximal.specs.Groups.{every}
 use Rattle.math_maximal.proofs.Groups.{below-at, below-on}
-use Rattle.math_contexts.specs.Box.{Box, seenBy, disputed, disputedBy, Causal}
+use Rattle.math_contexts.specs.Box.{Box, seenBy, disputed, disputedBy, CausalBox}
 use Rattle.math_contexts.specs.SameSets.{SameSets}
 use Rattle.math_contexts.proofs.ContextMembers.{disputed-at, disputed-on}
 
@@ -51,7 +51,7 @@ module _ {b : Box} {n : ℕ} {b' : Box} {m : ℕ} {f q : ℕ → ℕ} (r : SameS
 
 module _ (b : Box) (n : ℕ) (b' : Box) (m : ℕ) (f : ℕ → ℕ) (into : (i : ℕ) → i < m → f i < n)
     (seens : (i j : ℕ) → i < m → j < m → b' .seen i j ≡ b .seen (f i) (f j))
-    (causal : Causal b n) (causal' : Causal b' m) where
+    (causal : CausalBox b n) (causal' : CausalBox b' m) where
   pub causal-seen : (i j : ℕ) → i < m → j < m → b' .seen i j ≡ true → (j < i) ↔ (f j < f i)
   causal-seen i j l k e = (
     (λ _. causal .seenFirst (f i) (f j) (into i l) (into j k) (sym (seens i j l k) ∙ e)),

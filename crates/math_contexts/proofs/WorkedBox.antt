@@ -12,7 +12,7 @@ use Rattle.math_lists.specs.NumbersBelow.{some, all, sum, keep, mask}
 use Rattle.math_lists.proofs.Booleans.{decide, both, either}
 use Rattle.math_maximal.specs.MaximalSets.{with}
 use Rattle.math_maximal.specs.Groups.{bit, below, every, fits, isMaximal, groups}
-use Rattle.math_contexts.specs.Box.{Box, disputed, Lawful, Causal, Ends}
+use Rattle.math_contexts.specs.Box.{Box, disputed, Lawful, CausalBox, Ends}
 use Rattle.math_contexts.specs.Contexts.{unnamed, suits, contextIn, contexts, context, conflicts}
 use Rattle.math_contexts.specs.Versions.{namesVersion, Valid}
 
@@ -73,7 +73,7 @@ lawful = record {
   compatible = λ i j l m p. rw (eqb-true i 2 (both (eqb i 2) (eqb j 0 || eqb j 1) p .0));
 }
 
-causal : Causal one 3
+causal : CausalBox one 3
 causal = record {
   seenFirst = λ i j l m p.
       let (e, f) = both (eqb i 2) (eqb j 0 || eqb j 1) p in
@@ -89,5 +89,5 @@ valid : Valid one 3
 unfolding namesVersion
 valid i l = elim (decide (eqb i 2)) [ inl e ↦ rw (eqb-true i 2 e) names-one | inr e ↦ rw e ]
 
-pub premises-met : Lawful one 3 × Causal one 3 × Valid one 3 × Ends one 3
+pub premises-met : Lawful one 3 × CausalBox one 3 × Valid one 3 × Ends one 3
 premises-met = (lawful, causal, valid, λ i l. ne-eqb i 2 (λ e. omega arith))

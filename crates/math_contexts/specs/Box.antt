@@ -43,7 +43,7 @@ pub record Lawful (b : Box) (n : ℕ) : Type 0 where
   pub compatible : (i j : ℕ) → i < n → j < i → b .seen i j ≡ true → b .plain i j ≡ false
 
 -- the order of arrival is causal, and no Set lists one that it has not seen: asked where two orders are compared
-pub record Causal (b : Box) (n : ℕ) : Type 0 where
+pub record CausalBox (b : Box) (n : ℕ) : Type 0 where
   pub seenFirst : (i j : ℕ) → i < n → j < n → b .seen i j ≡ true → j < i
   pub namesSeen : (i j : ℕ) → i < n → j < n → b .named i j ≡ true → b .seen i j ≡ true
 

@@ -29,13 +29,13 @@ use Rattle.table_arrival.proofs.LayerKeepsSound.{layer-keeps-sound}
 use Rattle.math_lists.proofs.ByPlaces.{zero-anywhere}
 
 -- sound tables with a count for each site, as the code's arrays have
-pub record Kept (t : Tables) : Type 0 where
+pub record KeptSound (t : Tables) : Type 0 where
   pub isSound : Sound t
   pub wide : length (t .counters .held) ≡ mostSites
 
 -- ---- the empty drawing
 
-pub empty-kept : (n : ℕ) → 1 ≤ n → n ≤ mostSites → Kept (emptyDrawing n)
+pub empty-kept : (n : ℕ) → 1 ≤ n → n ≤ mostSites → KeptSound (emptyDrawing n)
 unfolding emptyDrawing editsOf countFrom creates filter recordsPass recordsNamed all sumHeld sum
 empty-kept n some few =
     record {
@@ -64,8 +64,8 @@ empty-kept n some few =
 
 -- ---- an arrival
 
-module _ (t : Tables) (b : List ℕ) (k : Kept t) where
-  taken-kept : answerTo t b ≡ 0 → Kept (taken t b)
+module _ (t : Tables) (b : List ℕ) (k : KeptSound t) where
+  taken-kept : answerTo t b ≡ 0 → KeptSound (taken t b)
   taken-kept h =
       let a = accepted t b h in
       let own = decodeOf b .site .0 in
@@ -81,12 +81,12 @@ module _ (t : Tables) (b : List ℕ) (k : Kept t) where
             ∙ k .wide;
       }
 
-  pub acceptance-keeps : Kept (acceptanceOf t b .after)
+  pub acceptance-keeps : KeptSound (acceptanceOf t b .after)
   unfolding acceptanceOf
   acceptance-keeps = go (eqb (answerTo t b) 0) refl
     where
       go : (x : Bool) → eqb (answerTo t b) 0 ≡ x →
-          Kept (cond x (outcomeOf 0 (taken t b)) (outcomeOf (answerTo t b) t) .after)
+          KeptSound (cond x (outcomeOf 0 (taken t b)) (outcomeOf (answerTo t b) t) .after)
       go true h = taken-kept (eqb-true (answerTo t b) 0 h)
       go false h = k
 

@@ -44,7 +44,7 @@ use Rattle.edit_record.proofs.WellFormed.{create-not-set, set-aimed, layer-not-
 use Rattle.table_arrival.proofs.CreateKeepsSound.{no-set-held}
 use Rattle.table_arrival.proofs.ObjectOfSet.{object-less, target-site, target-seq, row-fits}
 use Rattle.table_arrival.proofs.SetKeepsSound.{not-on}
-use Rattle.table_arrival.proofs.ArrivalKeepsSound.{Kept, empty-kept, acceptance-keeps}
+use Rattle.table_arrival.proofs.ArrivalKeepsSound.{KeptSound, empty-kept, acceptance-keeps}
 
 -- the row of every object is the list of all maximal conflict-free sets of its Sets
 abbrev pub RowsTrue : Tables → Type 0
@@ -53,7 +53,7 @@ RowsTrue t =
     rowOf t o ≡ trueGroups (heldBy t) (recordAt (t .records) (placeAt (t .objects) o))
 
 pub record Faithful (t : Tables) : Type 0 where
-  pub kept : Kept t
+  pub kept : KeptSound t
   pub rows : RowsTrue t
 
 -- in true rows no group is part of a larger one

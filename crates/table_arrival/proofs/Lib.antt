@@ -12,6 +12,7 @@ pub mod LayerKeepsSound
 pub mod ArrivalKeepsSound
 pub mod ProperWith
 pub mod JudgedPlainly
+pub mod JudgedByRows
 pub mod Faithful
 pub mod RefusedForReason
 pub mod VersionValues

@@ -40,7 +40,7 @@ stepBy t v m = step m (v .sets) (rowBy t v)
 
 -- ---- what is given
 
-pub record Given (t : Tables) (b : List ℕ) (v : Surveyed) : Type 0 where
+pub record GivenSet (t : Tables) (b : List ℕ) (v : Surveyed) : Type 0 where
   pub object : v .object < mostObjects
   pub sets : v .sets < mostSets
   pub groups : groupsAt (t .objects) (v .object) ≤ mostGroups
@@ -91,7 +91,7 @@ module _ (t : Tables) (b : List ℕ) (isSound : Sound t) (z : firstToSix t b ≡
   abbrev aim : any (isTarget e) (heldBy t) ≡ true
   aim = admitted-target t b a (set-aimed e k)
 
-  given : Given t b v
+  given : GivenSet t b v
   unfolding surveyOf
   given =
       record {
@@ -161,9 +161,9 @@ module _
       subst (λ (m : ℕ). P v m) (sym marks-are)
       (subst (λ (y : Surveyed). P y (conflictsWith edit (matesOf t edit))) (sym survey-is) h)
 
-  pub set-given : Given t b v
+  pub set-given : GivenSet t b v
   set-given =
-      in-hand (λ y m. Given t b y) (given t b (sound-at t (r .inHand .isSound)) (r .passes) (r .set))
+      in-hand (λ y m. GivenSet t b y) (given t b (sound-at t (r .inHand .isSound)) (r .passes) (r .set))
 
   pub set-apart : apart ≡ true → Apart (rowBy t v)
   set-apart h =

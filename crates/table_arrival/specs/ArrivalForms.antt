@@ -12,9 +12,9 @@ use Rattle.edit_record.specs.RecordBytes.{decodeOf}
 use Rattle.edit_record.specs.Answer1.{isSet, isAimed, malformed}
 use Rattle.edit_history.specs.declared.Surveyed.{Surveyed}
 use Rattle.edit_causal.specs.Conflict.{conflictsWith}
-use Rattle.edit_history.specs.EditsHeld.{mostRecords, setsOn, isTarget}
+use Rattle.edit_history.specs.EditsHeld.{mostRecords, editsOf, setsOn, isTarget}
 use Rattle.edit_history.specs.Answers2to5.{isRepeated, isEarly, isTorn, isAstray, passes}
-use Rattle.edit_history.specs.Answer16.{isNameless}
+use Rattle.edit_history.specs.Answer16.{isNameless, recordsNamed}
 use Rattle.edit_history.specs.SurveyForms.{repeatedAgainst, earlyAgainst, SurveyedOf}
 use Rattle.group_step.specs.GroupRows.{mostObjects, mostSets}
 use Rattle.group_step.specs.StepForms.{Apart}
@@ -23,6 +23,7 @@ use Rattle.group_limited.specs.LimitedForms.{JudgedWhere}
 use Rattle.table_drawing.specs.declared.Counters.{Counters}
 use Rattle.table_drawing.specs.Tables.{Tables, heldBy}
 use Rattle.table_soundness.specs.Sound.{sound}
+use Rattle.table_arrival.specs.declared.Tested.{Tested}
 use Rattle.table_arrival.specs.Answers6and7.{rowOf, isFull, firstOf, inTurn}
 
 -- 6 to an edit of this kind whose object has k Sets
@@ -96,3 +97,9 @@ pub record Ready (t : Tables) (b : List ℕ) (v : Surveyed) (j : Judged) (apart 
   pub inHand : InHand t b v j apart
   pub passes : firstToSix t b ≡ 0
   pub set : isSet (decodeOf b) ≡ true
+
+-- whether 16 is given to none of the first n records, and what is judged of an edit e after them if so, where `found`
+-- tells whether its target is held
+pub record TestedFor (found : Bool) (rs : List ℕ) (n : ℕ) (e : Edit) (r : Tested) : Type 0 where
+  pub named : r .named ≡ recordsNamed rs n
+  pub judged : r .named ≡ true → JudgedWhere found (setsOn (e .tsite) (e .tseq) (editsOf rs n)) e (r .judged)

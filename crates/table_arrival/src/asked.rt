@@ -12,7 +12,7 @@ use group_step::SETS;
 use table_drawing::Answer;
 use table_drawing::Counters;
 ghost use mathlib.Core.Path.{_≡_};
-ghost use mathlib.Core.Bool.{true, false};
+ghost use mathlib.Core.Bool.{true, false, cond};
 ghost use mathlib.Core.List.{[], _∷_};
 ghost use Prim.Native.Nat.{_≤_};
 ghost use lib.ListN.{length};
@@ -21,6 +21,7 @@ ghost use Rattle.edit_record.specs.Layout.{mostSites, recordLength};
 ghost use Rattle.edit_record.specs.RecordBytes.{decodeOf};
 ghost use Rattle.edit_history.specs.EditsHeld.{mostRecords, editsOf, isTarget};
 ghost use Rattle.edit_history.specs.Answers2to5.{isTorn};
+ghost use Rattle.edit_history.specs.Answer16.{recordsNamed};
 ghost use Rattle.edit_history.specs.SurveyForms.{surveyOf, SurveyedOf, repeatedAgainst, earlyAgainst};
 ghost use Rattle.edit_walk.specs.WalkForms.{Indexed, inTurnAgainst};
 ghost use Rattle.table_index.specs.IndexForms.{numberAt, Holds};
@@ -53,7 +54,7 @@ pub fn one_to_three(c: Counters, rec: &[u8]) -> Answer
     ensures { λ r. ⌜ (numberOf r ≡ firstOf inTurn (threeBy c (now (rec .entry)))) × (length (c .held) ≡ mostSites) ⌝ }
 {
     let held = c.held;
-    if edit_record::is_malformed(c.sites, rec) {
+    if edit_fit::is_malformed(c.sites, rec) {
         return Answer::Malformed;
     }
     two_or_three(&held, rec)
@@ -116,5 +117,21 @@ pub fn survey(c: Counters, recs: &[u8], places: &[u16], rec: &[u8]) -> Surveyed
     if !a.held {
         return edit_history::none_found(a.torn);
     }
-    survey_held(c, recs, places, rec, a.torn)
+    // in two places, so that its work space is no part of an arrival's
+    if a.torn {
+        return survey_held(c, recs, places, rec, true);
+    }
+    survey_held(c, recs, places, rec, false)
+}
+
+// The answer to a record that asks nothing of the Sets held: 8 before it, where 16 is given to a record held.
+pub fn answer_where_named(c: Counters, recs: &[u8], places: &[u16], answer: Answer) -> Answer
+    requires { ⌜ Holds c (now recs) × Indexed (now recs) (c .records) (now places) ⌝ }
+    ensures { λ r.
+        ⌜ numberOf r ≡ cond (recordsNamed (now (recs .entry)) (c .records)) (numberOf answer) 8 ⌝ }
+{
+    if group_named::are_all_named(recs, c.records as usize, places) {
+        return answer;
+    }
+    Answer::Unsound
 }

@@ -38,6 +38,12 @@ pub struct Arrived {
     pub counters: Counters,
 }
 
+// Whether 16 is given to none of the records held, and what is judged of an arriving one if so.
+pub struct Tested {
+    pub named: bool,
+    pub judged: Judged,
+}
+
 // The bytes of the record src into d.
 fn copy_record(d: &mut [u8], src: &[u8])
     requires { ⌜ length (now d) ≡ length (now src) ⌝ }
@@ -63,7 +69,7 @@ fn put_whole(d: &mut [u8], whole: [u8; RECORD])
 }
 
 // The record rec at the front of place p.
-fn put_record(recs: &mut [u8], p: usize, rec: &[u8])
+pub fn put_record(recs: &mut [u8], p: usize, rec: &[u8])
     requires { ⌜ (p < mostRecords)
         × (length (now recs) ≡ recordsLength)
         × (length (now rec) ≡ spanOf (now rec))
@@ -255,7 +261,7 @@ fn take_set(
     let o = v.object;
     let k = v.sets;
     let g = objects[o * ENTRY + 2];
-    let m = group_step::step_known(groups, o, g as usize, j.conflicts, k, apart);
+    let m = group_apart::step_known(groups, o, g as usize, j.conflicts, k, apart);
     if group_step::GROUPS < m {
         return Arrived {
             answer: Answer::Crowded,
@@ -331,7 +337,7 @@ pub fn accept(
 }
 
 // An arriving edit, any bytes, at any tables: 8, then 1 to 7 in turn, with 16 after 5, the first that applies; else the
-// edit is taken.
+// edit is taken. That 16 is given to no record held is tested last, with what the edit asks of the Sets held.
 pub fn arrive(
     c: Counters,
     records: &mut [u8],
@@ -346,20 +352,28 @@ pub fn arrive(
 {
     // what work space holds at first does not matter; zeros would be set by memset (docs/DECISIONS.md, 24)
     let mut places = [1u16; PLACES];
-    if !table_soundness::is_sound_with(c, records, objects, groups, &mut places) {
+    if !table_soundness::is_sound_but_named(c, records, objects, groups, &mut places) {
         return Arrived {
             answer: Answer::Unsound,
             counters: c,
         };
     }
-    let answer = asked::one_to_three(c, rec);
-    if table_drawing::number(answer) != 0 {
+    let first = asked::one_to_three(c, rec);
+    if table_drawing::number(first) != 0 {
+        let answer = asked::answer_where_named(c, records, &places, first);
         return Arrived {
             answer,
             counters: c,
         };
     }
     let v = asked::survey(c, records, &places, rec);
-    let j = judging::judge(records, c.records as usize, rec, v);
+    let t = judging::judge(c, records, &places, rec, v);
+    if !t.named {
+        return Arrived {
+            answer: Answer::Unsound,
+            counters: c,
+        };
+    }
+    let j = t.judged;
     accept(c, records, objects, groups, rec, v, j, false)
 }

@@ -41,7 +41,7 @@ use Rattle.table_given.specs.Replay.{replayOf}
 use Rattle.table_given.proofs.OwnRecords.{edits-held}
 use Rattle.demand_any_order.specs.Records.{recordsOf, Whole}
 use Rattle.demand_any_order.specs.Settled.{named, fullOver, crowdedOver, listAnswer, AllAccepted}
-use Rattle.demand_any_order.proofs.Identities.{one-object}
+use Rattle.group_true.proofs.Identities.{one-object}
 use Rattle.demand_any_order.proofs.ReplayAccepted.{accepted-none, accepted-more, refuses-none-exactly}
 use Rattle.table_check.proofs.SettledByRecords.{used-long}
 

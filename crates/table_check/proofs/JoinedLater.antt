@@ -14,7 +14,7 @@ use Rattle.math_maximal.specs.Groups.{bit}
 use Rattle.math_maximal.specs.Step.{step}
 use Rattle.math_maximal.proofs.Bits.{bit-or, same-bits}
 use Rattle.group_step.specs.StepForms.{Apart, conflicting, gained}
-use Rattle.group_step.proofs.StepApart.{apart-step}
+use Rattle.group_apart.proofs.StepApart.{apart-step}
 use Rattle.table_check.specs.CheckForms.{joinedWith}
 
 -- none at all

@@ -11,19 +11,23 @@ use lib.Seq.{take-suc, take-add, take-at, take-take}
 use borrow.Author.Tests.{ne-eqb, le-ltb}
 use Rattle.math_lists.specs.NumbersBelow.{sameList}
 use Rattle.math_lists.specs.SortedLists.{elem, Ascending}
+use Rattle.math_lists.proofs.Booleans.{off-where}
+use Rattle.math_contexts.specs.Box.{Lawful}
 use Rattle.edit_record.specs.declared.Edit.{Edit}
-use Rattle.edit_causal.specs.Conflict.{conflictsIn, conflictsWith}
+use Rattle.edit_causal.specs.Conflict.{boxOn, conflictsIn, conflictsWith}
 use Rattle.edit_causal.specs.ConflictForms.{NoneItself}
 use Rattle.edit_history.specs.EditsHeld.{recordAt}
 use Rattle.edit_history.proofs.EditsInPlaces.{sets-length}
-use Rattle.group_limited.specs.LimitedForms.{setsIn}
+use Rattle.group_limited.specs.LimitedForms.{namedInTurn}
+use Rattle.group_sight.specs.SightForms.{setsIn}
 use Rattle.math_maximal.specs.Groups.{every}
 use Rattle.math_maximal.specs.Step.{step}
 use Rattle.math_maximal.proofs.Groups.{groups-ascending, no-elements}
 use Rattle.group_step.specs.GroupRows.{mostSets, mostGroups, row, settled}
 use Rattle.group_step.specs.StepForms.{Apart}
+use Rattle.group_named.specs.NamedForms.{isNamedAt}
 use Rattle.table_drawing.specs.Tables.{Tables, heldBy, placeAt, setsAt, groupsAt}
-use Rattle.table_soundness.proofs.SoundFacts.{Sound}
+use Rattle.table_soundness.proofs.SoundFacts.{SoundBut}
 use Rattle.table_index.specs.IndexForms.{placesOn}
 use Rattle.table_index.proofs.PlacesOfSets.{places-sets, places-length}
 use Rattle.table_sets.specs.ChainForms.{Chained, AlongChain}
@@ -31,9 +35,9 @@ use Rattle.table_arrival.specs.Answers6and7.{rowOf}
 use Rattle.group_true.specs.TrueGroups.{groupsOf, trueGroups}
 use Rattle.group_true.proofs.GroupsGrow.{is-maximal, none-part, never-fewer-groups, sets-step}
 use Rattle.table_sets.specs.KeyForms.{TellsIn}
-use Rattle.table_check.specs.CheckForms.{rowTrue, groupsIn, ProperInTurn, WorkedOut}
+use Rattle.table_check.specs.CheckForms.{rowTrue, rowStands, groupsIn, WorkedThrough}
 use Rattle.table_check.proofs.SettledByRecords.{used-long}
-use Rattle.table_check.proofs.SetsInTurn.{in-turn, told-in-turn}
+use Rattle.table_check.proofs.SetsInTurn.{lawful-all, told-in-turn, named-on, named-turn, turn-named}
 
 -- ---- one step after another
 
@@ -115,8 +119,8 @@ part-is gs o g few =
 
 -- ---- the row of object o, which has k Sets on the Create in place p
 
-module _ (t : Tables) (s : Sound t) (o : ℕ) (l : o < t .counters .objects) (p k : ℕ) (ep : p ≡ placeAt (t .objects) o)
-    (ek : k ≡ setsAt (t .objects) o) where
+module _ (t : Tables) (s : SoundBut t) (o : ℕ) (l : o < t .counters .objects) (p k : ℕ)
+    (ep : p ≡ placeAt (t .objects) o) (ek : k ≡ setsAt (t .objects) o) where
   abbrev rs : List ℕ
   rs = t .records
 
@@ -136,8 +140,9 @@ module _ (t : Tables) (s : Sound t) (o : ℕ) (l : o < t .counters .objects) (p 
       gathered (placesOn rs n create) (rw ep (chained create (x .place) (x .create)))
       (places-length rs create n ∙ sym (x .sets) ∙ sym ek)
 
-  pub places-in-turn : (ms : List ℕ) → k ≤ length ms → take k ms ≡ placesOn rs n create → ProperInTurn rs ms k
-  places-in-turn ms = in-turn t s create ms k
+  pub places-lawful :
+      (ms : List ℕ) → k ≤ length ms → take k ms ≡ placesOn rs n create → Lawful (boxOn (setsIn rs ms k)) k
+  places-lawful ms = lawful-all t s create ms k
 
   pub places-told : (ms : List ℕ) → k ≤ length ms → take k ms ≡ placesOn rs n create → TellsIn rs ms k
   places-told ms = told-in-turn t s create ms k
@@ -152,16 +157,27 @@ module _ (t : Tables) (s : Sound t) (o : ℕ) (l : o < t .counters .objects) (p 
   pub row-fits-in : o * mostGroups + mostGroups ≤ length (t .groups)
   row-fits-in = omega (arith, s .groups-long, s .few-objects)
 
-  module _ (ms gs : List ℕ) (r : ℕ) (e : take k ms ≡ placesOn rs n create) (w : WorkedOut (groupsIn rs ms k) gs r) where
-    pub too-many : mostGroups < r → false ≡ rowTrue t o
+  module _ (ms gs : List ℕ) (r : ℕ) (fits : k ≤ length ms) (e : take k ms ≡ placesOn rs n create)
+      (w : WorkedThrough rs ms k gs r) where
+    abbrev named? : Bool
+    named? = isNamedAt rs n create
+
+    named-is : named? ≡ namedInTurn (setsIn rs ms k)
+    named-is = named-on t s create ms k fits e (s .object o l .entry .create)
+
+    pub too-many : mostGroups < r → false ≡ rowStands t o
     too-many m =
         let g = groupsAt (t .objects) o in
         let few = s .object o l .row .few in
         let long = used-long (t .groups) o g few row-fits-in in
-        let many = w .many m in
+        sym (off-where named? (rowTrue t o) (λ h.
+        let turn = named-turn rs ms k fits (lawful-all t s create ms k fits e) (sym named-is ∙ h) in
+        let many = w .many m turn in
         rw
         (ne-eqb (length (rowOf t o)) (length (trueGroups (heldBy t) (recordAt rs create)))
-        (λ h. omega (arith, ap length (groups-are ms e))))
+        (λ h. omega (arith, ap length (groups-are ms e))))))
 
-    pub row-decides : (b : Bool) → r ≤ mostGroups → b ≡ sameList (rowOf t o) (take r gs) → b ≡ rowTrue t o
-    row-decides b few h = h ∙ ap (sameList (rowOf t o)) (w .few few ∙ groups-are ms e)
+    pub row-decides : (b : Bool) → r ≤ mostGroups → b ≡ sameList (rowOf t o) (take r gs) → b ≡ rowStands t o
+    row-decides b few h =
+        let (turn, front) = w .few few in
+        rw (named-is, turn-named rs ms k fits turn) (h ∙ ap (sameList (rowOf t o)) (front ∙ groups-are ms e))

@@ -1,93 +1,70 @@
--- The Sets of an object of sound tables, taken one after another as a row is worked out: those before each are proper,
--- 16 is not given to it, and its conflicts with them are what the code is told. Assumes nothing.
-use mathlib.Core.Path.{_≡_, refl, sym, ap, ap₂, subst, _∙_}
-use mathlib.Core.Bool.{Bool, true, false, not, cond}
+-- The Sets of an object of tables that are sound but for 16, taken one after another as a row is worked out: where 16
+-- is given to none of those before a Set, they are proper, and its conflicts with them are what the code is told.
+-- Assumes nothing.
+use mathlib.Core.Path.{_≡_, sym, ap, subst, _∙_}
+use mathlib.Core.Bool.{true, false}
 use mathlib.Core.List.{List, [], _∷_, _++_, map}
-use Prim.Native.Nat.{ℕ, zero, suc, _≤_, _<_}
+use Prim.Native.Nat.{ℕ, _+_, _≤_, _<_}
 use native.Mathlib.Omega.{arith}
-use native.Mathlib.Decide.{decLt, ℕ-discrete}
-use lib.ListN.{length, getD, take, length-append, List·getD-append}
-use lib.Seq.{getD-append-seam, getD-take, take-append-le, take-length, take-take, length-take-le}
-use borrow.Author.Tests.{not-true}
-use Rattle.math_lists.specs.NumbersBelow.{keep}
+use lib.ListN.{length, getD, take}
 use Rattle.math_lists.specs.SortedLists.{any}
-use Rattle.math_lists.proofs.Booleans.{clash, off, both}
+use Rattle.math_lists.proofs.Booleans.{clash, off}
 use Rattle.math_lists.proofs.ByPlaces.{any-place-on}
-use Rattle.math_lists.proofs.NumbersBelow.{all-on, all-at, keep-more}
 use Rattle.math_contexts.specs.Box.{Lawful}
 use Rattle.math_contexts.specs.Contexts.{context}
 use Rattle.math_contexts.specs.Versions.{AllNamed}
-use Rattle.edit_record.specs.declared.Site.{Site}
-use Rattle.edit_record.specs.declared.Seq.{Seq}
 use Rattle.edit_record.specs.declared.Edit.{Edit}
 use Rattle.edit_record.specs.RecordBytes.{noEdit}
-use Rattle.edit_record.specs.Answer1.{isSet, isLimited}
-use Rattle.edit_causal.specs.Causal.{sameEdit}
+use Rattle.edit_record.specs.Answer1.{isCreate, isLimited}
 use Rattle.edit_causal.specs.Conflict.{boxOn, conflictsWith}
-use Rattle.edit_causal.specs.ConflictForms.{Proper, plainMarks}
-use Rattle.edit_causal.proofs.Identities.{same-parts}
+use Rattle.edit_causal.specs.ConflictForms.{plainMarks}
 use Rattle.edit_causal.proofs.PlainMarks.{marks-are-all}
 use Rattle.edit_history.specs.EditsHeld.{recordAt, editsOf, setsOn}
-use Rattle.edit_history.specs.Answers2to5.{passes, recordsPass}
-use Rattle.edit_history.specs.Answer16.{namelessAmong, isNameless, recordsNamed}
 use Rattle.edit_history.proofs.EditsInPlaces.{sets-length, set-place}
-use Rattle.group_true.proofs.ProperSets.{orderly-table, named-version}
+use Rattle.group_true.proofs.ProperSets.{in-order-table, named-version}
 use Rattle.group_limited.specs.declared.Told.{Told}
-use Rattle.group_limited.specs.LimitedForms.{setsIn, ToldOf}
-use Rattle.group_limited.proofs.OneMoreTaken.{sets-more}
+use Rattle.group_limited.specs.LimitedForms.{ToldOf, namedInTurn}
+use Rattle.group_sight.specs.SightForms.{setsIn}
+use Rattle.group_limited.proofs.NamedInTurn.{nameless, proper-to, in-turn-on, in-turn-off}
+use Rattle.group_limited.proofs.NamedInTurn.{passed-one-more}
+use Rattle.group_named.specs.NamedForms.{isNamedAt}
+use Rattle.group_named.proofs.BoxesNamed.{plain-in-turn}
 use Rattle.table_drawing.specs.Tables.{Tables}
-use Rattle.table_soundness.proofs.SoundFacts.{Sound}
-use Rattle.table_index.specs.IndexForms.{isOn, placesOn}
+use Rattle.table_soundness.proofs.SoundFacts.{SoundBut}
+use Rattle.table_index.specs.IndexForms.{placesOn}
 use Rattle.table_index.proofs.PlacesOfSets.{places-sets}
 use Rattle.table_sets.specs.KeyForms.{TellsIn}
-use Rattle.table_sets.proofs.SetsTold.{tells-in}
+use Rattle.table_sets.proofs.SetsTold.{passed-tells-in}
 use Rattle.table_check.specs.CheckForms.{ProperInTurn}
 
--- ---- the numbers below n that pass
+-- ---- the Sets in the first k of the places ms, whose having seen goes through
 
--- the one in place i, q, with those before it: they are all that pass below it
-record Passing (n : ℕ) (f : ℕ → Bool) (i q : ℕ) : Type 0 where
-  below : q < n
-  passes-too : f q ≡ true
-  before : take i (keep n f) ≡ keep q f
+module _ (rs ms : List ℕ) (k : ℕ) (fits : k ≤ length ms) where
+  -- 16 is given to none of the first i after those before it: they are proper in turn
+  pub turn-to :
+      (i : ℕ) → i ≤ k → Lawful (boxOn (setsIn rs ms k)) k → ((j : ℕ) → j < i → nameless rs ms j ≡ false) →
+      ProperInTurn rs ms i
+  turn-to i l law free = record {
+    proper = λ j m. proper-to rs ms k fits j (omega arith) law (λ x o. free x (omega arith));
+    named = free;
+  }
 
-passing : (n : ℕ) (f : ℕ → Bool) (i : ℕ) → i < length (keep n f) → Passing n f i (getD (keep n f) i 0)
-unfolding keep
-passing zero f i l = absurd (omega arith)
-passing (suc n) f i l = go (f n) refl (decLt i (length (keep n f))) (passing n f i)
-  where
-    go : (b : Bool) → f n ≡ b → Dec (i < length (keep n f)) →
-        (i < length (keep n f) → Passing n f i (getD (keep n f) i 0)) →
-        Passing (suc n) f i (getD (keep n f ++ cond (f n) (n ∷ []) []) i 0)
-    go b e (yes m) ih =
-        let p = ih m in
-        let more = cond (f n) (n ∷ []) [] in
-        rw (List·getD-append (keep n f) more 0 i m)
-        (record {
-          below = omega (arith, p .below);
-          passes-too = p .passes-too;
-          before = take-append-le i (keep n f) more (omega arith) ∙ p .before;
-        })
-    go true e (no m) ih =
-        let one : _≡_ {A = ℕ} (cond (f n) 1 0) 1 = ap (λ (b : Bool). cond b 1 0) e in
-        let at : i ≡ length (keep n f) = omega (arith, keep-more f n) in
-        let its : getD (keep n f ++ cond (f n) (n ∷ []) []) i 0 ≡ n
-        = rw (at, e) (getD-append-seam (keep n f) n [] 0) in
-        rw its
-        (record {
-          below = omega arith;
-          passes-too = e;
-          before =
-              take-append-le i (keep n f) (cond (f n) (n ∷ []) []) (omega arith)
-              ∙ rw at (take-length (keep n f));
-        })
-    go false e (no m) ih =
-        let none : _≡_ {A = ℕ} (cond (f n) 1 0) 0 = ap (λ (b : Bool). cond b 1 0) e in
-        absurd (omega (arith, keep-more f n))
+  pub turn-named : ProperInTurn rs ms k → namedInTurn (setsIn rs ms k) ≡ true
+  turn-named w = in-turn-on rs ms k fits (w .named)
 
--- ---- the Sets on the Create in place p
+  pub named-turn :
+      Lawful (boxOn (setsIn rs ms k)) k → namedInTurn (setsIn rs ms k) ≡ true → ProperInTurn rs ms k
+  named-turn law h =
+      turn-to k (omega arith) law (λ j l. off (nameless rs ms j) (λ t. clash h (in-turn-off rs ms k fits j l t)))
 
-module _ (t : Tables) (s : Sound t) (p : ℕ) where
+  pub none-limited-turn :
+      Lawful (boxOn (setsIn rs ms k)) k → any isLimited (setsIn rs ms k) ≡ false → ProperInTurn rs ms k
+  none-limited-turn law h = named-turn law (plain-in-turn (setsIn rs ms k) h)
+
+-- ---- the Sets on the Create in place p, whose places stand at the front of ms
+
+module _ (t : Tables) (s : SoundBut t) (p : ℕ) (ms : List ℕ) (k : ℕ) (fits : k ≤ length ms)
+    (e : take k ms ≡ placesOn (t .records) (t .counters .records) p) where
   abbrev rs : List ℕ
   rs = t .records
 
@@ -97,68 +74,23 @@ module _ (t : Tables) (s : Sound t) (p : ℕ) where
   abbrev create : Edit
   create = recordAt rs p
 
-  -- among the first q records they are proper
-  proper-to : (q : ℕ) → q ≤ n → Proper (setsOn (create .site) (create .seq) (editsOf rs q))
-  unfolding recordsPass recordsNamed
-  proper-to q l =
-      let sites = t .counters .sites in
-      let pass : ℕ → Bool = λ i. passes sites (editsOf rs i) (recordAt rs i) in
-      let named : ℕ → Bool = λ i. not (isNameless (editsOf rs i) (recordAt rs i)) in
-      orderly-table sites (s .few-sites) rs q
-      (all-on q pass (λ i m. all-at n pass (s .pass) i (omega arith)))
-      (all-on q named (λ i m. all-at n named (s .named) i (omega arith))) .boxes (create .site) (create .seq)
+  sets-all : setsIn rs ms k ≡ setsOn (create .site) (create .seq) (editsOf rs n)
+  sets-all = ap (map (recordAt rs)) e ∙ places-sets rs p n
 
-  -- and 16 is not given to the next, in place q
-  named-at :
-      (q : ℕ) → q < n → isOn rs p q ≡ true →
-      namelessAmong (setsOn (create .site) (create .seq) (editsOf rs q)) (recordAt rs q) ≡ false
-  unfolding recordsNamed
-  named-at q l h =
-      let e = recordAt rs q in
-      let (_, on) = both (isSet e) (sameEdit (e .tsite) (e .tseq) (create .site) (create .seq)) h in
-      let (x, y) = same-parts (e .tsite) (e .tseq) (create .site) (create .seq) on in
-      ap (λ (ms : List Edit). namelessAmong ms e)
-      (sym (ap₂ (λ (u : Site) (v : Seq). setsOn u v (editsOf rs q)) x y))
-      ∙ not-true (isNameless (editsOf rs q) e)
-      (all-at n (λ i. not (isNameless (editsOf rs i) (recordAt rs i))) (s .named) q l)
+  pub lawful-all : Lawful (boxOn (setsIn rs ms k)) k
+  lawful-all =
+      let order = in-order-table (t .counters .sites) (s .few-sites) rs n (s .pass) in
+      subst (Lawful (boxOn (setsIn rs ms k))) (sets-length rs ms k fits)
+      (subst (λ (xs : List Edit). Lawful (boxOn xs) (length xs)) (sym sets-all)
+      (order .lawful (create .site) (create .seq)))
 
-  -- their places stand at the front of ms
-  module _ (ms : List ℕ) (k : ℕ) (fits : k ≤ length ms) (e : take k ms ≡ placesOn rs n p) where
-    front : (i : ℕ) → i < k → Passing n (isOn rs p) i (getD ms i 0)
-    unfolding placesOn
-    front i l =
-        subst (Passing n (isOn rs p) i) (ap (λ (qs : List ℕ). getD qs i 0) (sym e) ∙ getD-take k ms i 0 l)
-        (passing n (isOn rs p) i (omega (arith, length-take-le k ms fits, ap length e)))
+  pub named-on : isCreate create ≡ true → isNamedAt rs n p ≡ namedInTurn (setsIn rs ms k)
+  unfolding isNamedAt
+  named-on h = rw h (ap namedInTurn (sym sets-all))
 
-    sets-before :
-        (i : ℕ) → i < k → setsIn rs ms i ≡ setsOn (create .site) (create .seq) (editsOf rs (getD ms i 0))
-    unfolding placesOn
-    sets-before i l =
-        ap (map (recordAt rs))
-        (sym (take-take i k ms (omega arith)) ∙ ap (take i) e ∙ front i l .before)
-        ∙ places-sets rs p (getD ms i 0)
-
-    sets-all : setsIn rs ms k ≡ setsOn (create .site) (create .seq) (editsOf rs n)
-    sets-all = ap (map (recordAt rs)) e ∙ places-sets rs p n
-
-    proper-at : (i : ℕ) → i ≤ k → Proper (setsIn rs ms i)
-    proper-at i l = elim (ℕ-discrete i k) [
-      | yes q ↦ subst Proper (sym (ap (setsIn rs ms) q ∙ sets-all)) (proper-to n (omega arith))
-      | no d ↦
-          (let m : i < k = omega arith in
-          subst Proper (sym (sets-before i m)) (proper-to (getD ms i 0) (omega (arith, front i m .below))))
-    ]
-
-    pub in-turn : ProperInTurn rs ms k
-    in-turn = record {
-      proper = proper-at;
-      named = λ i l. ap (λ (es : List Edit). namelessAmong es (recordAt rs (getD ms i 0))) (sets-before i l)
-          ∙ named-at (getD ms i 0) (front i l .below) (front i l .passes-too);
-    }
-
-    -- each is told its conflicts with those before it
-    pub told-in-turn : TellsIn rs ms k
-    told-in-turn = tells-in t s (create .site) (create .seq) ms k fits sets-all
+  -- each is told its conflicts with those before it
+  pub told-in-turn : TellsIn rs ms k
+  told-in-turn = passed-tells-in t (s .few-sites) (s .pass) (create .site) (create .seq) ms k fits sets-all
 
 -- ---- the conflicts of the Set e in the i-th place with those before it
 
@@ -179,27 +111,35 @@ module _ (rs ms : List ℕ) (k : ℕ) (fits : k ≤ length ms) (i : ℕ) (l : i 
       rw (set-place rs ms i (omega arith) j b) (none j (omega arith)))
       (rw own (none i l)))
 
-  -- else those that it is told
-  module _ (w : ProperInTurn rs ms k) where
-    abbrev xs : List Edit
-    xs = setsIn rs ms i
+-- ---- the next Set, which is told t
 
-    pub lawful-next : Lawful (boxOn (xs ++ (e ∷ []))) (suc (length xs))
-    lawful-next =
-        let more : setsIn rs ms (suc i) ≡ xs ++ (e ∷ []) = rw own (sets-more rs ms i (omega arith)) in
-        subst (Lawful (boxOn (xs ++ (e ∷ [])))) (omega (arith, length-append xs (e ∷ [])))
-        (subst Proper more (w .proper (suc i) l) .lawful)
+-- 16 is not given to it: those with it are proper in turn, and it is told its conflicts and its context
+pub record TakenInTurn (rs ms : List ℕ) (i : ℕ) (t : Told) : Type 0 where
+  pub free : (j : ℕ) → j < i + 1 → nameless rs ms j ≡ false
+  pub turn : ProperInTurn rs ms (i + 1)
+  pub conflicts : t .conflicts ≡ conflictsWith (recordAt rs (getD ms i 0)) (setsIn rs ms i)
+  pub context :
+      t .context ≡ context (boxOn (setsIn rs ms i ++ (recordAt rs (getD ms i 0) ∷ []))) (length (setsIn rs ms i))
 
-    named : AllNamed (boxOn xs) (length xs)
-    named = w .proper i (omega arith) .named
+module _ (rs ms : List ℕ) (k : ℕ) (fits : k ≤ length ms) (i : ℕ) (l : i < k) (law : Lawful (boxOn (setsIn rs ms k)) k)
+    (before : (j : ℕ) → j < i → nameless rs ms j ≡ false) (t : Told)
+    (told : ToldOf (setsIn rs ms i) (recordAt rs (getD ms i 0)) t) where
+  abbrev xs : List Edit
+  xs = setsIn rs ms i
 
-    free : namelessAmong xs e ≡ false
-    free = rw own (w .named i l)
+  named : AllNamed (boxOn xs) (length xs)
+  named = proper-to rs ms k fits i (omega arith) law before .named
 
-    module _ (t : Told) (told : ToldOf xs e t) where
-      pub told-are-all : t .conflicts ≡ conflictsWith e xs
-      told-are-all = told .conflicts named (told .nameless named ∙ free)
+  pub next-nameless : t .nameless ≡ nameless rs ms i
+  next-nameless = told .nameless named
 
-      -- and its context
-      pub told-context : t .context ≡ context (boxOn (xs ++ (e ∷ []))) (length xs)
-      told-context = told .context named (named-version xs e free)
+  pub taken : t .nameless ≡ false → TakenInTurn rs ms i t
+  taken h =
+      let own : nameless rs ms i ≡ false = sym next-nameless ∙ h in
+      let free = passed-one-more rs ms i own before in
+      record {
+        free = free;
+        turn = turn-to rs ms k fits (i + 1) (omega arith) law free;
+        conflicts = told .conflicts named h;
+        context = told .context named (named-version xs (recordAt rs (getD ms i 0)) own);
+      }

@@ -1,6 +1,7 @@
 -- The tables that are what their records give from an empty drawing are the sound ones whose rows are true: no other
 -- entry of sound tables can be untrue. Then the answers of the check. Assumes nothing.
 use mathlib.Core.Path.{_≡_, sym, ap, ap₂, subst, _∙_}
+use mathlib.Core.Logic.{inl, inr}
 use mathlib.Core.Bool.{Bool, true, false, _&&_, cond}
 use mathlib.Core.List.{List}
 use Prim.Native.Nat.{ℕ, _*_, _<_}
@@ -10,25 +11,32 @@ use lib.Seq.{getD-take}
 use lib.Dec.{eqb, leb}
 use borrow.Author.Tests.{eqb-true, eq-eqb, leb-true, le-leb}
 use Rattle.math_lists.specs.NumbersBelow.{all, sameList}
-use Rattle.math_lists.proofs.Booleans.{same-test, both, and-on}
+use Rattle.math_lists.proofs.Booleans.{decide, same-test, both, and-on}
 use Rattle.math_lists.proofs.NumbersBelow.{all-on, all-at}
 use Rattle.math_lists.proofs.ByPlaces.{list-equal, same-self}
 use Rattle.edit_record.specs.Layout.{mostSites, placeLength}
-use Rattle.edit_history.specs.EditsHeld.{bytesAt, recordAt, mostRecords}
+use Rattle.edit_record.specs.Answer1.{isCreate}
+use Rattle.edit_history.specs.EditsHeld.{bytesAt, recordAt, editsOf, creates, mostRecords}
+use Rattle.edit_history.specs.Answer16.{recordsNamed}
 use Rattle.group_step.specs.GroupRows.{mostObjects}
+use Rattle.group_named.specs.NamedForms.{isNamedAt}
+use Rattle.group_named.proofs.BoxesNamed.{named-by-boxes}
 use Rattle.table_drawing.specs.declared.Counters.{Counters}
 use Rattle.table_drawing.specs.Tables.{Tables, tablesOf, heldBy, placeAt, recordsLength, objectsLength, groupsLength}
 use Rattle.table_drawing.specs.Tables.{lengthsRight, sitesRight}
 use Rattle.table_soundness.specs.Sound.{withinLimits, sound}
-use Rattle.table_soundness.proofs.SoundFacts.{Sound, sound-at, sound-on}
+use Rattle.table_soundness.specs.SoundnessForms.{soundButNamed}
+use Rattle.table_soundness.proofs.SoundFacts.{Sound, SoundBut, entered, sound-at, sound-on, but-at, but-off}
+use Rattle.table_soundness.proofs.SoundFacts.{but-and-named}
+use Rattle.table_soundness.proofs.ObjectsByNumber.{entered-at-place}
 use Rattle.table_arrival.specs.Answers6and7.{rowOf}
 use Rattle.group_true.specs.TrueGroups.{trueGroups}
 use Rattle.table_arrival.proofs.Faithful.{RowsTrue, Faithful}
 use Rattle.table_given.specs.Replay.{Replayed, replayOf}
 use Rattle.table_given.proofs.ReplayFaithful.{replay-faithful}
-use Rattle.table_given.proofs.OwnRecords.{Holds, going-of, holds}
+use Rattle.table_given.proofs.OwnRecords.{HoldsGiven, going-of, holds}
 use Rattle.table_check.specs.Check.{sameCounters, sameTables, givesBack, isTrue, checkOf}
-use Rattle.table_check.specs.CheckForms.{rowTrue, rowsTrue}
+use Rattle.table_check.specs.CheckForms.{rowTrue, rowsTrue, rowStands, rowsStand}
 use Rattle.table_check.proofs.SettledByRecords.{same-records, same-number, same-counts, same-sum, same-groups}
 use Rattle.table_check.proofs.SettledByRecords.{same-objects, Rested, rested, places-same}
 use Rattle.table_check.proofs.AllTaken.{all-taken}
@@ -154,7 +162,7 @@ module _ (t : Tables) where
     faithful : Faithful u
     faithful = replay-faithful (c .sites) (s .some-sites) (s .few-sites) (bytesAt (t .records)) (c .records)
 
-    its : Holds (c .sites) (bytesAt (t .records)) (c .records) u
+    its : HoldsGiven (c .sites) (bytesAt (t .records)) (c .records) u
     its =
         holds (c .sites) (bytesAt (t .records)) right-sites (c .records) u
         (going-of (c .sites) (bytesAt (t .records)) (c .records) taken)
@@ -215,12 +223,48 @@ module _ (t : Tables) where
       (λ h. let (s, rows) = given-back-sound h in and-on (sound t) (rowsTrue t) (sound-on t s) (rows-on rows))
       (λ h. let (s, rows) = both (sound t) (rowsTrue t) h in given-back (sound-at t s) (rows-at rows))
 
+  -- ---- 16, by the objects: each has its Create, and each Create its object
+
+  module _ (s : SoundBut t) where
+    abbrev named? : ℕ → Bool
+    named? = isNamedAt (t .records) (c .records)
+
+    each-named : all (c .objects) (λ o. named? (placeAt (t .objects) o)) ≡ true → all (c .records) named? ≡ true
+    each-named h = all-on (c .records) named? (λ p l. elim (decide (isCreate (recordAt (t .records) p))) [
+      | inl q ↦
+          (let (less, place) = entered-at-place t (entered t s) p l q in
+          subst (λ (x : ℕ). named? x ≡ true) place
+          (all-at (c .objects) (λ o. named? (placeAt (t .objects) o)) h
+          (length (creates (editsOf (t .records) p))) less))
+      | inr q ↦ unfold isNamedAt in rw q
+    ])
+
+    rows-stand : rowsStand t ≡ (recordsNamed (t .records) (c .records) && rowsTrue t)
+    unfolding rowsStand rowsTrue
+    rows-stand =
+        let named = named-by-boxes (t .records) (c .sites) (c .records) (s .pass) in
+        same-test (all (c .objects) (rowStands t))
+        (recordsNamed (t .records) (c .records) && all (c .objects) (rowTrue t))
+        (λ h.
+        let at : (o : ℕ) → o < c .objects → (named? (placeAt (t .objects) o) ≡ true) × (rowTrue t o ≡ true)
+        = λ o l. both (named? (placeAt (t .objects) o)) (rowTrue t o) (all-at (c .objects) (rowStands t) h o l) in
+        and-on (recordsNamed (t .records) (c .records)) (all (c .objects) (rowTrue t))
+        (named ∙ each-named (all-on (c .objects) (λ o. named? (placeAt (t .objects) o)) (λ o l. at o l .0)))
+        (all-on (c .objects) (rowTrue t) (λ o l. at o l .1)))
+        (λ h.
+        let (n, rows) = both (recordsNamed (t .records) (c .records)) (all (c .objects) (rowTrue t)) h in
+        all-on (c .objects) (rowStands t) (λ o l.
+        and-on (named? (placeAt (t .objects) o)) (rowTrue t o)
+        (all-at (c .records) named? (sym named ∙ n) (placeAt (t .objects) o) (s .object o l .entry .place))
+        (all-at (c .objects) (rowTrue t) rows o l)))
+
   -- ---- the answers
 
-  pub not-sound : sound t ≡ false → 8 ≡ checkOf t
+  pub not-sound : (b : Bool) → b ≡ soundButNamed t → b ≡ false → 8 ≡ checkOf t
   unfolding checkOf
-  not-sound h = rw (true-exactly, h)
+  not-sound b h off = rw (true-exactly, ← but-off t b h off)
 
-  pub rows-decide : (b : Bool) → sound t ≡ true → b ≡ rowsTrue t → cond b 0 8 ≡ checkOf t
+  pub rows-decide : (b : Bool) → soundButNamed t ≡ true → b ≡ rowsStand t → cond b 0 8 ≡ checkOf t
   unfolding checkOf
-  rows-decide b s h = rw (true-exactly, s, h)
+  rows-decide b s h =
+      rw (true-exactly, ← but-and-named t, s, h, rows-stand (but-at t s))

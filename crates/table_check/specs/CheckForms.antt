@@ -2,7 +2,7 @@
 -- worked out from the places of its object's Sets. No one need believe them: laws in proofs/ tie them to `Check`.
 -- Assumes nothing.
 use mathlib.Core.Path.{_≡_}
-use mathlib.Core.Bool.{Bool, false}
+use mathlib.Core.Bool.{Bool, false, _&&_}
 use mathlib.Core.List.{List, map}
 use Prim.Native.Nat.{ℕ, _≤_, _<_}
 use lib.Bits.{bitOr}
@@ -12,7 +12,8 @@ use Rattle.edit_causal.specs.ConflictForms.{Proper}
 use Rattle.edit_history.specs.EditsHeld.{recordAt}
 use Rattle.edit_history.specs.Answer16.{namelessAmong}
 use Rattle.group_step.specs.GroupRows.{mostGroups}
-use Rattle.group_limited.specs.LimitedForms.{setsIn}
+use Rattle.group_sight.specs.SightForms.{setsIn}
+use Rattle.group_named.specs.NamedForms.{isNamedAt}
 use Rattle.table_drawing.specs.Tables.{Tables, placeAt, heldBy}
 use Rattle.table_arrival.specs.Answers6and7.{rowOf}
 use Rattle.group_true.specs.TrueGroups.{groupsOf, trueGroups}
@@ -25,6 +26,13 @@ rowTrue t o = sameList (rowOf t o) (trueGroups (heldBy t) (recordAt (t .records)
 
 unfoldable pub rowsTrue : Tables → Bool
 rowsTrue t = all (t .counters .objects) (rowTrue t)
+
+-- and 16 is given to none of the Sets of object o
+abbrev pub rowStands : Tables → ℕ → Bool
+rowStands t o = isNamedAt (t .records) (t .counters .records) (placeAt (t .objects) o) && rowTrue t o
+
+unfoldable pub rowsStand : Tables → Bool
+rowsStand t = all (t .counters .objects) (rowStands t)
 
 -- ---- the groups of one object
 
@@ -45,3 +53,8 @@ pub record ProperInTurn (rs ms : List ℕ) (k : ℕ) : Type 0 where
 pub record WorkedOut (l gs : List ℕ) (r : ℕ) : Type 0 where
   pub few : r ≤ mostGroups → take r gs ≡ l
   pub many : mostGroups < r → mostGroups < length l
+
+-- the same, where 16 may be given to one of the Sets: then r says that they are too many
+pub record WorkedThrough (rs ms : List ℕ) (k : ℕ) (gs : List ℕ) (r : ℕ) : Type 0 where
+  pub few : r ≤ mostGroups → ProperInTurn rs ms k × (take r gs ≡ groupsIn rs ms k)
+  pub many : mostGroups < r → ProperInTurn rs ms k → mostGroups < length (groupsIn rs ms k)

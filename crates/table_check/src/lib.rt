@@ -1,10 +1,10 @@
 // The separate check of document 01: whether tables are what their records give from an empty drawing. What can be
 // untrue in sound tables is the rows of groups alone, so each row is worked out anew from the Sets of its object, and
-// held against the table's.
+// held against the table's. That tells 16 of these Sets as well, which is left out where soundness is tested.
 use edit_history::RECORDS;
 use edit_walk::PLACES;
-use group_limited::RECENT;
-use group_limited::earlier::put_names;
+use group_sight::RECENT;
+use group_sight::put_names;
 use group_step::GROUPS;
 use group_step::SETS;
 use table_drawing::Answer;
@@ -12,7 +12,7 @@ use table_drawing::Counters;
 use table_drawing::ENTRY;
 use table_drawing::entries::at16;
 use table_sets::by_key::KEY_CHAINS;
-use table_sets::by_key::take_set;
+use table_sets::by_mask::mark_set;
 ghost use mathlib.Core.Path.{_≡_};
 ghost use mathlib.Core.Bool.{true, false};
 ghost use mathlib.Core.List.{[], _∷_};
@@ -21,18 +21,21 @@ ghost use lib.ListN.{length, take};
 ghost use Rattle.math_lists.specs.NumbersBelow.{sameList};
 ghost use Rattle.math_lists.specs.SortedLists.{any, elem, Ascending};
 ghost use Rattle.math_maximal.specs.Step.{step};
+ghost use Rattle.math_contexts.specs.Box.{Lawful};
 ghost use Rattle.edit_record.specs.Answer1.{isLimited};
+ghost use Rattle.edit_causal.specs.Conflict.{boxOn};
 ghost use Rattle.edit_walk.specs.WalkForms.{Indexed};
 ghost use Rattle.group_step.specs.GroupRows.{mostGroups, mostSets, row};
 ghost use Rattle.group_step.specs.StepForms.{Apart};
-ghost use Rattle.group_limited.specs.LimitedForms.{mostRecent, setsIn, NamesIn};
+ghost use Rattle.group_sight.specs.SightForms.{mostRecent, setsIn, NamesIn};
 ghost use Rattle.table_drawing.specs.Tables.{tablesOf};
 ghost use Rattle.table_drawing.specs.AnswerNumbers.{numberOf};
-ghost use Rattle.table_soundness.specs.Sound.{sound};
+ghost use Rattle.table_soundness.specs.SoundnessForms.{soundButNamed};
 ghost use Rattle.table_sets.specs.ChainForms.{Chained};
 ghost use Rattle.table_sets.specs.KeyForms.{TellsIn};
 ghost use Rattle.table_check.specs.Check.{checkOf};
-ghost use Rattle.table_check.specs.CheckForms.{rowTrue, rowsTrue, groupsIn, joinedWith, ProperInTurn, WorkedOut};
+ghost use Rattle.table_check.specs.CheckForms.{rowStands, rowsStand, groupsIn, joinedWith, ProperInTurn};
+ghost use Rattle.table_check.specs.CheckForms.{WorkedOut, WorkedThrough};
 
 // Whether two rows of groups are the same.
 fn is_same(a: &[u64], b: &[u64]) -> bool
@@ -103,7 +106,7 @@ fn step_later(gs: &mut [u64], n: usize, common: u64, m: u64, i: usize) -> Steppe
     }
     join_all(gs, n, common);
     Stepped {
-        count: group_step::step_apart(gs, n, m, i),
+        count: group_apart::step_apart(gs, n, m, i),
         common: 0,
     }
 }
@@ -121,15 +124,14 @@ fn step_plainly(gs: &mut [u64], recs: &[u8], places: &[u16], k: usize) -> usize
         × TellsIn (now recs) (now places) k ⌝ }
     ensures { λ r. ⌜ WorkedOut (groupsIn (now (recs .entry)) (now (places .entry)) k) (now (gs .exit)) r ⌝ }
 {
-    let mut latest = [0u8; KEY_CHAINS];
+    let mut sets = [0u64; KEY_CHAINS];
     // what work space holds at first does not matter; zeros would be set by memset (docs/DECISIONS.md, 24)
-    let mut earlier = [1u8; SETS];
     let mut tolds = [1u64; SETS];
     let mut n: usize = 1;
     let mut common: u64 = 0;
     let mut i: usize = 0;
     while i < k {
-        let m = take_set(&mut latest, &mut earlier, &mut tolds, recs, places, i);
+        let m = mark_set(&mut sets, &mut tolds, recs, places, i);
         let t = step_later(gs, n, common, m, i);
         n = t.count;
         common = t.common;
@@ -143,7 +145,8 @@ fn step_plainly(gs: &mut [u64], recs: &[u8], places: &[u16], k: usize) -> usize
 }
 
 // The same where Sets may be limited: the conflicts of each are told by the rows of those before it, which are put down
-// in `plain` and `ctx`, and by the names of all.
+// in `plain` and `ctx`, and by the names of all. Where 16 is given to one, it says that there are too many groups: no
+// row is right then.
 fn step_limited(
     gs: &mut [u64],
     plain: &mut [u64],
@@ -161,16 +164,19 @@ fn step_limited(
         × (mostRecent ≤ length (now sees))
         × (k ≤ length (now places))
         × (k ≤ mostSets)
-        × ProperInTurn (now recs) (now places) k
+        × Lawful (boxOn (setsIn (now recs) (now places) k)) k
         × (k ≤ length (now names))
         × NamesIn (now recs) (now places) k (now names) ⌝ }
-    ensures { λ r. ⌜ WorkedOut (groupsIn (now (recs .entry)) (now (places .entry)) k) (now (gs .exit)) r ⌝ }
+    ensures { λ r. ⌜ WorkedThrough (now (recs .entry)) (now (places .entry)) k (now (gs .exit)) r ⌝ }
 {
     let mut n: usize = 1;
     let mut i: usize = 0;
     while i < k {
         let t = group_limited::told_at(recs, places, names, sees, i, plain, ctx, places[i]);
-        n = group_step::step_apart(gs, n, t.conflicts, i);
+        if t.nameless {
+            return GROUPS + 1;
+        }
+        n = group_apart::step_apart(gs, n, t.conflicts, i);
         if GROUPS < n {
             return n;
         }
@@ -182,14 +188,14 @@ fn step_limited(
 }
 
 // Puts the groups of the Sets in the first k places at the front of gs, by the step for one Set after another from the
-// empty group; says how many they are, or that they are more than a row holds.
+// empty group; says how many they are, or that they are more than a row holds or that 16 is given to one of the Sets.
 fn work_out(recs: &[u8], places: &[u16], k: usize, gs: &mut [u64]) -> usize
     requires { ⌜ (k ≤ length (now places))
         × (k ≤ mostSets)
         × (length (now gs) ≡ mostGroups)
-        × ProperInTurn (now recs) (now places) k
+        × Lawful (boxOn (setsIn (now recs) (now places) k)) k
         × TellsIn (now recs) (now places) k ⌝ }
-    ensures { λ r. ⌜ WorkedOut (groupsIn (now (recs .entry)) (now (places .entry)) k) (now (gs .exit)) r ⌝ }
+    ensures { λ r. ⌜ WorkedThrough (now (recs .entry)) (now (places .entry)) k (now (gs .exit)) r ⌝ }
 {
     gs[0] = 0;
     if !group_limited::is_any_limited(recs, places, k) {
@@ -204,7 +210,7 @@ fn work_out(recs: &[u8], places: &[u16], k: usize, gs: &mut [u64]) -> usize
     step_limited(gs, &mut plain, &mut ctx, &mut sees, recs, places, &names, k)
 }
 
-// Whether the row of object o has the groups of the object's Sets, which are found by the chain.
+// Whether 16 is given to none of the Sets of object o, which are found by the chain, and its row has their groups.
 fn is_row_true(
     c: Counters,
     records: &[u8],
@@ -213,10 +219,11 @@ fn is_row_true(
     chain: &[u16],
     o: usize,
 ) -> bool
-    requires { ⌜ (sound (tablesOf c (now records) (now objects) (now groups)) ≡ true)
+    requires { ⌜ (soundButNamed (tablesOf c (now records) (now objects) (now groups)) ≡ true)
         × (o < c .objects)
         × Chained (now records) (c .records) (now chain) ⌝ }
-    ensures { λ r. ⌜ r ≡ rowTrue (tablesOf c (now (records .entry)) (now (objects .entry)) (now (groups .entry))) o ⌝ }
+    ensures { λ r.
+        ⌜ r ≡ rowStands (tablesOf c (now (records .entry)) (now (objects .entry)) (now (groups .entry))) o ⌝ }
 {
     let at = o * ENTRY;
     let p = at16(objects, at);
@@ -233,7 +240,7 @@ fn is_row_true(
     is_row(groups, o, g as usize, &gs, r)
 }
 
-// Whether the row of each object has the groups of the object's Sets.
+// The same of each object.
 fn are_rows_true(
     c: Counters,
     records: &[u8],
@@ -241,9 +248,9 @@ fn are_rows_true(
     groups: &[u64],
     places: &[u16],
 ) -> bool
-    requires { ⌜ (sound (tablesOf c (now records) (now objects) (now groups)) ≡ true)
+    requires { ⌜ (soundButNamed (tablesOf c (now records) (now objects) (now groups)) ≡ true)
         × Indexed (now records) (c .records) (now places) ⌝ }
-    ensures { λ r. ⌜ r ≡ rowsTrue (tablesOf c (now (records .entry)) (now (objects .entry)) (now (groups .entry))) ⌝ }
+    ensures { λ r. ⌜ r ≡ rowsStand (tablesOf c (now (records .entry)) (now (objects .entry)) (now (groups .entry))) ⌝ }
 {
     let n = c.records as usize;
     let m = c.objects as usize;
@@ -264,7 +271,7 @@ pub fn check(c: Counters, records: &[u8], objects: &[u16], groups: &[u64]) -> An
         ≡ checkOf (tablesOf c (now (records .entry)) (now (objects .entry)) (now (groups .entry))) ⌝ }
 {
     let mut places = [1u16; PLACES];
-    if !table_soundness::is_sound_with(c, records, objects, groups, &mut places) {
+    if !table_soundness::is_sound_but_named(c, records, objects, groups, &mut places) {
         return Answer::Unsound;
     }
     if are_rows_true(c, records, objects, groups, &places) {

@@ -35,8 +35,9 @@ use Rattle.group_context.specs.RowsOfBox.{PlainRows}
 use Rattle.group_context.proofs.NamedByRows.{conflict-row-named}
 use Rattle.group_engine.specs.SearchForms.{conflict, byMasks, Conflicts}
 use Rattle.group_engine.proofs.MasksOfElements.{groups-of-elements, conflicts-of-elements}
-use Rattle.group_limited.specs.LimitedForms.{setsIn, withMark, RowsTell}
-use Rattle.table_engine.specs.EngineForms.{groupsIn, MaskedTo, MaskedFirst}
+use Rattle.group_limited.specs.LimitedForms.{withMark, RowsTell}
+use Rattle.group_sight.specs.SightForms.{setsIn}
+use Rattle.table_engine.specs.EngineForms.{groupsIn, MasksTell, MaskedFirst}
 
 module _ (rs ps : List ℕ) (k : ℕ) (fits : k ≤ length ps) where
   abbrev xs : List Edit
@@ -51,7 +52,7 @@ module _ (rs ps : List ℕ) (k : ℕ) (fits : k ≤ length ps) where
       Proper xs → (plains cs out : List ℕ) → RowsTell xs plains cs →
       ((b : Box) → PlainRows b k plains → take k cs ≡ contexts b k →
       (i : ℕ) → i < k → getD out i 0 ≡ mask k (conflicts b i)) →
-      MaskedTo k xs out
+      MasksTell k xs out
   unfolding conflictsIn
   masked proper plains cs out rows told i l =
       let b = boxOn xs in
@@ -110,7 +111,7 @@ module _ (rs ps : List ℕ) (k : ℕ) (fits : k ≤ length ps) where
 
   -- ---- what the masks of all of them tell
 
-  module _ (ms : List ℕ) (h : MaskedTo k xs ms) where
+  module _ (ms : List ℕ) (h : MasksTell k xs ms) where
     told : (i j : ℕ) → i < length xs → j < length xs → conflict ms i j ≡ conflictsIn xs i j
     told i j a b = rw (h i (omega (arith, long))) (mask-bit (length xs) (conflictsIn xs i) j b)
 

@@ -2,14 +2,14 @@
 // arrival order, to be held against the row that the arriving step left.
 use edit_record::Seq;
 use edit_record::Site;
-use group_limited::RECENT;
-use group_limited::earlier::put_names;
+use group_sight::RECENT;
+use group_sight::put_names;
 use group_step::GROUPS;
 use group_step::SETS;
 use table_drawing::Answer;
 use table_drawing::Counters;
 use table_sets::by_key::KEY_CHAINS;
-use table_sets::by_key::take_set;
+use table_sets::by_mask::mark_set;
 ghost use mathlib.Core.Path.{_≡_};
 ghost use mathlib.Core.Bool.{false};
 ghost use Prim.Native.Nat.{_≤_};
@@ -20,12 +20,12 @@ ghost use Rattle.edit_causal.specs.ConflictForms.{Proper};
 ghost use Rattle.edit_history.specs.EditsHeld.{mostRecords, editsOf, setsOn};
 ghost use Rattle.group_step.specs.GroupRows.{mostGroups, mostSets, settled};
 ghost use Rattle.group_engine.specs.SearchForms.{countTold};
-ghost use Rattle.group_limited.specs.LimitedForms.{setsIn};
+ghost use Rattle.group_sight.specs.SightForms.{setsIn};
 ghost use Rattle.table_drawing.specs.Tables.{tablesOf};
 ghost use Rattle.table_drawing.specs.AnswerNumbers.{numberOf};
 ghost use Rattle.table_sets.specs.KeyForms.{Tells};
 ghost use Rattle.table_engine.specs.Enumeration.{mostDecided, enumeration, enumerationIn, enumerationOf};
-ghost use Rattle.table_engine.specs.EngineForms.{groupsIn, MaskedTo};
+ghost use Rattle.table_engine.specs.EngineForms.{groupsIn, MasksTell};
 
 // The Sets of a box that the engine decides at most.
 pub const DECIDED: usize = 20;
@@ -44,15 +44,14 @@ fn put_plainly(recs: &[u8], places: &[u16], k: usize, masks: &mut [u64])
         × (k ≤ length (now masks))
         × (any isLimited (setsIn (now recs) (now places) k) ≡ false)
         × Asc Tells (setsIn (now recs) (now places) k) ⌝ }
-    ensures { λ r. ⌜ MaskedTo k (setsIn (now (recs .entry)) (now (places .entry)) k) (now (masks .exit)) ⌝ }
+    ensures { λ r. ⌜ MasksTell k (setsIn (now (recs .entry)) (now (places .entry)) k) (now (masks .exit)) ⌝ }
 {
-    let mut latest = [0u8; KEY_CHAINS];
+    let mut sets = [0u64; KEY_CHAINS];
     // what work space holds at first does not matter; zeros would be set by memset (docs/DECISIONS.md, 24)
-    let mut earlier = [1u8; DECIDED];
     let mut tolds = [1u64; DECIDED];
     let mut i: usize = 0;
     while i < k {
-        let row = take_set(&mut latest, &mut earlier, &mut tolds, recs, places, i);
+        let row = mark_set(&mut sets, &mut tolds, recs, places, i);
         group_limited::put_row(masks, i, row);
         i += 1;
     }
@@ -64,7 +63,7 @@ fn put_by_rows(recs: &[u8], places: &[u16], k: usize, masks: &mut [u64])
         × (k ≤ mostDecided)
         × (k ≤ length (now masks))
         × Proper (setsIn (now recs) (now places) k) ⌝ }
-    ensures { λ r. ⌜ MaskedTo k (setsIn (now (recs .entry)) (now (places .entry)) k) (now (masks .exit)) ⌝ }
+    ensures { λ r. ⌜ MasksTell k (setsIn (now (recs .entry)) (now (places .entry)) k) (now (masks .exit)) ⌝ }
 {
     // what work space holds at first does not matter; zeros would be set by memset (docs/DECISIONS.md, 24)
     let mut plain = [1u64; DECIDED];
@@ -83,9 +82,15 @@ fn put_masks(recs: &[u8], places: &[u16], k: usize, masks: &mut [u64])
         × (k ≤ length (now masks))
         × Proper (setsIn (now recs) (now places) k)
         × Asc Tells (setsIn (now recs) (now places) k) ⌝ }
-    ensures { λ r. ⌜ MaskedTo k (setsIn (now (recs .entry)) (now (places .entry)) k) (now (masks .exit)) ⌝ }
+    ensures { λ r. ⌜ MasksTell k (setsIn (now (recs .entry)) (now (places .entry)) k) (now (masks .exit)) ⌝ }
 {
-    if group_limited::is_any_limited(recs, places, k) {
+    let limited = group_limited::is_any_limited(recs, places, k);
+    // in two places, so that the work space of the rows is no part of that in which soundness is tested
+    if limited & (k == DECIDED) {
+        put_by_rows(recs, places, k, masks);
+        return;
+    }
+    if limited {
         put_by_rows(recs, places, k, masks);
         return;
     }

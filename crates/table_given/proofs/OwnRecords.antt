@@ -77,14 +77,14 @@ going-back sites rs n t g = go (eqb (r .answer) 0) refl g
 
 -- ---- the records that a drawing holds
 
-pub record Holds (sites : ℕ) (rs : ℕ → List ℕ) (n : ℕ) (t : Tables) : Type 0 where
+pub record HoldsGiven (sites : ℕ) (rs : ℕ → List ℕ) (n : ℕ) (t : Tables) : Type 0 where
   pub count : t .counters .records ≡ n
   pub sites-are : t .counters .sites ≡ sites
   pub bytes : (p : ℕ) → p < n → bytesAt (t .records) p ≡ rs p
 
 pub holds :
     (sites : ℕ) (rs : ℕ → List ℕ) → sitesRight sites ≡ true → (n : ℕ) (t : Tables) → Going sites rs n t →
-    Holds sites rs n t
+    HoldsGiven sites rs n t
 unfolding replayOf emptyDrawing
 holds sites rs right zero t g =
     record {
@@ -131,7 +131,7 @@ edits-held ts rs (suc n) h =
     (sym (bytes-decoded ts n) ∙ ap decodeOf (h n (omega arith)))
 
 pub held-edits :
-    (sites : ℕ) (rs : ℕ → List ℕ) (n : ℕ) (t : Tables) → Holds sites rs n t →
+    (sites : ℕ) (rs : ℕ → List ℕ) (n : ℕ) (t : Tables) → HoldsGiven sites rs n t →
     editsOf (t .records) (t .counters .records) ≡ editsIn rs n
 held-edits sites rs n t h = ap (editsOf (t .records)) (h .count) ∙ edits-held (t .records) rs n (h .bytes)
 

@@ -19,7 +19,7 @@ use Rattle.edit_causal.specs.ShownValue.{shownValue}
 use Rattle.edit_history.specs.EditsHeld.{recordAt, editsOf, countFrom}
 use Rattle.edit_history.proofs.EditsHeld.{target-parts, count-grows}
 use Rattle.edit_history.proofs.RecordsPassed.{InTurn, passed-at, formed-at, seq-held}
-use Rattle.group_limited.proofs.NamesOfSets.{seen-never-conflicts}
+use Rattle.group_sight.proofs.NamesOfSets.{seen-never-conflicts}
 use Rattle.table_drawing.specs.declared.Counters.{Counters}
 use Rattle.table_index.specs.IndexForms.{isOn, isKeyed, Holds, Arriving, unseenOther}
 use Rattle.table_index.proofs.SurveyByIndex.{turn}

@@ -1,10 +1,9 @@
 -- A record that is looked at by the index before it is taken: what its passing 1 to 5 says, and what a Set finds of its
 -- object. Assumes that the records held pass and are within the limits.
-use mathlib.Core.Path.{_≡_, refl, sym, ap, subst, _∙_}
+use mathlib.Core.Path.{_≡_, sym, ap, subst, _∙_}
 use mathlib.Core.Bool.{Bool, true, false, not, _&&_, _||_, cond}
 use mathlib.Core.List.{List}
 use Prim.Native.Nat.{ℕ, _<_}
-use native.Mathlib.Omega.{arith}
 use lib.Dec.{eqb, ltb}
 use lib.ListN.{getD}
 use borrow.Author.Tests.{ltb-true, not-true, not-false}
@@ -21,7 +20,8 @@ use Rattle.edit_history.specs.SurveyForms.{repeatedAgainst, earlyAgainst}
 use Rattle.edit_walk.specs.WalkForms.{placeOf, tornByNews, targetHeld, inTurnAgainst, passesAgainst}
 use Rattle.group_step.specs.GroupRows.{mostObjects, mostSets}
 use Rattle.table_drawing.specs.declared.Counters.{Counters}
-use Rattle.table_index.specs.IndexForms.{numberAt, limitAt, marksOn, IndexOf, Holds, FoundOf}
+use Rattle.table_index.specs.IndexForms.{numberAt, limitAt, marksOn, IndexOf, Holds, MetOf}
+use Rattle.table_index.specs.IndexForms.{PassedOf, FitOf}
 use Rattle.table_index.specs.declared.Looked.{Looked}
 use Rattle.table_index.proofs.SurveyByIndex.{object-is, Aimed, aimed}
 
@@ -58,10 +58,10 @@ create-room-of e m h k = ltb-true m mostObjects (rw k at h)
 
 -- ---- what a Set finds
 
--- an entry that is 0 or 1 and is 0
-told-none : (b : Bool) (k : ℕ) → k ≡ cond b 1 0 → k ≡ 0 → b ≡ false
-told-none true k e z = absurd (omega arith)
-told-none false k e z = refl
+-- an entry that is 0 or 1, by the test for 0
+pub told : (b : Bool) (k : ℕ) → k ≡ cond b 1 0 → not (eqb k 0) ≡ b
+told true k e = rw e
+told false k e = rw e
 
 module _
     (c : Counters)
@@ -82,11 +82,11 @@ module _
   pub target : Aimed c rs h ps ns cs hs own e q
   target = aimed c rs h ps ns cs hs own e (rw count held)
 
-  pub found-of :
+  pub met-of :
       (r : Looked) → r .object ≡ getD ns q 0 → r .sets ≡ getD cs (r .object) 0 →
-      getD hs (limitAt (r .object)) 0 ≡ 0 → r .conflicts ≡ marksOn rs n q e → r .sets < mostSets →
-      FoundOf rs n ps ns cs e r
-  found-of r o k none marks few =
+      r .limited ≡ not (eqb (getD hs (limitAt (r .object)) 0) 0) → r .conflicts ≡ marksOn rs n q e →
+      r .sets < mostSets → MetOf rs n ps ns cs e r
+  met-of r o k limits marks few =
       let t = target in
       let is : r .object ≡ numberAt rs q = o ∙ t .number in
       record {
@@ -96,7 +96,31 @@ module _
         sets = k ∙ ap (λ (i : ℕ). getD cs i 0) is ∙ rw count at (t .count);
         room = few;
         conflicts = marks ∙ ap (plainMarks e) (rw count at (t .sets));
-        unlimited =
-            told-none (any isLimited (setsOn (e .tsite) (e .tseq) (editsOf rs n))) (getD hs (limitAt (r .object)) 0)
-            (ap (λ (i : ℕ). getD hs (limitAt i) 0) is ∙ rw count at (t .limits)) none;
+        limited =
+            limits
+            ∙ told (any isLimited (setsOn (e .tsite) (e .tseq) (editsOf rs n))) (getD hs (limitAt (r .object)) 0)
+            (ap (λ (i : ℕ). getD hs (limitAt i) 0) is ∙ rw count at (t .limits));
       }
+
+-- ---- a record that is not limited, nor another Set of its object
+
+pub fit-of :
+    (sites n m : ℕ) (rs ps ns cs : List ℕ) (e : Edit) (r : Looked) → PassedOf sites n m rs ps ns cs e r →
+    isLimited e ≡ false → r .limited ≡ false → FitOf sites n m rs ps ns cs e r
+fit-of sites n m rs ps ns cs e r p plain none =
+    record {
+      plain = plain;
+      pass = p .pass;
+      create-room = p .create-room;
+      set =
+          λ k. let x = p .set k in
+          record {
+            object = x .object;
+            number = x .number;
+            count = x .count;
+            sets = x .sets;
+            room = x .room;
+            conflicts = x .conflicts;
+            unlimited = sym (x .limited) ∙ none;
+          };
+    }

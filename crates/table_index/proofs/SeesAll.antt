@@ -5,7 +5,7 @@ use mathlib.Core.List.{List}
 use Prim.Native.Nat.{ℕ}
 use Rattle.edit_record.specs.declared.Edit.{Edit}
 use Rattle.edit_walk.specs.WalkForms.{seesAll}
-use Rattle.edit_walk.proofs.AllSeen.{all-seen}
+use Rattle.edit_next.proofs.AllSeen.{all-seen}
 use Rattle.table_drawing.specs.declared.Counters.{Counters}
 use Rattle.table_index.specs.IndexForms.{Holds, Arriving, marksOn}
 use Rattle.table_index.proofs.ChainsOfSets.{marks-apart}

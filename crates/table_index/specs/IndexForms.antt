@@ -144,6 +144,24 @@ marksOn rs n q e = plainMarks e (map (recordAt rs) (placesOn rs n q))
 abbrev pub countersOf : ℕ → ℕ → ℕ → List ℕ → ℕ → Counters
 countersOf sites n m held sum = record { sites = sites; records = n; objects = m; held = held; sum = sum }
 
+-- what is found of a Set e after the first n records
+pub record MetOf (rs : List ℕ) (n : ℕ) (ps ns cs : List ℕ) (e : Edit) (r : Looked) : Type 0 where
+  pub object : r .object ≡ objectOf e (editsOf rs n)
+  pub number : r .object ≡ getD ns (placeOf ps (e .tsite .0) (e .tseq .0)) 0
+  pub count : r .sets ≡ getD cs (r .object) 0
+  pub sets : r .sets ≡ length (setsOn (e .tsite) (e .tseq) (editsOf rs n))
+  pub room : r .sets < mostSets
+  pub conflicts : r .conflicts ≡ plainMarks e (setsOn (e .tsite) (e .tseq) (editsOf rs n))
+  pub limited : r .limited ≡ any isLimited (setsOn (e .tsite) (e .tseq) (editsOf rs n))
+
+-- an edit e to which none of 1 to 6 is given, as far as it is looked at, after the first n records, of which m are
+-- Creates
+pub record PassedOf (sites n m : ℕ) (rs ps ns cs : List ℕ) (e : Edit) (r : Looked) : Type 0 where
+  pub pass : passes sites (editsOf rs n) e ≡ true
+  pub create-room : isCreate e ≡ true → m < mostObjects
+  pub set : isSet e ≡ true → MetOf rs n ps ns cs e r
+  pub no-other : r .limited ≡ true → isSet e ≡ true
+
 -- what is found of a Set e after the first n records, none of whose object's Sets is limited
 pub record FoundOf (rs : List ℕ) (n : ℕ) (ps ns cs : List ℕ) (e : Edit) (r : Looked) : Type 0 where
   pub object : r .object ≡ objectOf e (editsOf rs n)

@@ -29,7 +29,7 @@ ghost use Rattle.edit_history.specs.Answers2to5.{isTorn};
 ghost use Rattle.edit_history.specs.SurveyForms.{surveyOf, SurveyedOf};
 ghost use Rattle.edit_walk.specs.WalkForms.{placesLength, Spaced, SameStarts, countIn, Indexed, inTurnAgainst};
 ghost use Rattle.group_step.specs.GroupRows.{mostObjects, mostSets};
-ghost use Rattle.group_limited.specs.LimitedForms.{setsIn};
+ghost use Rattle.group_sight.specs.SightForms.{setsIn};
 ghost use Rattle.table_drawing.specs.declared.Counters.{Counters};
 ghost use Rattle.table_index.specs.IndexForms.{numberAt, chainsLength, IndexOf, Holds, matesOf};
 ghost use Rattle.table_index.specs.IndexForms.{linkedIn};
@@ -46,10 +46,12 @@ pub struct Aim {
     pub held: bool,
 }
 
-// Whether none of 1 to 6 is given to a record that is not limited, as far as it is looked at; and of a Set the number
-// of its object, how many Sets that has, and which of them conflict with it, bit i for the i-th.
+// Whether none of 1 to 6 is given to a record, as far as it is looked at; and of a Set whether a Set of its object is
+// limited, the number of its object, how many Sets that has, and which of them conflict with it by document 01's rule,
+// bit i for the i-th.
 pub struct Looked {
     pub ok: bool,
+    pub limited: bool,
     pub object: usize,
     pub sets: usize,
     pub conflicts: u64,
@@ -235,7 +237,7 @@ pub fn aim_of(c: Counters, recs: &[u8], places: &[u16], rec: &[u8]) -> Aim
         ≡ any (isTarget (decodeOf (now (rec .entry)))) (editsOf (now (recs .entry)) (c .records))) ⌝ }
 {
     let counts = c.held;
-    let torn = edit_walk::next::is_torn_next(&counts, recs, places, c.records as usize, rec);
+    let torn = edit_next::is_torn_next(&counts, recs, places, c.records as usize, rec);
     let held = edit_walk::is_target_held(&counts, recs, places, rec);
     Aim { torn, held }
 }

@@ -1,22 +1,20 @@
-// What a record that is not limited is asked, by the index, before it is taken: all of it in one look, where it is to
-// be taken, and else no more than that.
+// What a record is asked, by the index, before it is taken: all of it in one look, where it is to be taken, and else no
+// more than that.
 use super::Looked;
 use super::chain;
+use edit_next::whole;
 use edit_record::AT_KIND;
 use edit_record::AT_TARGET;
 use edit_record::AT_TARGET_SEQ;
 use edit_record::CREATE;
-use edit_record::LIMITED;
-use edit_record::SET;
 use edit_record::Seq;
 use edit_record::Site;
 use edit_record::byte_at;
-use edit_walk::whole;
 use group_step::OBJECTS;
 use group_step::SETS;
 use table_drawing::entries::at16;
 ghost use mathlib.Core.Path.{_≡_};
-ghost use mathlib.Core.Bool.{true};
+ghost use mathlib.Core.Bool.{true, false};
 ghost use Prim.Native.Nat.{_*_, _≤_};
 ghost use lib.ListN.{length, getD};
 ghost use Rattle.math_lists.specs.SortedLists.{any};
@@ -26,15 +24,16 @@ ghost use Rattle.edit_record.specs.Answer1.{isSet};
 ghost use Rattle.edit_history.specs.EditsHeld.{mostRecords, editsOf, isTarget};
 ghost use Rattle.edit_walk.specs.WalkForms.{inTurnAgainst, seesAll};
 ghost use Rattle.table_drawing.specs.declared.Counters.{Counters};
-ghost use Rattle.table_index.specs.IndexForms.{IndexOf, Holds, countersOf, FoundOf, FitOf};
+ghost use Rattle.table_index.specs.IndexForms.{IndexOf, Holds, countersOf, MetOf, PassedOf};
 ghost use Rattle.table_index.specs.IndexForms.{numberAt, ChainsOf, Arriving, marksOn};
 
 // What is found of a record that is no Set.
 fn no_set(ok: bool) -> Looked
-    ensures { λ r. ⌜ r .ok ≡ ok ⌝ }
+    ensures { λ r. ⌜ (r .ok ≡ ok) × (r .limited ≡ false) ⌝ }
 {
     Looked {
         ok,
+        limited: false,
         object: 0,
         sets: 0,
         conflicts: 0,
@@ -68,7 +67,7 @@ fn marks_unless(
     chain::marks_along(recs, n, numbers, chains, q, rec)
 }
 
-// What is found of a Set that is not limited and passes 1 to 5, where it is known of some that they have seen all of
+// What is found of a Set that passes 1 to 5, where it is known of some that they have seen all of
 // the first n records.
 fn look_at_set(
     all: bool,
@@ -88,7 +87,7 @@ fn look_at_set(
         × (recordLength ≤ length (now rec))
         × (isSet (decodeOf (now rec)) ≡ true)
         × (any (isTarget (decodeOf (now rec))) (editsOf (now recs) n) ≡ true) ⌝ }
-    ensures { λ r. ⌜ (r .ok ≡ true → FoundOf (now (recs .entry)) n (now (places .entry)) (now (numbers .entry))
+    ensures { λ r. ⌜ (r .ok ≡ true → MetOf (now (recs .entry)) n (now (places .entry)) (now (numbers .entry))
         (now (counts .entry)) (decodeOf (now (rec .entry))) r) ⌝ }
 {
     let seq = edit_record::pair_at(rec, AT_TARGET_SEQ);
@@ -96,12 +95,10 @@ fn look_at_set(
     let object = byte_at(numbers, q) as usize;
     let sets = at16(counts, object) as usize;
     let limits = byte_at(chains, chain::LIMITS + object);
-    if limits != 0 {
-        return no_set(false);
-    }
     let conflicts = marks_unless(all, recs, n, numbers, chains, q, rec);
     Looked {
         ok: sets < SETS,
+        limited: limits != 0,
         object,
         sets,
         conflicts,
@@ -126,18 +123,15 @@ pub fn look(
         × IndexOf (now recs) n (now places) (now numbers) (now counts) (now chains)
         × (recordLength ≤ length (now rec))
         × (length (now held) ≡ mostSites) ⌝ }
-    ensures { λ r. ⌜ (r .ok ≡ true → FitOf sites n m (now (recs .entry)) (now (places .entry)) (now (numbers .entry))
+    ensures { λ r. ⌜ (r .ok ≡ true → PassedOf sites n m (now (recs .entry)) (now (places .entry)) (now (numbers .entry))
         (now (counts .entry)) (decodeOf (now (rec .entry))) r) ⌝ }
 {
     let kind = rec[AT_KIND];
-    if kind == LIMITED {
-        return no_set(false);
-    }
     let all = whole::is_all_seen(held, recs, n, rec);
     if !whole::is_passing_with(all, sites, held, recs, places, n, rec) {
         return no_set(false);
     }
-    if kind == SET {
+    if edit_record::is_set_kind(kind) {
         return look_at_set(all, recs, n, places, numbers, counts, chains, rec);
     }
     no_set((kind != CREATE) | ((m as usize) < OBJECTS))

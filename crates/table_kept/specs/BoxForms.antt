@@ -11,7 +11,7 @@ use Rattle.edit_record.specs.declared.Edit.{Edit}
 use Rattle.edit_causal.specs.ConflictForms.{Proper}
 use Rattle.edit_history.specs.EditsHeld.{setsOn}
 use Rattle.group_step.specs.GroupRows.{mostSets}
-use Rattle.group_limited.specs.LimitedForms.{NamesOf}
+use Rattle.group_sight.specs.SightForms.{NamesOf}
 use Rattle.group_kept.specs.KeptForms.{rowsLength, RowsKept}
 
 abbrev pub boxSiteAt : ℕ

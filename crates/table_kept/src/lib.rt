@@ -11,16 +11,17 @@ use edit_record::LIMITED;
 use edit_record::Seq;
 use edit_record::Site;
 use group_limited::Judged;
-use group_limited::earlier::put_names;
+use group_sight::put_names;
 use group_step::SETS;
 ghost use mathlib.Core.Path.{_≡_};
 ghost use mathlib.Core.Bool.{true, _&&_, _||_, cond};
-ghost use mathlib.Core.List.{[], _∷_, _++_, map};
-ghost use Prim.Native.Nat.{_+_};
+ghost use mathlib.Core.List.{List, [], _∷_, _++_, map};
+ghost use Prim.Native.Nat.{ℕ, _+_};
 ghost use lib.Dec.{eqb, ltb};
 ghost use lib.ListN.{length, getD};
 ghost use Rattle.math_lists.specs.SortedLists.{any};
 ghost use Rattle.edit_record.specs.Layout.{setKind, limitedKind};
+ghost use Rattle.edit_record.specs.declared.Edit.{Edit};
 ghost use Rattle.edit_record.specs.RecordBytes.{decodeOf};
 ghost use Rattle.edit_history.specs.EditsHeld.{recordAt, editsOf, isTarget, setsOn};
 ghost use Rattle.edit_history.specs.SurveyForms.{SurveyedOf};
@@ -125,6 +126,15 @@ fn put_box(names: &mut [u32], rec: &[u8], k: u32)
     names[BOX_SITE] = edit_record::byte_at(rec, AT_TARGET) as u32;
     names[BOX_SEQ] = edit_record::two_at(rec, AT_TARGET_SEQ) as u32;
     names[COUNT] = k;
+}
+
+// Puts down that it is told of no Set.
+pub fn forget(names: &mut [u32])
+    requires { ⌜ length (now names) ≡ keptLength ⌝ }
+    ensures { λ r. ⌜ ((es : List Edit) (rows : List ℕ) → length rows ≡ rowsLength →
+        KeptFor es (now (names .exit)) rows) ⌝ }
+{
+    names[COUNT] = 0;
 }
 
 // What is judged, by the rows of its box, of a record whose target is held among the first n.

@@ -1,2 +1,4 @@
 pub mod IndexGoesAlong
+pub mod IndexAfter
 pub mod PlainGoes
+pub mod JudgedGoes

@@ -6,23 +6,25 @@ use mathlib.Core.Bool.{Bool, true, false}
 use mathlib.Core.List.{List, [], _∷_, _++_}
 use lib.Dec.{eqb}
 use lib.ListN.{length, getD, set, take, drop, replicate}
-use Rattle.math_lists.specs.SortedLists.{elem, Ascending}
+use Rattle.math_lists.specs.SortedLists.{any, elem, Ascending}
 use Rattle.math_maximal.specs.Step.{step}
 use Rattle.edit_record.specs.declared.Edit.{Edit}
-use Rattle.edit_record.specs.Layout.{mostSites, keys, recordLength, setKind}
-use Rattle.edit_record.specs.Answer1.{isCreate, isLimited}
-use Rattle.edit_record.specs.RecordBytes.{decodeOf}
-use Rattle.edit_history.specs.EditsHeld.{mostRecords, countFrom}
-use Rattle.edit_walk.specs.WalkForms.{Spaced, SameStarts, slotOf}
+use Rattle.edit_record.specs.Layout.{mostSites, keys, setKind}
+use Rattle.edit_record.specs.Answer1.{isCreate}
+use Rattle.edit_record.specs.RecordBytes.{decodeOf, spanOf}
+use Rattle.edit_history.specs.EditsHeld.{mostRecords, countFrom, isTarget, objectOf}
+use Rattle.edit_history.specs.declared.Surveyed.{Surveyed}
+use Rattle.edit_walk.specs.WalkForms.{Spaced, SameStarts, slotOf, placeOf}
 use Rattle.group_step.specs.GroupRows.{mostObjects, mostSets, mostGroups, row, putRow, settled}
 use Rattle.group_step.specs.StepForms.{Apart}
-use Rattle.table_drawing.specs.Tables.{Tables, heldBy, groupsAt, recordsLength, objectsLength, groupsLength}
+use Rattle.group_limited.specs.declared.Judged.{Judged}
+use Rattle.table_drawing.specs.Tables.{Tables, heldBy, groupsAt, objectsLength, groupsLength}
 use Rattle.table_drawing.specs.AnswerNumbers.{outcomeOf}
 use Rattle.table_soundness.specs.Sound.{sound}
 use Rattle.table_index.specs.IndexForms.{IndexOf, chainsLength, linkedIn}
 use Rattle.table_index.specs.declared.Looked.{Looked}
 use Rattle.table_arrival.specs.Arrival.{putCounts, putEntry, acceptanceOf}
-use Rattle.table_arrival.specs.ArrivalForms.{RowsApart}
+use Rattle.table_arrival.specs.ArrivalForms.{RowsApart, Ready}
 
 -- what taking the record b asks of the tables t and of the index of their records, which has room for it
 pub record Takes (t : Tables) (ps ns cs hs b : List ℕ) : Type 0 where
@@ -38,21 +40,17 @@ pub record Leaves (t : Tables) (b : List ℕ) (a : ℕ) (u : Tables) (before ps 
   pub index : a ≡ 0 → IndexOf (u .records) (u .counters .records) ps ns cs hs
   pub starts : a ≡ 0 → SameStarts before ps
 
--- ---- the short way of a record that is not limited
+-- ---- the short way
 
--- what it asks of the tables t, of the index of their records and of the record b, if that is not limited
-pub record TakesPlain (t : Tables) (ps ns cs hs b : List ℕ) : Type 0 where
-  pub isSound : sound t ≡ true
-  pub wide : length (t .counters .held) ≡ mostSites
-  pub index : IndexOf (t .records) (t .counters .records) ps ns cs hs
-  pub apart : RowsApart t
+-- what it asks of the tables t, of the index of their records and of the record b
+pub record TakesShort (t : Tables) (ps ns cs hs b : List ℕ) : Type 0 where
+  pub takes : Takes t ps ns cs hs b
   pub few : t .counters .records < mostRecords
-  pub room : isLimited (decodeOf b) ≡ false → Spaced (λ s. countFrom s (heldBy t ++ (decodeOf b ∷ []))) ps
+  pub whole : length b ≡ spanOf b
 
 -- what it leaves, where it took the record; else all is as it was
-pub record LeavesPlain (t : Tables) (b : List ℕ) (ok : Bool) (u : Tables) (ps ns cs hs ps′ ns′ cs′ hs′ : List ℕ) :
+pub record LeavesShort (t : Tables) (b : List ℕ) (ok : Bool) (u : Tables) (ps ns cs hs ps′ ns′ cs′ hs′ : List ℕ) :
     Type 0 where
-  pub plain : ok ≡ true → isLimited (decodeOf b) ≡ false
   pub taken : ok ≡ true → Leaves t b 0 u ps ps′ ns′ cs′ hs′
   pub tables : ok ≡ false → u ≡ t
   pub index : ok ≡ false → (ps′ ≡ ps) × (ns′ ≡ ns) × (cs′ ≡ cs) × (hs′ ≡ hs)
@@ -61,10 +59,9 @@ pub record LeavesPlain (t : Tables) (b : List ℕ) (ok : Bool) (u : Tables) (ps 
 abbrev pub spotOf : List ℕ → List ℕ → ℕ
 spotOf ps b = slotOf ps (decodeOf b .site .0) (decodeOf b .seq .0)
 
--- what putting the record b into place n asks of the counts, the records and the index
-pub record Enters (held rs : List ℕ) (n : ℕ) (ps b : List ℕ) : Type 0 where
+-- what counting the record b, which has place n, and putting its place into the index asks of the counts and of that
+pub record Enters (held : List ℕ) (n : ℕ) (ps b : List ℕ) : Type 0 where
   pub room : n < mostRecords
-  pub records-long : length rs ≡ recordsLength
   pub site : decodeOf b .site .0 < length held
   pub count : getD held (decodeOf b .site .0) 0 < mostRecords
   pub spot : spotOf ps b < length ps
@@ -100,16 +97,16 @@ rowsBy os gs r = putRow (r .object) gs (settled (steppedBy os gs r) (row (r .obj
 -- what storing it leaves: where there is room for the groups its object's entry, its number and the chain of its key go
 -- along, and where there is none all is as it was
 abbrev pub SetStored :
-    ℕ → ℕ → Looked → Bool → List ℕ → List ℕ → List ℕ → List ℕ → List ℕ → List ℕ → List ℕ → List ℕ → List ℕ → List ℕ →
-    Type 0
-SetStored n key r ok os gs ns cs hs os′ gs′ ns′ cs′ hs′ =
+    ℕ → ℕ → ℕ → Looked → Bool → List ℕ → List ℕ → List ℕ → List ℕ → List ℕ → List ℕ → List ℕ → List ℕ → List ℕ →
+    List ℕ → Type 0
+SetStored n kind key r ok os gs ns cs hs os′ gs′ ns′ cs′ hs′ =
     (gs′ ≡ rowsBy os gs r)
     × (ok ≡ true →
     (length (steppedBy os gs r) ≤ mostGroups)
     × (os′ ≡ putCounts os (r .object) (r .sets + 1) (length (steppedBy os gs r)))
     × (ns′ ≡ set ns n (getD cs (r .object) 0))
     × (cs′ ≡ set cs (r .object) (getD cs (r .object) 0 + 1))
-    × (hs′ ≡ linkedIn hs n (r .object) setKind key))
+    × (hs′ ≡ linkedIn hs n (r .object) kind key))
     × (ok ≡ false →
     (mostGroups < length (steppedBy os gs r)) × (os′ ≡ os) × (ns′ ≡ ns) × (cs′ ≡ cs) × (hs′ ≡ hs))
 
@@ -125,11 +122,22 @@ pub record StoresBeside (m : ℕ) (os gs ns cs hs : List ℕ) (e : Edit) (r : Lo
 -- and leaves, where the record has place n
 pub record StoredBeside (n m : ℕ) (e : Edit) (r : Looked) (ok : Bool) (os gs ns cs hs os′ gs′ ns′ cs′ hs′ : List ℕ) :
     Type 0 where
-  pub of-set : eqb (e .kind) setKind ≡ true → SetStored n (e .key) r ok os gs ns cs hs os′ gs′ ns′ cs′ hs′
+  pub of-set : eqb (e .kind) setKind ≡ true → SetStored n setKind (e .key) r ok os gs ns cs hs os′ gs′
+      ns′ cs′ hs′
   pub no-set : eqb (e .kind) setKind ≡ false → (ok ≡ true) × (gs′ ≡ gs) × (cs′ ≡ cs) × (hs′ ≡ hs)
   pub of-create : isCreate e ≡ true → (os′ ≡ putEntry os m n 0 1) × (ns′ ≡ set ns n m)
   pub of-layer : isCreate e ≡ false → eqb (e .kind) setKind ≡ false → (os′ ≡ os) × (ns′ ≡ ns)
 
--- the record b stands in s too, maybe with more behind it, unless it is limited
-abbrev pub StandsAs : List ℕ → List ℕ → Type 0
-StandsAs s b = (recordLength ≤ length s) × (isLimited (decodeOf s) ≡ false → decodeOf s ≡ decodeOf b)
+-- ---- a Set that was judged
+
+-- what was found of the Set b and judged of it, in r: the number of its object is the index's too
+pub record JudgedBy (t : Tables) (ps ns cs b : List ℕ) (r : Looked) : Type 0 where
+  pub survey : Surveyed
+  pub judged : Judged
+  pub ready : Ready t b survey judged true
+  pub surveyed : (r .object ≡ survey .object) × (r .sets ≡ survey .sets)
+  pub conflicts : r .conflicts ≡ judged .conflicts
+  pub held : any (isTarget (decodeOf b)) (heldBy t) ≡ true
+  pub own : r .object ≡ objectOf (decodeOf b) (heldBy t)
+  pub number : r .object ≡ getD ns (placeOf ps (decodeOf b .tsite .0) (decodeOf b .tseq .0)) 0
+  pub count : r .sets ≡ getD cs (r .object) 0

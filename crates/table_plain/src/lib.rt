@@ -1,5 +1,5 @@
-// The short way of a record that is not limited: what is asked of it is asked in one look, and what it changes is
-// written where it stands. A record that it does not take goes the long way, which says why.
+// The short way of a record: what was found of it in one look is all that is asked, and what it changes is written
+// where it stands. A record that it does not take goes the long way, which says why.
 use edit_record::AT_KEY;
 use edit_record::AT_KIND;
 use edit_record::AT_SEQ;
@@ -12,7 +12,6 @@ use edit_record::Site;
 use group_step::GROUPS;
 use table_drawing::ENTRY;
 use table_index::Looked;
-use table_index::plain::look;
 ghost use mathlib.Core.Path.{_≡_};
 ghost use mathlib.Core.Bool.{true, false, cond};
 ghost use Prim.Native.Nat.{ℕ, _+_, _-_, _*_, _^_, _≤_, _<_};
@@ -28,10 +27,10 @@ ghost use Rattle.edit_sum.specs.WordSum.{wrapped, recordWords, sumOf};
 ghost use Rattle.group_step.specs.GroupRows.{mostObjects, mostSets, mostGroups, row, putRow, settled};
 ghost use Rattle.group_step.specs.StepForms.{Apart};
 ghost use Rattle.table_drawing.specs.Tables.{tablesOf, objectsLength};
-ghost use Rattle.table_index.specs.IndexForms.{countersOf};
-ghost use Rattle.table_arrival.specs.Arrival.{putRecord, putEntry};
-ghost use Rattle.table_plain.specs.TakingForms.{TakesPlain, LeavesPlain, spotOf, Enters, Steps, SetStored};
-ghost use Rattle.table_plain.specs.TakingForms.{StoresBeside, StoredBeside, StandsAs};
+ghost use Rattle.table_index.specs.IndexForms.{countersOf, FitOf};
+ghost use Rattle.table_arrival.specs.Arrival.{putEntry};
+ghost use Rattle.table_plain.specs.TakingForms.{TakesShort, LeavesShort, spotOf, Enters, Steps, SetStored};
+ghost use Rattle.table_plain.specs.TakingForms.{StoresBeside, StoredBeside, JudgedBy};
 
 // Whether a record was taken, how many objects there are then, and the sum.
 pub struct Took {
@@ -40,20 +39,33 @@ pub struct Took {
     pub sum: u32,
 }
 
-// Puts the record into place n, counts it, and puts its place into the index.
-fn enter(held: &mut [u16], records: &mut [u8], n: usize, places: &mut [u16], rec: [u8; RECORD])
-    requires { ⌜ Enters (now held) (now records) n (now places) rec ⌝ }
-    ensures { λ r. ⌜ (now (held .exit) ≡ bump (now (held .entry)) (decodeOf rec .site))
-        × (now (records .exit) ≡ putRecord (now (records .entry)) n rec)
-        × (now (places .exit) ≡ set (now (places .entry)) (spotOf (now (places .entry)) rec) n) ⌝ }
+// Counts the record rec, which has place n, and puts its place into the index.
+pub fn enter(held: &mut [u16], n: usize, places: &mut [u16], rec: &[u8])
+    requires { ⌜ (recordLength ≤ length (now rec)) × Enters (now held) n (now places) (now rec) ⌝ }
+    ensures { λ r. ⌜ (now (held .exit) ≡ bump (now (held .entry)) (decodeOf (now (rec .entry)) .site))
+        × (now (places .exit)
+        ≡ set (now (places .entry)) (spotOf (now (places .entry)) (now (rec .entry))) n) ⌝ }
 {
     let s = rec[AT_SITE];
-    let q = edit_record::pair_at(&rec, AT_SEQ);
+    let q = edit_record::pair_at(rec, AT_SEQ);
     let own = s as usize;
     held[own] = held[own] + 1;
     let at = edit_walk::slot_of(places, Site(s), Seq(q));
     places[at] = n as u16;
-    table_arrival::put_plain(records, n, rec);
+}
+
+// The bytes of a plain record. A copy is read slowly right after it was made: so this one is made last of all.
+fn whole_of(rec: &[u8]) -> [u8; RECORD]
+    requires { ⌜ length (now rec) ≡ recordLength ⌝ }
+    ensures { λ r. ⌜ r ≡ now (rec .entry) ⌝ }
+{
+    let mut whole = [0u8; RECORD];
+    let mut i: usize = 0;
+    while i < RECORD {
+        whole[i] = rec[i];
+        i += 1;
+    }
+    whole
 }
 
 // Puts the entry of a new object m, whose Create has place n, and its number into the index.
@@ -85,27 +97,28 @@ fn step_in(groups: &mut [u64], o: usize, n: usize, m: u64, k: usize) -> usize
         (settled (step m k (take n (row o (now (groups .entry))))) (row o (now (groups .entry))))) ⌝ }
 {
     if m == 0 {
-        group_step::gain_at(groups, o, n, k);
+        group_apart::gain_at(groups, o, n, k);
         return n;
     }
-    group_step::step_apart_at(groups, o, n, m, k)
+    group_apart::step_apart_at(groups, o, n, m, k)
 }
 
 // Puts a Set in place n of which a was found into its object's groups, entry and chain; says whether there is room for
 // the groups. Where there is none, nothing is changed.
-fn store_set(
+pub fn store_set(
     n: usize,
     objects: &mut [u16],
     groups: &mut [u64],
     numbers: &mut [u8],
     counts: &mut [u16],
     chains: &mut [u8],
+    kind: u8,
     key: u8,
     a: Looked,
 ) -> bool
     requires { ⌜ (n < mostRecords)
         × Steps (now objects) (now groups) (now numbers) (now counts) (now chains) key a ⌝ }
-    ensures { λ r. ⌜ SetStored n key a r
+    ensures { λ r. ⌜ SetStored n kind key a r
         (now (objects .entry)) (now (groups .entry)) (now (numbers .entry)) (now (counts .entry)) (now (chains .entry))
         (now (objects .exit)) (now (groups .exit)) (now (numbers .exit)) (now (counts .exit)) (now (chains .exit)) ⌝ }
 {
@@ -117,7 +130,7 @@ fn store_set(
         return false;
     }
     table_arrival::put_counts(objects, o, k as u16 + 1, w as u16);
-    table_index::add_set(n, o, SET, key, numbers, counts, chains);
+    table_index::add_set(n, o, kind, key, numbers, counts, chains);
     true
 }
 
@@ -132,19 +145,20 @@ fn store(
     numbers: &mut [u8],
     counts: &mut [u16],
     chains: &mut [u8],
-    rec: [u8; RECORD],
+    rec: &[u8],
     a: Looked,
 ) -> bool
     requires { ⌜ (n < mostRecords)
-        × StoresBeside m (now objects) (now groups) (now numbers) (now counts) (now chains) (decodeOf rec) a ⌝ }
-    ensures { λ r. ⌜ StoredBeside n m (decodeOf rec) a r
+        × (recordLength ≤ length (now rec))
+        × StoresBeside m (now objects) (now groups) (now numbers) (now counts) (now chains) (decodeOf (now rec)) a ⌝ }
+    ensures { λ r. ⌜ StoredBeside n m (decodeOf (now (rec .entry))) a r
         (now (objects .entry)) (now (groups .entry)) (now (numbers .entry)) (now (counts .entry)) (now (chains .entry))
         (now (objects .exit)) (now (groups .exit)) (now (numbers .exit)) (now (counts .exit)) (now (chains .exit)) ⌝ }
 {
     let kind = rec[AT_KIND];
     if kind == SET {
         let key = rec[AT_KEY];
-        return store_set(n, objects, groups, numbers, counts, chains, key, a);
+        return store_set(n, objects, groups, numbers, counts, chains, SET, key, a);
     }
     if kind == CREATE {
         put_create(n, m, objects, numbers);
@@ -153,7 +167,7 @@ fn store(
 }
 
 // What is said of a record that is not taken: there are as many objects as before, and the sum is as it was.
-fn not_taken(m: u16, sum: u32) -> Took
+pub fn not_taken(m: u16, sum: u32) -> Took
     ensures { λ r. ⌜ (r .ok ≡ false) × (r .objects ≡ m) × (r .sum ≡ sum) ⌝ }
 {
     Took {
@@ -164,13 +178,15 @@ fn not_taken(m: u16, sum: u32) -> Took
 }
 
 // And of one that is.
-fn taken(m: u16, sum: u32, rec: [u8; RECORD]) -> Took
-    requires { ⌜ (spanOf rec ≡ recordLength) × (isCreate (decodeOf rec) ≡ true → m < mostObjects) ⌝ }
+fn taken(m: u16, sum: u32, rec: &[u8]) -> Took
+    requires { ⌜ (length (now rec) ≡ recordLength)
+        × (spanOf (now rec) ≡ recordLength)
+        × (isCreate (decodeOf (now rec)) ≡ true → m < mostObjects) ⌝ }
     ensures { λ r. ⌜ (r .ok ≡ true)
-        × (r .objects ≡ m + cond (isCreate (decodeOf rec)) 1 0)
-        × (r .sum ≡ wrapped (sum + sumOf (recordWords rec) rec)) ⌝ }
+        × (r .objects ≡ m + cond (isCreate (decodeOf (now (rec .entry)))) 1 0)
+        × (r .sum ≡ wrapped (sum + sumOf (recordWords (now (rec .entry))) (now (rec .entry)))) ⌝ }
 {
-    let after = edit_sum::added(sum, edit_sum::sum_record(&rec));
+    let after = edit_sum::added(sum, edit_sum::sum_record(rec));
     if rec[AT_KIND] == CREATE {
         return Took {
             ok: true,
@@ -185,9 +201,9 @@ fn taken(m: u16, sum: u32, rec: [u8; RECORD]) -> Took
     }
 }
 
-// Takes a record, unless it is limited, it or another Set of its object, or is refused: then nothing is changed. There
-// are n records, m objects and so many edits of each site, and this sum; the index has room for the record. What is
-// asked of it is read where it stands, and it is stored from a copy.
+// Takes a record of which a was found, and which is not limited, nor another Set of its object, unless there is no room
+// for the groups of its object: then nothing is changed. There are n records, m objects and so many edits of each site,
+// and this sum; the index has room for the record. It is read where it stands, and stored from a copy.
 pub fn take_plain(
     sites: u8,
     n: usize,
@@ -201,40 +217,73 @@ pub fn take_plain(
     numbers: &mut [u8],
     counts: &mut [u16],
     chains: &mut [u8],
-    rec: [u8; RECORD],
-    stands: &[u8],
+    rec: &[u8],
+    a: Looked,
 ) -> Took
-    requires { ⌜ TakesPlain
+    requires { ⌜ TakesShort
         (tablesOf (countersOf sites n m (now held) sum) (now records) (now objects) (now groups))
-        (now places) (now numbers) (now counts) (now chains) rec
-        × StandsAs (now stands) rec ⌝ }
-    ensures { λ r. ⌜ LeavesPlain
+        (now places) (now numbers) (now counts) (now chains) (now rec)
+        × FitOf sites n m (now records) (now places) (now numbers) (now counts) (decodeOf (now rec)) a ⌝ }
+    ensures { λ r. ⌜ LeavesShort
         (tablesOf (countersOf sites n m (now (held .entry)) sum) (now (records .entry)) (now (objects .entry))
         (now (groups .entry)))
-        rec (r .ok)
+        (now (rec .entry)) (r .ok)
         (tablesOf (countersOf sites (n + cond (r .ok) 1 0) (r .objects) (now (held .exit)) (r .sum))
         (now (records .exit)) (now (objects .exit)) (now (groups .exit)))
         (now (places .entry)) (now (numbers .entry)) (now (counts .entry)) (now (chains .entry))
         (now (places .exit)) (now (numbers .exit)) (now (counts .exit)) (now (chains .exit)) ⌝ }
 {
-    let a = look(
-        sites,
-        held,
-        records,
-        n,
-        m,
-        places,
-        numbers,
-        counts,
-        chains,
-        stands,
-    );
-    if !a.ok {
-        return not_taken(m, sum);
-    }
     if !store(n, m, objects, groups, numbers, counts, chains, rec, a) {
         return not_taken(m, sum);
     }
-    enter(held, records, n, places, rec);
+    enter(held, n, places, rec);
+    let whole = whole_of(rec);
+    table_arrival::put_plain(records, n, whole);
     taken(m, sum, rec)
+}
+
+// Takes a Set of which a was found, with those of its object's Sets that were judged to conflict with it, unless there
+// is no room for the groups of its object: then nothing is changed.
+pub fn take_judged(
+    sites: u8,
+    n: usize,
+    m: u16,
+    sum: u32,
+    held: &mut [u16],
+    records: &mut [u8],
+    objects: &mut [u16],
+    groups: &mut [u64],
+    places: &mut [u16],
+    numbers: &mut [u8],
+    counts: &mut [u16],
+    chains: &mut [u8],
+    rec: &[u8],
+    a: Looked,
+) -> Took
+    requires { ⌜ TakesShort
+        (tablesOf (countersOf sites n m (now held) sum) (now records) (now objects) (now groups))
+        (now places) (now numbers) (now counts) (now chains) (now rec)
+        × JudgedBy (tablesOf (countersOf sites n m (now held) sum) (now records) (now objects) (now groups))
+        (now places) (now numbers) (now counts) (now rec) a ⌝ }
+    ensures { λ r. ⌜ LeavesShort
+        (tablesOf (countersOf sites n m (now (held .entry)) sum) (now (records .entry)) (now (objects .entry))
+        (now (groups .entry)))
+        (now (rec .entry)) (r .ok)
+        (tablesOf (countersOf sites (n + cond (r .ok) 1 0) (r .objects) (now (held .exit)) (r .sum))
+        (now (records .exit)) (now (objects .exit)) (now (groups .exit)))
+        (now (places .entry)) (now (numbers .entry)) (now (counts .entry)) (now (chains .entry))
+        (now (places .exit)) (now (numbers .exit)) (now (counts .exit)) (now (chains .exit)) ⌝ }
+{
+    let kind = rec[AT_KIND];
+    let key = rec[AT_KEY];
+    if !store_set(n, objects, groups, numbers, counts, chains, kind, key, a) {
+        return not_taken(m, sum);
+    }
+    enter(held, n, places, rec);
+    table_arrival::put_record(records, n, rec);
+    Took {
+        ok: true,
+        objects: m,
+        sum: edit_sum::added(sum, edit_sum::sum_record(rec)),
+    }
 }

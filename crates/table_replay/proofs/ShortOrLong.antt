@@ -14,8 +14,7 @@ use Rattle.table_index.specs.IndexForms.{countersOf}
 use Rattle.table_arrival.specs.Arrival.{acceptanceOf}
 use Rattle.table_arrival.proofs.Admitted.{was-taken, taken-records}
 use Rattle.table_kept.specs.BoxForms.{KeptFor}
-use Rattle.table_kept.proofs.KeptAlong.{kept-more}
-use Rattle.table_plain.specs.TakingForms.{Takes, Leaves, LeavesPlain}
+use Rattle.table_plain.specs.TakingForms.{Takes, Leaves, LeavesShort}
 use Rattle.table_given.specs.Replay.{editsIn}
 use Rattle.table_given.proofs.ReplayGoes.{Going, going-on}
 
@@ -27,7 +26,7 @@ module _
     (m sum : ℕ)
     (held rs os gs ps′ ns′ cs′ hs′ : List ℕ)
     (l :
-    LeavesPlain t b ok (tablesOf (countersOf sites (i + cond ok 1 0) m held sum) rs os gs) ps ns cs hs ps′ ns′ cs′
+    LeavesShort t b ok (tablesOf (countersOf sites (i + cond ok 1 0) m held sum) rs os gs) ps ns cs hs ps′ ns′ cs′
     hs′) where
   pub short-took : ok ≡ true → Leaves t b 0 (tablesOf (countersOf sites (i + 1) m held sum) rs os gs) ps ps′ ns′ cs′ hs′
   short-took z =
@@ -82,15 +81,7 @@ parts-after t u b ok =
     (ap (λ (x : Tables). x .counters .sites) is ∙ sites-are)
     (ap (λ (x : Tables). x .counters .records) is ∙ count)
 
--- what is kept of a box is right after one record more, which it does not tell of
-pub kept-next :
-    (rs : ℕ → List ℕ) (i : ℕ) (ns rows : List ℕ) → KeptFor (editsIn rs i) ns rows → KeptFor (editsIn rs (i + 1)) ns rows
-unfolding editsIn
-kept-next rs i ns rows h =
-    subst (λ (k : ℕ). KeptFor (editsIn rs k) ns rows) (sym (add-one i))
-    (kept-more (editsIn rs i) (decodeOf (rs i)) ns rows h)
-
--- or which it tells of
+-- what is kept of a box is right after one record more
 pub kept-after :
     (rs : ℕ → List ℕ) (i : ℕ) (ns rows : List ℕ) (es : List Edit) (e : Edit) → es ≡ editsIn rs i → e ≡ decodeOf (rs i) →
     KeptFor (es ++ (e ∷ [])) ns rows → KeptFor (editsIn rs (i + 1)) ns rows

@@ -1,25 +1,21 @@
 // Records taken one after another from an empty drawing.
-use edit_form::OLD;
 use edit_history::RECORDS;
 use edit_record::SITES;
 use edit_walk::PLACES;
 use group_kept::ROWS;
 use group_step::OBJECTS;
-use table_arrival::Arrived;
-use table_arrival::asked;
 use table_drawing::Answer;
 use table_drawing::Counters;
 use table_index::chain::CHAINS;
 use table_kept::NAMES;
 ghost use mathlib.Core.Path.{_≡_};
 ghost use mathlib.Core.Bool.{true};
-ghost use mathlib.Core.List.{[], _∷_, _++_};
+ghost use mathlib.Core.List.{[]};
 ghost use Prim.Native.Nat.{_≤_};
 ghost use lib.ListN.{length, replicate};
 ghost use Rattle.edit_record.specs.Layout.{mostSites};
-ghost use Rattle.edit_record.specs.RecordBytes.{decodeOf};
-ghost use Rattle.edit_form.specs.OldForm.{lengthFrom, longFrom, startOf, storedIn};
-ghost use Rattle.edit_history.specs.EditsHeld.{mostRecords, editsOf, countFrom};
+ghost use Rattle.edit_form.specs.OldForm.{startOf, storedIn};
+ghost use Rattle.edit_history.specs.EditsHeld.{mostRecords, countFrom};
 ghost use Rattle.edit_history.specs.SurveyForms.{Counted};
 ghost use Rattle.edit_walk.specs.WalkForms.{Spaced};
 ghost use Rattle.table_drawing.specs.Tables.{tablesOf, emptyDrawing, lengthsRight, sitesRight};
@@ -27,133 +23,12 @@ ghost use Rattle.table_drawing.specs.AnswerNumbers.{numberOf};
 ghost use Rattle.table_index.specs.IndexForms.{IndexOf, countersOf};
 ghost use Rattle.table_given.specs.Replay.{replayed, replayOf, editsIn};
 ghost use Rattle.table_kept.specs.BoxForms.{KeptFor};
-ghost use Rattle.table_plain.specs.TakingForms.{Takes, Leaves};
 
 // The answer to the first refused record and its index, or 0 and 0; and the counters after the records before it.
 pub struct Taken {
     pub answer: Answer,
     pub index: usize,
     pub counters: Counters,
-}
-
-// Takes one record at tables that are sound, by the index of their records and by what is kept of a box with a limited
-// Set, and puts it into the index if it is taken. The index has room for it.
-fn take_next(
-    c: Counters,
-    records: &mut [u8],
-    objects: &mut [u16],
-    groups: &mut [u64],
-    places: &mut [u16],
-    numbers: &mut [u8],
-    counts: &mut [u16],
-    chains: &mut [u8],
-    rows: &mut [u64],
-    names: &mut [u32],
-    rec: &[u8],
-) -> Arrived
-    requires { ⌜ Takes (tablesOf c (now records) (now objects) (now groups)) (now places) (now numbers) (now counts)
-        (now chains) (now rec)
-        × KeptFor (editsOf (now records) (c .records)) (now names) (now rows) ⌝ }
-    ensures { λ r. ⌜ Leaves (tablesOf c (now (records .entry)) (now (objects .entry)) (now (groups .entry)))
-        (now (rec .entry)) (numberOf (r .answer))
-        (tablesOf (r .counters) (now (records .exit)) (now (objects .exit)) (now (groups .exit)))
-        (now (places .entry)) (now (places .exit)) (now (numbers .exit)) (now (counts .exit)) (now (chains .exit))
-        × KeptFor (editsOf (now (records .entry)) (c .records) ++ (decodeOf (now (rec .entry)) ∷ []))
-        (now (names .exit)) (now (rows .exit)) ⌝ }
-{
-    let early = asked::one_to_three(c, rec);
-    if table_drawing::number(early) != 0 {
-        return Arrived {
-            answer: early,
-            counters: c,
-        };
-    }
-    let v = table_index::survey(c, records, places, numbers, counts, chains, rec);
-    let j = table_kept::judge(
-        rows,
-        names,
-        records,
-        c.records as usize,
-        places,
-        numbers,
-        chains,
-        rec,
-        v,
-    );
-    let a = table_arrival::accept(c, records, objects, groups, rec, v, j, true);
-    let answer = a.answer;
-    if table_drawing::number(answer) == 0 {
-        table_index::add(
-            records,
-            c.records as usize,
-            c.objects,
-            places,
-            numbers,
-            counts,
-            chains,
-        );
-    }
-    a
-}
-
-// Takes the record at the front of what is left of a stretch in a form: an old one as a long one, a long one where it
-// stands.
-fn take_one(
-    c: Counters,
-    records: &mut [u8],
-    objects: &mut [u16],
-    groups: &mut [u64],
-    places: &mut [u16],
-    numbers: &mut [u8],
-    counts: &mut [u16],
-    chains: &mut [u8],
-    rows: &mut [u64],
-    names: &mut [u32],
-    rest: &[u8],
-    form: u8,
-) -> Arrived
-    requires { ⌜ Takes (tablesOf c (now records) (now objects) (now groups)) (now places) (now numbers) (now counts)
-        (now chains) (longFrom form (now rest))
-        × (lengthFrom form (now rest) ≤ length (now rest))
-        × KeptFor (editsOf (now records) (c .records)) (now names) (now rows) ⌝ }
-    ensures { λ r. ⌜ Leaves (tablesOf c (now (records .entry)) (now (objects .entry)) (now (groups .entry)))
-        (longFrom form (now (rest .entry))) (numberOf (r .answer))
-        (tablesOf (r .counters) (now (records .exit)) (now (objects .exit)) (now (groups .exit)))
-        (now (places .entry)) (now (places .exit)) (now (numbers .exit)) (now (counts .exit)) (now (chains .exit))
-        × KeptFor (editsOf (now (records .entry)) (c .records) ++ (decodeOf (longFrom form (now (rest .entry))) ∷ []))
-        (now (names .exit)) (now (rows .exit)) ⌝ }
-{
-    if form == OLD {
-        let wide = edit_form::widened_from(rest);
-        return take_next(
-            c,
-            records,
-            objects,
-            groups,
-            places,
-            numbers,
-            counts,
-            chains,
-            rows,
-            names,
-            &wide,
-        );
-    }
-    let used = edit_form::length_from(rest, form);
-    let rec = &rest[..used];
-    take_next(
-        c,
-        records,
-        objects,
-        groups,
-        places,
-        numbers,
-        counts,
-        chains,
-        rows,
-        names,
-        rec,
-    )
 }
 
 // How many of the first n records of a stretch name each site.
@@ -176,9 +51,8 @@ fn count_stretch(recs: &[u8], form: u8, n: usize) -> [u16; SITES]
     counts
 }
 
-// Takes the first n records of a stretch, one after another, into an empty drawing: the part of the stretch from each
-// record on is handed to its decoder. Each goes the short way if it can, else the long one. The index has room for all
-// of them.
+// Takes the first n records of a stretch, one after another, into an empty drawing: an old one as a long one, a long
+// one where it stands. Each goes the short way if it can, else the long one. The index has room for all of them.
 fn take_records(
     sites: u8,
     records: &mut [u8],
@@ -213,11 +87,11 @@ fn take_records(
     let mut i: usize = 0;
     while i < n {
         let rest = &recs[at..];
-        at = at + edit_form::length_from(rest, form);
-        let front = edit_form::front_from(rest, form);
-        let stored = front;
-        let stands = edit_form::long_in(rest, form, &front);
-        let t = table_plain::take_plain(
+        let used = edit_form::length_from(rest, form);
+        at = at + used;
+        let wide = edit_form::widened_if(rest, form);
+        let rec = edit_form::long_in(rest, form, used, &wide);
+        let t = table_next::short::take_short(
             sites,
             i,
             m,
@@ -230,8 +104,9 @@ fn take_records(
             numbers,
             counts,
             chains,
-            stored,
-            stands,
+            rows,
+            names,
+            rec,
         );
         m = t.objects;
         sum = t.sum;
@@ -246,7 +121,7 @@ fn take_records(
             held,
             sum,
         };
-        let a = take_one(
+        let a = table_next::take_next(
             c,
             records,
             objects,
@@ -257,8 +132,7 @@ fn take_records(
             chains,
             rows,
             names,
-            rest,
-            form,
+            rec,
         );
         let next = a.counters;
         let answer = a.answer;

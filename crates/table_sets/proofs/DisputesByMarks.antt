@@ -7,7 +7,7 @@ use mathlib.Core.Logic.{inl, inr}
 use Prim.Native.Nat.{ℕ, _+_, _^_, _≤_, _<_}
 use native.Mathlib.Numerals.{add-one}
 use native.Mathlib.Omega.{arith}
-use native.Mathlib.Decide.{ℕ-discrete}
+use native.Mathlib.Decide.{decLt, ℕ-discrete}
 use lib.Bits.{bitOr}
 use lib.Dec.{eqb}
 use lib.ListN.{length, getD}
@@ -27,8 +27,8 @@ use Rattle.edit_causal.proofs.CausalLaws.{conflict-symmetric, conflict-irreflex
 use Rattle.edit_history.specs.EditsHeld.{recordAt}
 use Rattle.edit_history.proofs.EditsInPlaces.{sets-length, set-place}
 use Rattle.group_true.specs.Disputed.{isDisputed}
-use Rattle.group_limited.specs.LimitedForms.{setsIn}
-use Rattle.group_limited.proofs.OneMoreTaken.{any-more}
+use Rattle.group_sight.specs.SightForms.{setsIn}
+use Rattle.group_sight.proofs.OneMoreTaken.{any-more}
 use Rattle.table_index.proofs.MarksInPlaces.{marks-below}
 use Rattle.table_sets.specs.KeyForms.{setAt, DisputedBy}
 use Rattle.table_sets.proofs.MarksByKey.{mask-skips}
@@ -40,6 +40,12 @@ pub record MarkedTo (rs ps : List ℕ) (i r : ℕ) : Type 0 where
 
 pub marked-none : (rs ps : List ℕ) → MarkedTo rs ps 0 0
 marked-none rs ps = record { marked = λ j l. absurd (omega arith); high = λ j l. bit-none j }
+
+pub marked-low : (rs ps : List ℕ) (i r : ℕ) → MarkedTo rs ps i r → (j : ℕ) → bit r j ≡ true → j < i
+marked-low rs ps i r h j b = elim (decLt j i) [
+  | yes l ↦ l
+  | no d ↦ clash b (h .high j (omega (arith, d)))
+]
 
 module _ (rs ps : List ℕ) (i m r : ℕ) (fits : i < length ps) (h : MarkedTo rs ps i r)
     (its : m ≡ plainMarks (setAt rs ps i) (setsIn rs ps i)) where

@@ -1,12 +1,12 @@
 -- The fields of a record by its bytes copied out of the table. Assumes nothing.
 use mathlib.Core.Path.{_≡_, sym, ap, ap₂, _∙_}
 use mathlib.Core.List.{List}
-use Prim.Native.Nat.{ℕ, _+_, _*_, _<_}
+use Prim.Native.Nat.{ℕ, _+_, _-_, _*_, _≤_, _<_}
 use native.Mathlib.Omega.{arith}
 use native.Mathlib.Decide.{ℕ-discrete}
 use lib.Dec.{lit<}
-use lib.ListN.{length, getD, set, drop}
-use lib.Seq.{ext-getD, getD-set-same, getD-set-other}
+use lib.ListN.{length, getD, set, take, drop}
+use lib.Seq.{ext-getD, getD-set-same, getD-set-other, getD-take, getD-drop}
 use Rattle.edit_record.specs.Layout.{mostSites, siteAt, seqAt, vectorAt, keyAt, valueAt, recordLength, placeLength}
 use Rattle.edit_record.specs.RecordBytes.{two, four, counts}
 use Rattle.edit_record.proofs.NumbersInBytes.{counts-length, entry-in-record}
@@ -56,3 +56,12 @@ fields-copied b rs p h =
       key = h keyAt (lit< tt) ∙ sym (key-in-place rs p);
       value = value ∙ sym (value-in-place rs p);
     }
+
+-- the bytes where they stand, all of them there
+pub fields-in-part :
+    (rs : List ℕ) (p : ℕ) → p * placeLength + recordLength ≤ length rs →
+    HasFields (take (p * placeLength + recordLength - p * placeLength) (drop (p * placeLength) rs)) (recordAt rs p)
+fields-in-part rs p l =
+    let at = p * placeLength in
+    fields-copied (take (at + recordLength - at) (drop at rs)) rs p
+    (λ i m. getD-take (at + recordLength - at) (drop at rs) i 0 (omega arith) ∙ getD-drop at rs i 0)

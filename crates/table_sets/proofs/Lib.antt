@@ -4,3 +4,4 @@ pub mod MarksByKey
 pub mod SetsTold
 pub mod DisputesByMarks
 pub mod FieldsCopied
+pub mod MarksByMask

@@ -1,10 +1,9 @@
--- The Sets of an object by their keys: for each key the last Set, and for each Set the one of its key before it, each
--- with 1 added so that 0 is none; and a Set as one number, by which a later one is told whether they conflict. No one
--- need believe it: laws in proofs/ say when the Sets of an object are told by it. Assumes nothing.
+-- The Sets of an object by their keys, and a Set as one number, by which a later one is told whether they conflict. No
+-- one need believe it: laws in proofs/ say when the Sets of an object are told by it. Assumes nothing.
 use mathlib.Core.Path.{_≡_}
 use mathlib.Core.Bool.{Bool, not, _&&_}
 use mathlib.Core.List.{List}
-use Prim.Native.Nat.{ℕ, _-_, _*_, _/_, _%_, _≤_, _<_}
+use Prim.Native.Nat.{ℕ, _*_, _/_, _%_, _<_}
 use lib.Dec.{eqb}
 use lib.ListN.{getD}
 use Rattle.edit_record.specs.declared.Edit.{Edit}
@@ -15,7 +14,7 @@ use Rattle.edit_causal.specs.ShownValue.{shownValue}
 use Rattle.edit_history.specs.EditsHeld.{recordAt}
 use Rattle.math_maximal.specs.Groups.{bit}
 use Rattle.group_true.specs.Disputed.{isDisputed}
-use Rattle.group_limited.specs.LimitedForms.{setsIn}
+use Rattle.group_sight.specs.SightForms.{setsIn}
 
 -- the Set in the i-th of the places ps
 abbrev pub setAt : List ℕ → List ℕ → ℕ → Edit
@@ -23,7 +22,7 @@ setAt rs ps i = recordAt rs (getD ps i 0)
 
 -- ---- two Sets of an object
 
--- the chain that a Set stands in
+-- the key of a Set, as a place among the keys
 abbrev pub chainOf : Edit → ℕ
 chainOf e = e .key % keys
 
@@ -56,21 +55,3 @@ pub record ToldAs (x : ℕ) (e : Edit) : Type 0 where
   pub site : x / (twoBytes * values) % 256 ≡ e .site .0
   pub seq : x / values % twoBytes ≡ e .seq .0
   pub value : x % values ≡ shownValue (e .key) (e .value)
-
--- ---- the chains
-
--- of the first n Sets, c - 1 is the last one of the chain x; 0 says that there is none
-pub record LastOf (rs ps : List ℕ) (x n c : ℕ) : Type 0 where
-  pub low : c ≤ n
-  pub here : 0 < c → chainOf (setAt rs ps (c - 1)) ≡ x
-  pub none : (k : ℕ) → c ≤ k → k < n → chainOf (setAt rs ps k) ≡ x → ⊥
-
--- of each of the first i Sets the one of its chain before it, and what is told of it
-pub record NotedTo (rs ps : List ℕ) (i : ℕ) (earlier tolds : List ℕ) : Type 0 where
-  pub before : (j : ℕ) → j < i → LastOf rs ps (chainOf (setAt rs ps j)) j (getD earlier j 0)
-  pub told : (j : ℕ) → j < i → ToldAs (getD tolds j 0) (setAt rs ps j)
-
--- and the last of each chain
-pub record LinkedTo (rs ps : List ℕ) (i : ℕ) (latest earlier tolds : List ℕ) : Type 0 where
-  pub last : (x : ℕ) → x < keys → LastOf rs ps x i (getD latest x 0)
-  pub noted : NotedTo rs ps i earlier tolds

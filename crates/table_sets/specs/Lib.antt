@@ -1,3 +1,4 @@
 pub mod ChainForms
 pub mod KeyForms
 pub mod FieldForms
+pub mod MaskForms

@@ -2,6 +2,7 @@
 // the place of the first Set on it, and the entry of a Set the place of the next one on the same Create. One pass over
 // the records makes this chain; then the Sets of an object are found without a look at those of others.
 pub mod by_key;
+pub mod by_mask;
 pub mod copied;
 
 use table_drawing::entries::at16;

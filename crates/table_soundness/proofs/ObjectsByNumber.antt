@@ -25,7 +25,7 @@ use Rattle.edit_history.proofs.EditsHeld.{Target, target-parts, any-edit-on, an
 use Rattle.edit_history.proofs.RecordsPassed.{target-before}
 use Rattle.group_step.specs.GroupRows.{mostSets}
 use Rattle.table_drawing.specs.Tables.{Tables, placeAt, setsAt, heldBy}
-use Rattle.table_soundness.proofs.SoundFacts.{Sound, Entered, entered}
+use Rattle.table_soundness.proofs.SoundFacts.{Sound, Entered, entered, but-of}
 
 -- ---- the first that passes
 
@@ -145,10 +145,10 @@ module _ (t : Tables) (s : Sound t) where
       (p : ℕ) → p < t .counters .records → isCreate (recordAt (t .records) p) ≡ true →
       (length (creates (editsOf (t .records) p)) < t .counters .objects)
       × (placeAt (t .objects) (length (creates (editsOf (t .records) p))) ≡ p)
-  object-at-place = entered-at-place t (entered t s)
+  object-at-place = entered-at-place t (entered t (but-of t s))
 
   pub sets-few : (x : Site) (y : Seq) → length (setsOn x y (heldBy t)) ≤ mostSets
-  sets-few = entered-sets-few t (entered t s)
+  sets-few = entered-sets-few t (entered t (but-of t s))
 
   -- the Create of object o
   pub object-create :

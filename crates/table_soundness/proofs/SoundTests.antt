@@ -9,11 +9,10 @@ use lib.ListN.{getD, length}
 use borrow.Author.Tests.{eqb-true, leb-true, lt-ltb, le-ltb, le-leb, lt-leb, not-false}
 use Rattle.math_lists.specs.NumbersBelow.{all, sum}
 use Rattle.math_lists.proofs.Booleans.{clash, off, both}
-use Rattle.math_lists.proofs.NumbersBelow.{all-on, all-same, all-at}
+use Rattle.math_lists.proofs.NumbersBelow.{all-on, all-same}
 use Rattle.edit_record.specs.Layout.{mostSites, placeLength}
 use Rattle.edit_record.proofs.WellFormed.{set-aimed}
 use Rattle.edit_history.specs.Answers2to5.{recordsPass}
-use Rattle.edit_history.specs.Answer16.{recordsNamed}
 use Rattle.edit_history.specs.EditsHeld.{mostRecords, recordAt, editsOf, creates, countFrom}
 use Rattle.edit_sum.specs.WordSum.{sumHeld}
 use Rattle.edit_history.proofs.EditsHeld.{edits-length, target-parts}
@@ -23,12 +22,10 @@ use Rattle.group_step.specs.GroupRows.{mostObjects, mostGroups}
 use Rattle.table_drawing.specs.declared.Counters.{Counters}
 use Rattle.table_drawing.specs.Tables.{Tables, entryLength, heldBy, recordsLength, objectsLength, groupsLength}
 use Rattle.table_drawing.specs.Tables.{lengthsRight, sitesRight}
-use Rattle.table_soundness.specs.Sound.{withinLimits, countsAgree, objectSound, zeroFrom, restZero, sound}
-use Rattle.table_soundness.specs.SoundnessForms.{Targeted, GatheredOver, SetsWithinLimit, PassedOver}
+use Rattle.table_soundness.specs.Sound.{withinLimits, countsAgree, objectSound, zeroFrom, restZero}
+use Rattle.table_soundness.specs.SoundnessForms.{soundButNamed, Targeted, GatheredOver, PassedOver}
 use Rattle.table_soundness.specs.declared.Tally.{Tally}
-use Rattle.table_soundness.proofs.EachObject.{object-at}
-use Rattle.table_soundness.proofs.SoundFacts.{sound-at}
-use Rattle.table_soundness.proofs.ObjectsByNumber.{entered-sets-few}
+use Rattle.table_soundness.proofs.SoundFacts.{but-at}
 
 -- ---- an entry
 
@@ -81,20 +78,20 @@ few-sites c h =
 
 -- ---- what is not right at the start
 
-pub wrong-lengths : (t : Tables) → lengthsRight (t .records) (t .objects) (t .groups) ≡ false → sound t ≡ false
-unfolding sound
+pub wrong-lengths : (t : Tables) → lengthsRight (t .records) (t .objects) (t .groups) ≡ false → soundButNamed t ≡ false
+unfolding soundButNamed
 wrong-lengths t h = rw h
 
-pub past-limits : (t : Tables) → withinLimits (t .counters) ≡ false → sound t ≡ false
-unfolding sound
+pub past-limits : (t : Tables) → withinLimits (t .counters) ≡ false → soundButNamed t ≡ false
+unfolding soundButNamed
 past-limits t h = rw (h, and-false (lengthsRight (t .records) (t .objects) (t .groups)))
 
 -- more edits in all than there are records
 pub crowded :
-    (t : Tables) → leb (sum mostSites (λ s. getD (t .counters .held) s 0)) mostRecords ≡ false → sound t ≡ false
+    (t : Tables) → leb (sum mostSites (λ s. getD (t .counters .held) s 0)) mostRecords ≡ false → soundButNamed t ≡ false
 crowded t h =
-    off (sound t) (λ y.
-    let s = sound-at t y in
+    off (soundButNamed t) (λ y.
+    let s = but-at t y in
     let es = editsOf (t .records) (t .counters .records) in
     let fits = counted-in-all (t .counters .held) es (s .held) in
     let long = edits-length (t .records) (t .counters .records) in
@@ -107,10 +104,10 @@ pub not-right :
     (t : Tables) (g : Tally) (ps ns ts : List ℕ) →
     GatheredOver (t .counters .sites) (λ s. getD (t .counters .held) s 0) (t .records) (t .counters .records) g ps ns
     ts →
-    g .right ≡ false → sound t ≡ false
+    g .right ≡ false → soundButNamed t ≡ false
 not-right t g ps ns ts over h =
-    off (sound t) (λ y.
-    let s = sound-at t y in
+    off (soundButNamed t) (λ y.
+    let s = but-at t y in
     over .wrong h (s .pass) (λ x l. omega (arith, s .held x l))
     (all-on (t .counters .records) (restZero (t .records)) (s .rests)))
 
@@ -152,24 +149,7 @@ module _ (t : Tables) (g : Tally) (ns ts : List ℕ) (w : PassedOver t g ns ts) 
   abbrev counts? : Bool
   counts? = all mostSites (λ s. eqb (getD (t .counters .held) s 0) (getD (g .held) s 0))
 
-  pub rest-is :
-      (counts? && added? && made? && each? && zero? && recordsNamed (t .records) (t .counters .records)) ≡ sound t
-  unfolding sound countsAgree
+  pub rest-is : (counts? && added? && made? && each? && zero?) ≡ soundButNamed t
+  unfolding soundButNamed countsAgree
   rest-is =
       rw (same-counts, w .lengths, w .limits, w .gathered .pass, w .gathered .rests) (simp (and-assoc, and-true))
-
-  -- where all of that holds no object has too many Sets
-  pub rest-few :
-      (counts? && added? && made? && each? && zero?) ≡ true → SetsWithinLimit (t .records) (t .counters .records)
-  rest-few h =
-      let (h1, _) = both (counts? && added? && made? && each?) zero? h in
-      let (h2, each) = both (counts? && added? && made?) each? h1 in
-      let (_, made) = both (counts? && added?) made? h2 in
-      entered-sets-few t (record {
-        objects = eqb-true (t .counters .objects) (length (creates (heldBy t))) made;
-        pass = w .gathered .pass;
-        object = λ o l.
-            object-at (t .records) (t .counters .records) (t .objects) (t .groups) o
-            (all-at (t .counters .objects)
-            (objectSound (t .records) (t .counters .records) (t .objects) (t .groups)) each o l);
-      })

@@ -1,27 +1,41 @@
 -- What the test of soundness gathers from the records rs: where each edit stands, how many Creates stand before each
--- record, and how many Sets there are on it. Assumes nothing.
+-- record, and how many Sets there are on it. Then soundness but for 16. No one need believe it: laws in proofs/ tie it
+-- to `Sound`. Assumes nothing.
 use mathlib.Core.Path.{_≡_}
 use mathlib.Core.Bool.{Bool, true, false, _&&_}
 use mathlib.Core.List.{List}
-use Prim.Native.Nat.{ℕ, _≤_, _<_}
+use Prim.Native.Nat.{ℕ, _*_, _<_}
 use lib.Dec.{eqb}
 use lib.ListN.{getD, length}
 use Rattle.math_lists.specs.NumbersBelow.{all}
 use Rattle.math_lists.specs.SortedLists.{filter}
 use Rattle.edit_record.specs.declared.Edit.{Edit}
-use Rattle.edit_record.specs.declared.Site.{Site}
-use Rattle.edit_record.specs.declared.Seq.{Seq}
+use Rattle.edit_record.specs.Layout.{placeLength}
 use Rattle.edit_record.specs.Answer1.{isCreate, isSet}
 use Rattle.edit_history.specs.EditsHeld.{recordAt, editsOf, creates, setsOn, mostRecords}
 use Rattle.edit_history.specs.Answers2to5.{recordsPass}
-use Rattle.edit_history.specs.Answer16.{recordsNamed}
 use Rattle.edit_history.specs.SurveyForms.{Counted}
 use Rattle.edit_sum.specs.WordSum.{sumHeld}
 use Rattle.edit_walk.specs.WalkForms.{placeOf, Indexed, Roomy}
-use Rattle.group_step.specs.GroupRows.{mostSets}
-use Rattle.table_drawing.specs.Tables.{Tables, lengthsRight}
-use Rattle.table_soundness.specs.Sound.{withinLimits, restZero, sound}
+use Rattle.group_step.specs.GroupRows.{mostGroups}
+use Rattle.table_drawing.specs.Tables.{Tables, entryLength, lengthsRight}
+use Rattle.table_soundness.specs.Sound.{withinLimits, countsAgree, objectSound, zeroFrom, restZero}
 use Rattle.table_soundness.specs.declared.Tally.{Tally}
+
+-- ---- all of `sound` but its last part, 16
+
+unfoldable pub soundButNamed : Tables → Bool
+soundButNamed t =
+    let c = t .counters in
+    lengthsRight (t .records) (t .objects) (t .groups)
+    && withinLimits c
+    && countsAgree c (t .records)
+    && recordsPass (c .sites) (t .records) (c .records)
+    && all (c .objects) (objectSound (t .records) (c .records) (t .objects) (t .groups))
+    && zeroFrom (t .records) (c .records * placeLength)
+    && zeroFrom (t .objects) (c .objects * entryLength)
+    && zeroFrom (t .groups) (c .objects * mostGroups)
+    && all (c .records) (restZero (t .records))
 
 -- ---- what is known of the targets
 
@@ -83,20 +97,9 @@ pub record GatheredOver (sites : ℕ) (room : ℕ → ℕ) (rs : List ℕ) (n : 
   pub indexed : g .right ≡ true → Indexed rs n ps
   pub wrong : g .right ≡ false → recordsPass sites rs n ≡ true → Roomy room rs n → all n (restZero rs) ≡ true → ⊥
 
--- no object has more Sets, among the first n records, than it may have
-abbrev pub SetsWithinLimit : List ℕ → ℕ → Type 0
-SetsWithinLimit rs n = (s : Site) (q : Seq) → length (setsOn s q (editsOf rs n)) ≤ mostSets
-
 -- ---- what is known of tables once their limits are tested and their records passed over
 
 pub record PassedOver (t : Tables) (g : Tally) (ns ts : List ℕ) : Type 0 where
   pub lengths : lengthsRight (t .records) (t .objects) (t .groups) ≡ true
   pub limits : withinLimits (t .counters) ≡ true
   pub gathered : GatheredFrom (t .counters .sites) (t .records) (t .counters .records) g ns ts
-
--- r tells whether the tables are sound but for 16; where they are, ps is the index of their records
-pub record SoundButNamed (t : Tables) (r : Bool) (ps : List ℕ) : Type 0 where
-  pub whole : (r && recordsNamed (t .records) (t .counters .records)) ≡ sound t
-  pub pass : r ≡ true → recordsPass (t .counters .sites) (t .records) (t .counters .records) ≡ true
-  pub few : r ≡ true → SetsWithinLimit (t .records) (t .counters .records)
-  pub indexed : r ≡ true → Indexed (t .records) (t .counters .records) ps

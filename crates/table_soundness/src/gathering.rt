@@ -51,7 +51,7 @@ fn is_next_right(
         × (r ≡ false →
         WrongPast sites (λ s. getD (now (room .entry)) s 0) (now (recs .entry)) i) ⌝ }
 {
-    if !edit_walk::goes_on(sites, room, held, recs, places, i) {
+    if !edit_next::goes_on(sites, room, held, recs, places, i) {
         return false;
     }
     is_rest_zero(recs, i)

@@ -21,11 +21,10 @@ ghost use Rattle.math_lists.specs.NumbersBelow.{all, sum};
 ghost use Rattle.group_step.specs.GroupRows.{mostObjects, mostGroups};
 ghost use Rattle.edit_record.specs.Layout.{mostSites, placeLength};
 ghost use Rattle.edit_history.specs.EditsHeld.{mostRecords};
-ghost use Rattle.edit_history.specs.Answer16.{recordsNamed};
 ghost use Rattle.edit_walk.specs.WalkForms.{placesLength, Indexed};
 ghost use Rattle.table_drawing.specs.Tables.{entryLength, tablesOf, lengthsRight};
 ghost use Rattle.table_soundness.specs.Sound.{withinLimits, zeroFrom, sound};
-ghost use Rattle.table_soundness.specs.SoundnessForms.{PassedOver, SetsWithinLimit, SoundButNamed};
+ghost use Rattle.table_soundness.specs.SoundnessForms.{soundButNamed, PassedOver};
 
 // What one pass over the records gathers: whether all are right, and then how many edits of each site they are, the sum
 // of their words and how many of them are Creates.
@@ -80,7 +79,7 @@ fn unused_zero(records: &[u8], objects: &[u16], groups: &[u64], n: usize, m: usi
 }
 
 // Whether tables within their limits whose records are right are sound but for 16, by what the pass over the records
-// gathered; then no object has more Sets than it may have.
+// gathered.
 fn rest_sound(
     c: Counters,
     g: Tally,
@@ -91,9 +90,8 @@ fn rest_sound(
     groups: &[u64],
 ) -> bool
     requires { ⌜ PassedOver (tablesOf c (now records) (now objects) (now groups)) g (now earlier) (now tallies) ⌝ }
-    ensures { λ r. ⌜ ((r && recordsNamed (now (records .entry)) (c .records))
-        ≡ sound (tablesOf c (now (records .entry)) (now (objects .entry)) (now (groups .entry))))
-        × (r ≡ true → SetsWithinLimit (now (records .entry)) (c .records)) ⌝ }
+    ensures { λ r.
+        ⌜ r ≡ soundButNamed (tablesOf c (now (records .entry)) (now (objects .entry)) (now (groups .entry))) ⌝ }
 {
     let given = c.held;
     let held = g.held;
@@ -108,8 +106,8 @@ fn rest_sound(
 
 // Whether tables of the right lengths and within their limits are sound but for 16; if they are, places is the index of
 // their records. Each object is tested by what one pass over the records gathers, so that none is held against every
-// record. Apart from the test of 16, so that what is gathered and what that works with stand in the same room.
-fn is_sound_but_named(
+// record.
+fn is_sound_within(
     c: Counters,
     records: &[u8],
     objects: &[u16],
@@ -120,8 +118,9 @@ fn is_sound_but_named(
         × (withinLimits c ≡ true)
         × (sum mostSites (λ s. getD (c .held) s 0) ≤ mostRecords)
         × (length (now places) ≡ placesLength) ⌝ }
-    ensures { λ r. ⌜ SoundButNamed (tablesOf c (now (records .entry)) (now (objects .entry)) (now (groups .entry))) r
-        (now (places .exit)) ⌝ }
+    ensures { λ r.
+        ⌜ (r ≡ soundButNamed (tablesOf c (now (records .entry)) (now (objects .entry)) (now (groups .entry))))
+        × (r ≡ true → Indexed (now (records .entry)) (c .records) (now (places .exit))) ⌝ }
 {
     let given = c.held;
     let n = c.records as usize;
@@ -142,9 +141,10 @@ fn is_sound_but_named(
     rest_sound(c, g, &earlier, &tallies, records, objects, groups)
 }
 
-// Whether the tables are sound, whatever stands in them; if they are, places is the index of their records, which has
-// room by the counts that are given.
-pub fn is_sound_with(
+// Whether the tables are sound but for 16, whatever stands in them; if they are, places is the index of their records,
+// which has room by the counts that are given. For callers that test 16 as they work with the Sets of an object. Apart
+// from the test of 16, so that what is gathered and what that works with stand in the same room.
+pub fn is_sound_but_named(
     c: Counters,
     records: &[u8],
     objects: &[u16],
@@ -152,7 +152,8 @@ pub fn is_sound_with(
     places: &mut [u16],
 ) -> bool
     requires { ⌜ length (now places) ≡ placesLength ⌝ }
-    ensures { λ r. ⌜ (r ≡ sound (tablesOf c (now (records .entry)) (now (objects .entry)) (now (groups .entry))))
+    ensures { λ r.
+        ⌜ (r ≡ soundButNamed (tablesOf c (now (records .entry)) (now (objects .entry)) (now (groups .entry))))
         × (r ≡ true → Indexed (now (records .entry)) (c .records) (now (places .exit))) ⌝ }
 {
     if !table_drawing::lengths_right(records.len(), objects.len(), groups.len()) {
@@ -165,6 +166,21 @@ pub fn is_sound_with(
     if !is_room_enough(given) {
         return false;
     }
+    is_sound_within(c, records, objects, groups, places)
+}
+
+// Whether the tables are sound, whatever stands in them; if they are, places is the index of their records.
+pub fn is_sound_with(
+    c: Counters,
+    records: &[u8],
+    objects: &[u16],
+    groups: &[u64],
+    places: &mut [u16],
+) -> bool
+    requires { ⌜ length (now places) ≡ placesLength ⌝ }
+    ensures { λ r. ⌜ (r ≡ sound (tablesOf c (now (records .entry)) (now (objects .entry)) (now (groups .entry))))
+        × (r ≡ true → Indexed (now (records .entry)) (c .records) (now (places .exit))) ⌝ }
+{
     if !is_sound_but_named(c, records, objects, groups, places) {
         return false;
     }

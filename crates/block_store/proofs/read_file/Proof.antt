@@ -1,13 +1,32 @@
 -- `block_store::read_file` meets its contract. Assumes nothing.
-use mathlib.Core.Path.{sym, _∙_}
+use mathlib.Core.Path.{_≡_, sym, _∙_}
+use Prim.Native.Nat.{_-_}
+use lib.ListN.{take, drop}
 use denote.Ref.{now}
 use borrow.Author.Tests.{not-true, not-false}
-use borrow.Author.Needs.{needs}
 use Rattle.table_drawing.specs.Tables.{tablesOf}
 use Rattle.table_drawing.specs.AnswerNumbers.{numberOf}
+use Rattle.block_trailer.specs.Locating.{located}
+use Rattle.block_trailer.proofs.LocatingOutcomes.{start-before-end, end-inside, stretch-is}
 use Rattle.block_store.proofs.ReadingOutcomes.{wrong-lengths, file-refused, ready-to-read, file-read}
+use borrow.Author.Needs.{needs}
 use Rattle.block_store.proofs.read_file.Statement.{statement}
 use Rattle.block_store.proofs.read_file.Tie as tie
+
+-- the start, and the stretch by what was read of the trailer
+abbrev start-of : tie.After-read-trailer → tie.Start
+start-of t = t .before .before .before .before .before .before .before
+
+located-in :
+    (e : tie.After-stretch-end) →
+    (let t = e .before .before .before in
+    let file = now (start-of t .args .file) in
+    let start = t .read-trailer .result .start in
+    take (e .stretch-end .result - start) (drop start file) ≡ located file .stretch)
+located-in e =
+    let t = e .before .before .before in
+    let said = t .read-trailer .ensures in
+    stretch-is (now (start-of t .args .file)) (said .0) (said .1) (e .stretch-end .ensures)
 
 lengths-right-requires : tie.Need-lengths-right-requires
 lengths-right-requires c κs = search needs
@@ -37,28 +56,42 @@ returns-2 c =
     (numberOf (f .result .answer)) (f .result .sites) (f .result .form) (f .result .records) (f .ensures .0)
     (λ z. c .if2 .taken (c .before .number .ensures ∙ z))
 
-locate-requires : tie.Need-locate-requires
-locate-requires c κs = search needs
+stretch-end-requires : tie.Need-stretch-end-requires
+stretch-end-requires c κs = search needs
+
+sub-stretch : tie.Need-sub-stretch
+sub-stretch c =
+    let t = c .before .before .before in
+    let said = t .read-trailer .ensures in
+    start-before-end (now (start-of t .args .file)) (said .0) (said .1) (c .stretch-end .ensures)
+
+part-stretch-start : tie.Need-part-stretch-start
+part-stretch-start c =
+    let t = c .before .before .before in
+    let said = t .read-trailer .ensures in
+    start-before-end (now (start-of t .args .file)) (said .0) (said .1) (c .stretch-end .ensures)
+
+part-stretch-end : tie.Need-part-stretch-end
+part-stretch-end c =
+    let t = c .before .before .before in
+    let said = t .read-trailer .ensures in
+    end-inside (now (start-of t .args .file)) (said .0) (said .1) (c .stretch-end .ensures)
 
 cast-read-records : tie.Need-cast-read-records
 cast-read-records c = search needs
 
 read-records-requires : tie.Need-read-records-requires
 read-records-requires c κs =
-    let s5 = c .before .before .before .before .before in
-    let s6 = s5 .before in
-    let s7 = s6 .before in
-    let s8 = s7 .before in
-    let s9 = s8 .before in
-    let s14 = s9 .before .before .before .before .before in
-    let a = s14 .args in
-    let l = s9 .lengths-right in
-    let f = s7 .read-trailer in
-    let right = sym (l .ensures) ∙ not-false (l .result) (s8 .if1 .left) in
+    let e = c .before .before .before .before .before in
+    let t = e .before .before .before in
+    let a = start-of t .args in
+    let l = t .before .before .lengths-right in
+    let f = t .read-trailer in
+    let right = sym (l .ensures) ∙ not-false (l .result) (t .before .if1 .left) in
     let (s, n, fits) = ready-to-read (tablesOf (a .c) (now (a .records)) (now (a .objects)) (now (a .groups)))
     (now (a .file)) right
     (numberOf (f .result .answer)) (f .result .sites) (f .result .form) (f .result .records) (f .ensures .0)
-    (sym (s6 .number .ensures) ∙ s5 .if2 .left) _ (c .before .before .before .before .locate .ensures .0) in
+    (sym (e .before .before .number .ensures) ∙ e .before .if2 .left) _ (located-in e) in
     (right, s, n, fits)
 
 same-length : tie.Need-same-length
@@ -72,21 +105,16 @@ same-length-3 c = search needs
 
 returns-3 : tie.Need-returns-3
 returns-3 c =
-    let s6 = c .before .before .before .before .before .before in
-    let s11 = s6 .before .before .before .before .before in
-    let s12 = s11 .before in
-    let s13 = s12 .before in
-    let s14 = s13 .before in
-    let s15 = s14 .before in
-    let s16 = s15 .before in
-    let s21 = s16 .before .before .before .before .before in
-    let a = s21 .args in
-    let l = s16 .lengths-right in
-    let f = s14 .read-trailer in
+    let d = c .before .before .before .before .before .before in
+    let e = d .before .before .before .before .before .before in
+    let t = e .before .before .before in
+    let a = start-of t .args in
+    let l = t .before .before .lengths-right in
+    let f = t .read-trailer in
     file-read (tablesOf (a .c) (now (a .records)) (now (a .objects)) (now (a .groups))) (now (a .file))
-    (sym (l .ensures) ∙ not-false (l .result) (s15 .if1 .left))
+    (sym (l .ensures) ∙ not-false (l .result) (t .before .if1 .left))
     (numberOf (f .result .answer)) (f .result .sites) (f .result .form) (f .result .records) (f .ensures .0)
-    (sym (s13 .number .ensures) ∙ s12 .if2 .left) _ (s11 .locate .ensures .0) _ (s6 .read-records .ensures)
+    (sym (e .before .before .number .ensures) ∙ e .before .if2 .left) _ (located-in e) _ (d .read-records .ensures)
 
 pub read-file-spec : {M : Type 1} → statement M
 read-file-spec =
@@ -97,7 +125,10 @@ read-file-spec =
     read-trailer-requires
     number-requires
     returns-2
-    locate-requires
+    stretch-end-requires
+    sub-stretch
+    part-stretch-start
+    part-stretch-end
     cast-read-records
     read-records-requires
     same-length

@@ -8,13 +8,13 @@ use lib.Seq.{take-all}
 use denote.Ref.{now}
 use borrow.Author.Needs.{needs}
 use Rattle.edit_record.specs.Layout.{recordLength}
-use Rattle.edit_record.proofs.PaddedBytes.{Same, zeros, one-more}
+use Rattle.edit_record.proofs.PaddedBytes.{SameByEntry, zeros, one-more}
 use Rattle.edit_record.proofs.padded.Statement.{statement}
 use Rattle.edit_record.proofs.padded.Tie as tie
 
 abbrev Inv-loop : tie.InvT-loop
 Inv-loop rec whole₀ i₀ whole i =
-    (i ≤ length rec) × (length whole ≡ recordLength) × Same whole (take i rec)
+    (i ≤ length rec) × (length whole ≡ recordLength) × SameByEntry whole (take i rec)
 
 abbrev μ-loop : tie.MeasureT-loop
 μ-loop rec whole₀ i₀ whole i = length rec - i

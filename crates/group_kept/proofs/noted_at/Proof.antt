@@ -7,7 +7,8 @@ use denote.Ref.{now}
 use Rattle.edit_history.specs.EditsHeld.{recordAt}
 use Rattle.edit_history.proofs.EditsInPlaces.{sets-length}
 use Rattle.group_step.specs.GroupRows.{mostSets}
-use Rattle.group_limited.specs.LimitedForms.{setsIn, SeesTell, RowsTell}
+use Rattle.group_limited.specs.LimitedForms.{RowsTell}
+use Rattle.group_sight.specs.SightForms.{setsIn, SeesTell}
 use Rattle.group_kept.specs.KeptForms.{contextsAt, seesAt}
 use Rattle.group_kept.proofs.OneSetMore.{rest-is, lawful-one-more, left-one-more}
 use borrow.Author.Needs.{needs}

@@ -6,7 +6,7 @@ use native.Mathlib.Omega.{arith}
 use lib.ListN.{length, set, drop, length-set, length-append, length-drop}
 use lib.Seq.{length-take-le}
 use denote.Ref.{now}
-use Rattle.group_limited.specs.LimitedForms.{mostRecent}
+use Rattle.group_sight.specs.SightForms.{mostRecent}
 use Rattle.group_kept.specs.KeptForms.{contextsAt, seesAt}
 use Rattle.group_kept.proofs.OneSetMore.{kept-one-more}
 use borrow.Author.Needs.{needs}

@@ -11,8 +11,8 @@ use Rattle.edit_record.specs.declared.Edit.{Edit}
 use Rattle.edit_causal.specs.ConflictForms.{Proper}
 use Rattle.edit_history.specs.EditsHeld.{recordAt}
 use Rattle.edit_history.proofs.EditsInPlaces.{sets-length}
-use Rattle.group_limited.specs.LimitedForms.{setsIn}
-use Rattle.group_limited.proofs.OneMoreTaken.{sets-more}
+use Rattle.group_sight.specs.SightForms.{setsIn}
+use Rattle.group_sight.proofs.OneMoreTaken.{sets-more}
 use Rattle.group_limited.proofs.NamedInTurn.{first-proper}
 use Rattle.group_limited.proofs.RowsInPlaces.{no-rows, none-sees}
 use Rattle.group_kept.specs.KeptForms.{contextsAt, seesAt, RowsKept}

@@ -13,7 +13,7 @@ use Rattle.edit_record.specs.Layout.{limitedKind}
 use Rattle.edit_record.specs.RecordBytes.{decodeOf, noEdit}
 use Rattle.edit_record.specs.Answer1.{isLimited, nameOf}
 use Rattle.edit_causal.specs.Conflict.{listedBy}
-use Rattle.group_limited.proofs.MarksOfSets.{plain-names-none, marks-named, any-strange}
+use Rattle.group_sight.proofs.MarksOfSets.{plain-names-none, marks-named, any-strange}
 use Rattle.group_kept.proofs.sight_with.Statement.{statement}
 use Rattle.group_kept.proofs.sight_with.Tie as tie
 

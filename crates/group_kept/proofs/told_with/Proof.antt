@@ -1,7 +1,8 @@
 -- `group_kept::told_with` meets its contract. Assumes nothing.
 use mathlib.Core.Path.{sym, subst, _∙_}
 use denote.Ref.{now}
-use Rattle.group_limited.specs.LimitedForms.{SeesTell, RowsTell}
+use Rattle.group_limited.specs.LimitedForms.{RowsTell}
+use Rattle.group_sight.specs.SightForms.{SeesTell}
 use Rattle.group_kept.specs.KeptForms.{contextsAt, seesAt}
 use Rattle.group_kept.proofs.OneSetMore.{rest-is}
 use borrow.Author.Needs.{needs}

@@ -6,11 +6,13 @@ use Prim.Native.Nat.{ℕ, _-_, _%_, _≤_, _<_}
 use native.Mathlib.Omega.{arith}
 use lib.ListN.{length, getD, length-set}
 use denote.Ref.{now}
+use Rattle.math_lists.proofs.Booleans.{clash}
 use Rattle.math_contexts.specs.Box.{Lawful}
 use Rattle.edit_causal.specs.Conflict.{boxOn}
 use Rattle.edit_history.specs.EditsHeld.{recordAt}
 use Rattle.edit_history.proofs.EditsInPlaces.{sets-length}
-use Rattle.group_limited.specs.LimitedForms.{setsIn, mostRecent, SeesTell, RowsTell}
+use Rattle.group_limited.specs.LimitedForms.{RowsTell}
+use Rattle.group_sight.specs.SightForms.{setsIn, mostRecent, SeesTell}
 use Rattle.group_limited.proofs.RowsInPlaces.{no-rows, rows-more, none-sees, sees-more}
 use Rattle.group_limited.proofs.NamedInTurn.{nameless, lawful-to, left-where-named}
 use Rattle.group_limited.proofs.NamedInTurn.{named-where-told, in-turn-on, in-turn-off, passed-one-more}
@@ -96,7 +98,11 @@ returns c law =
     let its = own .ensures _ _ (omega (arith, size, s .pre .0)) tell seen in
     let told = named-where-told rs ps (a .k) fits (l .i) more (q .result)
     (q .ensures _ _ (l .ctx) tell seen its) law before in
-    sym (in-turn-off rs ps (a .k) fits (l .i) more (sym told ∙ c .if1 .taken))
+    record {
+      named = sym (in-turn-off rs ps (a .k) fits (l .i) more (sym told ∙ c .if1 .taken));
+      rows = λ h. clash h refl;
+      seen = λ h. clash h refl;
+    }
 
 put-told-requires : tie.Need-put-told-requires Inv-loop μ-loop
 put-told-requires c κs =
@@ -180,8 +186,13 @@ returns-2 : tie.Need-returns-2 Inv-loop μ-loop
 returns-2 c law =
     let l = c .before .loop in
     let a = c .before .before .before .before .before .before .before .before .args in
-    let (_, _, before) = l .inv .4 law in
-    sym (in-turn-on (now (a .recs)) (now (a .places)) (a .k) (omega arith) (λ j m. before j (omega arith)))
+    let (tell, sees, before) = l .inv .4 law in
+    let k : l .i ≡ a .k = omega arith in
+    record {
+      named = sym (in-turn-on (now (a .recs)) (now (a .places)) (a .k) (omega arith) (λ j m. before j (omega arith)));
+      rows = λ h. rw k at tell;
+      seen = λ h. rw k at sees;
+    }
 
 pub are-named-with-spec : {M : Type 1} → statement M
 are-named-with-spec =

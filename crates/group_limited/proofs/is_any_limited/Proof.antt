@@ -6,8 +6,8 @@ use native.Mathlib.Omega.{arith}
 use Rattle.math_lists.specs.SortedLists.{any}
 use Rattle.edit_record.specs.Answer1.{isLimited}
 use Rattle.edit_history.specs.EditsHeld.{recordAt}
-use Rattle.group_limited.specs.LimitedForms.{setsIn}
-use Rattle.group_limited.proofs.OneMoreTaken.{any-more}
+use Rattle.group_sight.specs.SightForms.{setsIn}
+use Rattle.group_sight.proofs.OneMoreTaken.{any-more}
 use borrow.Author.Needs.{needs}
 use Rattle.group_limited.proofs.is_any_limited.Statement.{statement}
 use Rattle.group_limited.proofs.is_any_limited.Tie as tie

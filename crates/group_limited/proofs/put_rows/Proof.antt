@@ -10,7 +10,8 @@ use Rattle.edit_causal.specs.Conflict.{boxOn}
 use Rattle.edit_causal.specs.ConflictForms.{Proper}
 use Rattle.edit_history.specs.EditsHeld.{recordAt}
 use Rattle.edit_history.proofs.EditsInPlaces.{sets-length}
-use Rattle.group_limited.specs.LimitedForms.{setsIn, mostRecent, SeesTell, RowsTell}
+use Rattle.group_limited.specs.LimitedForms.{RowsTell}
+use Rattle.group_sight.specs.SightForms.{setsIn, mostRecent, SeesTell}
 use Rattle.group_limited.proofs.RowsInPlaces.{no-rows, rows-more, none-sees, sees-more}
 use Rattle.group_limited.proofs.NamedInTurn.{lawful-to, left-where-proper}
 use borrow.Author.Needs.{needs}

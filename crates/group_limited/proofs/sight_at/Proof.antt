@@ -8,7 +8,8 @@ use lib.Seq.{take-all}
 use denote.Ref.{now}
 use Rattle.edit_record.specs.Layout.{placeLength}
 use Rattle.edit_record.specs.RecordBytes.{decodeOf}
-use Rattle.group_limited.specs.LimitedForms.{setsIn, SightedTo, SightOf}
+use Rattle.group_limited.specs.LimitedForms.{SightOf}
+use Rattle.group_sight.specs.SightForms.{setsIn, SightedTo}
 use borrow.Author.Needs.{needs}
 use Rattle.group_limited.proofs.sight_at.Statement.{statement}
 use Rattle.group_limited.proofs.sight_at.Tie as tie

@@ -9,8 +9,8 @@ use lib.Seq.{take-all}
 use denote.Ref.{now}
 use Rattle.edit_record.specs.Layout.{limitedKind}
 use Rattle.edit_history.proofs.EditsInPlaces.{sets-length}
-use Rattle.group_limited.specs.declared.Marks.{Marks}
-use Rattle.group_limited.proofs.NamesOfSets.{names-there}
+use Rattle.group_sight.specs.declared.Marks.{Marks}
+use Rattle.group_sight.proofs.NamesOfSets.{names-there}
 use borrow.Author.Needs.{needs}
 use Rattle.group_limited.proofs.sight_of.Statement.{statement}
 use Rattle.group_limited.proofs.sight_of.Tie as tie

@@ -1,9 +1,11 @@
--- `group_named::are_all_named` meets its contract: records that pass 1 to 5 have lawful Sets on each Create, and 16 is
--- given to none of them exactly if to none of those Sets. Assumes nothing.
-use mathlib.Core.Path.{sym, _∙_}
-use borrow.Author.Tests.{not-true}
-use Rattle.group_true.proofs.ProperSets.{in-order-table}
-use Rattle.group_named.proofs.BoxesNamed.{named-by-boxes, aimed, none-limited}
+-- `group_named::are_all_named` meets its contract: where one of the records is limited there is a last one. Assumes
+-- nothing.
+use mathlib.Core.Path.{_≡_, sym, _∙_}
+use mathlib.Core.Bool.{false, not}
+use Prim.Native.Nat.{_<_}
+use native.Mathlib.Omega.{arith}
+use borrow.Author.Tests.{not-true, not-false}
+use Rattle.group_named.proofs.BoxesNamed.{none-limited, some-limited}
 use borrow.Author.Needs.{needs}
 use Rattle.group_named.proofs.are_all_named.Statement.{statement}
 use Rattle.group_named.proofs.are_all_named.Tie as tie
@@ -17,16 +19,55 @@ returns c sites few pass index =
     let a = c .before .before .before .before .args in
     sym (none-limited (a .recs .now) (a .n) (sym (h .ensures) ∙ not-true (h .result) (c .if1 .taken)))
 
-are-boxes-named-requires : tie.Need-are-boxes-named-requires
-are-boxes-named-requires c κs = search needs
+slice-aggregate-are-named-last : tie.Need-slice-aggregate-are-named-last
+slice-aggregate-are-named-last c = search needs
+
+slice-aggregate-are-named-last-2 : tie.Need-slice-aggregate-are-named-last-2
+slice-aggregate-are-named-last-2 c = search needs
+
+slice-aggregate-are-named-last-3 : tie.Need-slice-aggregate-are-named-last-3
+slice-aggregate-are-named-last-3 c = search needs
+
+slice-aggregate-are-named-last-4 : tie.Need-slice-aggregate-are-named-last-4
+slice-aggregate-are-named-last-4 c = search needs
+
+slice-aggregate-are-named-last-5 : tie.Need-slice-aggregate-are-named-last-5
+slice-aggregate-are-named-last-5 c = search needs
+
+some : (x : tie.After-is-limited-held) → not (x .is-limited-held .result) ≡ false →
+    0 < x .before .before .before .args .n
+some x left =
+    let h = x .is-limited-held in
+    let a = x .before .before .before .args in
+    some-limited (a .recs .now) (a .n) (sym (h .ensures) ∙ not-false (h .result) left)
+
+sub-are-named-last : tie.Need-sub-are-named-last
+sub-are-named-last c =
+    let f = c .before .before .before .before .before in
+    some (f .before) (f .if1 .left)
+
+are-named-last-requires : tie.Need-are-named-last-requires
+are-named-last-requires c κs =
+    let s = c .before .before .before .before .before .before .before .before .before in
+    let f = c .before .before .before .before .before in
+    let more = some (f .before) (f .if1 .left) in
+    (s .pre .0, omega (arith, more), s .pre .1, search needs, search needs, search needs, search needs, search needs)
 
 returns-2 : tie.Need-returns-2
 returns-2 c sites few pass index =
-    let a = c .before .before .before .before .before .args in
-    let rs = a .recs .now in
-    c .are-boxes-named .ensures index (aimed rs sites (a .n) pass) (in-order-table sites few rs (a .n) pass .lawful)
-    ∙ sym (named-by-boxes rs sites (a .n) pass)
+    c .before .before .before .before .before .are-named-last .ensures sites few pass index .0
 
 pub are-all-named-spec : {M : Type 1} → statement M
 are-all-named-spec =
-    tie.close (tie.spec is-limited-held-requires returns are-boxes-named-requires returns-2)
+    tie.close
+    (tie.spec
+    is-limited-held-requires
+    returns
+    slice-aggregate-are-named-last
+    slice-aggregate-are-named-last-2
+    slice-aggregate-are-named-last-3
+    slice-aggregate-are-named-last-4
+    slice-aggregate-are-named-last-5
+    sub-are-named-last
+    are-named-last-requires
+    returns-2)

@@ -1,12 +1,13 @@
 -- `group_named::are_named_at` meets its contract: the Sets in the places that are gathered are those on the Create.
 -- Assumes nothing.
 use mathlib.Core.Path.{_≡_, sym, ap, subst, _∙_}
-use mathlib.Core.Bool.{true}
+use mathlib.Core.Bool.{true, _||_}
 use mathlib.Core.List.{List}
 use native.Mathlib.Omega.{arith}
 use lib.ListN.{length}
 use borrow.Author.Tests.{eq-eqb, ne-eqb, not-true}
 use Rattle.math_lists.specs.SortedLists.{any}
+use Rattle.math_lists.proofs.Booleans.{clash, neither}
 use Rattle.math_contexts.specs.Box.{Lawful}
 use Rattle.edit_record.specs.declared.Edit.{Edit}
 use Rattle.edit_record.specs.Layout.{createKind}
@@ -16,7 +17,7 @@ use Rattle.edit_history.specs.EditsHeld.{recordAt, editsOf, setsOn}
 use Rattle.edit_history.proofs.EditsInPlaces.{sets-length}
 use Rattle.group_limited.specs.LimitedForms.{namedInTurn}
 use Rattle.group_named.specs.NamedForms.{isNamedAt}
-use Rattle.group_named.proofs.SetsGathered.{gathered}
+use Rattle.group_named.proofs.SetsGathered.{gathered, told-of}
 use Rattle.group_named.proofs.BoxesNamed.{plain-in-turn}
 use borrow.Author.Needs.{needs}
 use Rattle.group_named.proofs.are_named_at.Statement.{statement}
@@ -30,7 +31,8 @@ unfolding isNamedAt
 returns c chained law =
     let a = c .before .before .before .before .before .before .before .before .before .args in
     let kind = recordAt (a .recs .now) (a .p) .kind in
-    rw (ne-eqb kind createKind (λ q. c .if1 .taken (c .before .kind-at .ensures ∙ q)))
+    let none = ne-eqb kind createKind (λ q. c .if1 .taken (c .before .kind-at .ensures ∙ q)) in
+    (rw none, λ asked h create. clash create none)
 
 gather-sets-requires : tie.Need-gather-sets-requires
 gather-sets-requires c κs = search needs
@@ -60,10 +62,10 @@ returns-2 c chained law =
     let same = gathered rs (a .p) (a .n) (g .result) (a .chain .now) (g .last .0) (s .pre .1) create chained
     (s .pre .2 (e .site) (e .seq)) (g .ensures .1) in
     let i = c .before .is-any-limited in
-    rw create
-    (sym
-    (plain-in-turn ms
-    (sym (ap (any isLimited) same) ∙ sym (i .ensures) ∙ not-true (i .result) (c .if2 .taken))))
+    let (none, plainly) = neither (i .result) (a .rows) (not-true (i .result || a .rows) (c .if2 .taken)) in (
+      rw create (sym (plain-in-turn ms (sym (ap (any isLimited) same) ∙ sym (i .ensures) ∙ none))),
+      λ asked. clash asked plainly,
+    )
 
 are-named-requires : tie.Need-are-named-requires
 are-named-requires c κs =
@@ -116,7 +118,11 @@ returns-3 c chained law =
     ∙ sets-length rs (g .last .0) (g .result) (omega (arith, g .ensures .0, g .kept .0, s .pre .3)) in
     let lawful = subst (λ (m : List Edit). Lawful (boxOn m) (g .result)) (sym same)
     (subst (Lawful (boxOn ms)) size (law (e .site) (e .seq))) in
-    rw create (named .ensures lawful ∙ ap namedInTurn same)
+    let by = named .ensures .1 lawful in (
+      rw create (by .named ∙ ap namedInTurn same),
+      λ asked h create.
+          told-of rs (g .last .0) (g .result) ms same size (named .result) _ _ _ _ (named .ensures .0) by h,
+    )
 
 pub are-named-at-spec : {M : Type 1} → statement M
 are-named-at-spec =

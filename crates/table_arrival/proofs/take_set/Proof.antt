@@ -6,13 +6,13 @@ use denote.Ref.{now}
 use borrow.Author.Needs.{needs}
 use Rattle.table_drawing.specs.Tables.{tablesOf}
 use Rattle.group_step.specs.GroupRows.{mostGroups}
-use Rattle.table_arrival.proofs.SetReady.{stepBy, Given, set-given, set-apart, set-refused, set-stored}
+use Rattle.table_arrival.proofs.SetReady.{stepBy, GivenSet, set-given, set-apart, set-refused, set-stored}
 use Rattle.table_arrival.proofs.take_set.Statement.{statement}
 use Rattle.table_arrival.proofs.take_set.Tie as tie
 
 facts :
     (c : tie.Start) →
-    Given (tablesOf (c .args .c) (now (c .args .records)) (now (c .args .objects)) (now (c .args .groups)))
+    GivenSet (tablesOf (c .args .c) (now (c .args .records)) (now (c .args .objects)) (now (c .args .groups)))
     (now (c .args .rec)) (c .args .v)
 facts c =
     set-given (tablesOf (c .args .c) (now (c .args .records)) (now (c .args .objects)) (now (c .args .groups)))

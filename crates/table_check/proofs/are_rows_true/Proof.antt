@@ -6,16 +6,16 @@ use native.Mathlib.Omega.{arith}
 use denote.Ref.{now}
 use Rattle.math_lists.specs.NumbersBelow.{all}
 use Rattle.table_drawing.specs.Tables.{tablesOf}
-use Rattle.table_soundness.proofs.SoundFacts.{sound-at}
+use Rattle.table_soundness.proofs.SoundFacts.{but-at}
 use Rattle.table_soundness.proofs.SoundTests.{targeted}
-use Rattle.table_check.specs.CheckForms.{rowTrue, rowsTrue}
+use Rattle.table_check.specs.CheckForms.{rowStands, rowsStand}
 use borrow.Author.Needs.{needs}
 use Rattle.table_check.proofs.are_rows_true.Statement.{statement}
 use Rattle.table_check.proofs.are_rows_true.Tie as tie
 
 abbrev Inv-loop : tie.InvT-loop
 Inv-loop c records objects groups places n m aims right₀ o₀ right o =
-    (o ≤ m) × (right ≡ all o (rowTrue (tablesOf c records objects groups)))
+    (o ≤ m) × (right ≡ all o (rowStands (tablesOf c records objects groups)))
 
 abbrev μ-loop : tie.MeasureT-loop
 μ-loop c records objects groups places n m aims right₀ o₀ right o = m - o
@@ -34,7 +34,7 @@ chain-sets-requires c κs =
     let s = c .before .before .before .before .before .before .before in
     let a = s .args in
     let t = tablesOf (a .c) (now (a .records)) (now (a .objects)) (now (a .groups)) in
-    let sound = sound-at t (s .pre .0) in (
+    let sound = but-at t (s .pre .0) in (
       sound .few-records,
       sound .few-records,
       s .pre .1,
@@ -64,7 +64,7 @@ unfolding all
 loop-again c = (omega arith, rw (add-one, c .before .before .before .loop .inv .1, c .is-row-true .ensures))
 
 returns : tie.Need-returns Inv-loop μ-loop
-unfolding rowsTrue
+unfolding rowsStand
 returns c =
     let l = c .before .loop in
     let s = c .before .before .before .before .before .before .before .before .before .before .before in

@@ -1,11 +1,12 @@
--- `table_check::is_row_true` meets its contract; the Sets are proper in turn, as `work_out` asks. Assumes nothing.
+-- `table_check::is_row_true` meets its contract; having seen goes through among the Sets, as `work_out` asks.
+-- Assumes nothing.
 use Prim.Native.Nat.{_≤_}
 use native.Mathlib.Omega.{arith}
 use lib.ListN.{length}
 use denote.Ref.{now}
 use Rattle.table_drawing.specs.Tables.{tablesOf}
-use Rattle.table_soundness.proofs.SoundFacts.{sound-at}
-use Rattle.table_check.proofs.RowWorkedOut.{few-sets, places-are, places-in-turn, places-told, row-fits-in}
+use Rattle.table_soundness.proofs.SoundFacts.{but-at}
+use Rattle.table_check.proofs.RowWorkedOut.{few-sets, places-are, places-lawful, places-told, row-fits-in}
 use Rattle.table_check.proofs.RowWorkedOut.{too-many, row-decides}
 use borrow.Author.Needs.{needs}
 use Rattle.table_check.proofs.is_row_true.Statement.{statement}
@@ -45,7 +46,7 @@ gather-sets-requires c κs =
     let p = c .before .before .before .at16 in
     let k = c .before .before .at162 in
     let t = tablesOf (a .c) (now (a .records)) (now (a .objects)) (now (a .groups)) in
-    few-sets t (sound-at t (s .pre .0)) (a .o) (s .pre .1) (p .result) (k .result) (p .ensures) (k .ensures)
+    few-sets t (but-at t (s .pre .0)) (a .o) (s .pre .1) (p .result) (k .result) (p .ensures) (k .ensures)
 
 slice-aggregate-work-out : tie.Need-slice-aggregate-work-out
 slice-aggregate-work-out c = search needs
@@ -64,7 +65,7 @@ work-out-requires c κs =
     let p = b .before .before .before .before .at16 in
     let k = b .before .before .before .at162 in
     let t = tablesOf (a .c) (now (a .records)) (now (a .objects)) (now (a .groups)) in
-    let sound = sound-at t (s .pre .0) in
+    let sound = but-at t (s .pre .0) in
     let e = places-are t sound (a .o) (s .pre .1) (p .result) (k .result) (p .ensures) (k .ensures)
     (now (a .chain)) _ (s .pre .2) (b .gather-sets .ensures) in
     let few = few-sets t sound (a .o) (s .pre .1) (p .result) (k .result) (p .ensures) (k .ensures) in
@@ -73,7 +74,7 @@ work-out-requires c κs =
       room,
       few,
       search needs,
-      places-in-turn t sound (a .o) (s .pre .1) (p .result) (k .result) (p .ensures) (k .ensures) _ room e,
+      places-lawful t sound (a .o) (s .pre .1) (p .result) (k .result) (p .ensures) (k .ensures) _ room e,
       places-told t sound (a .o) (s .pre .1) (p .result) (k .result) (p .ensures) (k .ensures) _ room e,
     )
 
@@ -85,11 +86,14 @@ returns c =
     let p = b .before .before .before .before .at16 in
     let k = b .before .before .before .at162 in
     let t = tablesOf (a .c) (now (a .records)) (now (a .objects)) (now (a .groups)) in
-    let sound = sound-at t (s .pre .0) in
+    let sound = but-at t (s .pre .0) in
     let e = places-are t sound (a .o) (s .pre .1) (p .result) (k .result) (p .ensures) (k .ensures)
     (now (a .chain)) _ (s .pre .2) (b .gather-sets .ensures) in
+    let few = few-sets t sound (a .o) (s .pre .1) (p .result) (k .result) (p .ensures) (k .ensures) in
+    let g = b .gather-sets in
+    let room : k .result ≤ length (g .last .1 .1 .1 .0) = omega (arith, g .kept .1 .1 .1 .0) in
     let w = c .before .before .work-out in
-    too-many t sound (a .o) (s .pre .1) (p .result) (k .result) (p .ensures) (k .ensures) _ _ (w .result) e
+    too-many t sound (a .o) (s .pre .1) (p .result) (k .result) (p .ensures) (k .ensures) _ _ (w .result) room e
     (w .ensures) (c .if1 .taken)
 
 cast-is-row : tie.Need-cast-is-row
@@ -106,7 +110,7 @@ is-row-requires c κs =
     let p = b .before .before .before .before .at16 in
     let k = b .before .before .before .at162 in
     let t = tablesOf (a .c) (now (a .records)) (now (a .objects)) (now (a .groups)) in
-    let sound = sound-at t (s .pre .0) in (
+    let sound = but-at t (s .pre .0) in (
       row-fits-in t sound (a .o) (s .pre .1) (p .result) (k .result) (p .ensures) (k .ensures),
       rw (b .before .before .at163 .ensures) (sound .object (a .o) (s .pre .1) .row .few),
       omega (arith, c .before .before .before .work-out .kept .1 .1 .1 .0),
@@ -120,11 +124,14 @@ returns-2 c =
     let p = b .before .before .before .before .at16 in
     let k = b .before .before .before .at162 in
     let t = tablesOf (a .c) (now (a .records)) (now (a .objects)) (now (a .groups)) in
-    let sound = sound-at t (s .pre .0) in
+    let sound = but-at t (s .pre .0) in
     let e = places-are t sound (a .o) (s .pre .1) (p .result) (k .result) (p .ensures) (k .ensures)
     (now (a .chain)) _ (s .pre .2) (b .gather-sets .ensures) in
+    let few = few-sets t sound (a .o) (s .pre .1) (p .result) (k .result) (p .ensures) (k .ensures) in
+    let g = b .gather-sets in
+    let room : k .result ≤ length (g .last .1 .1 .1 .0) = omega (arith, g .kept .1 .1 .1 .0) in
     let w = c .before .before .before .before .work-out in
-    row-decides t sound (a .o) (s .pre .1) (p .result) (k .result) (p .ensures) (k .ensures) _ _ (w .result) e
+    row-decides t sound (a .o) (s .pre .1) (p .result) (k .result) (p .ensures) (k .ensures) _ _ (w .result) room e
     (w .ensures) (c .is-row .result) (omega arith) (rw (b .before .before .at163 .ensures) at (c .is-row .ensures))
 
 pub is-row-true-spec : {M : Type 1} → statement M

@@ -8,8 +8,8 @@ use Rattle.edit_causal.proofs.ConflictsAmongSets.{none-itself}
 use Rattle.edit_history.specs.EditsHeld.{recordAt}
 use Rattle.edit_record.specs.Layout.{keys}
 use Rattle.group_step.specs.GroupRows.{mostGroups, mostSets}
-use Rattle.table_sets.specs.KeyForms.{LinkedTo}
-use Rattle.table_sets.proofs.MarksByKey.{linked-none}
+use Rattle.table_sets.specs.MaskForms.{MaskedTo}
+use Rattle.table_sets.proofs.MarksByMask.{masked-none}
 use Rattle.table_check.specs.CheckForms.{groupsIn, joinedWith}
 use Rattle.table_check.proofs.RowWorkedOut.{groups-none, stepped-on, in-ascending, in-below, in-apart}
 use Rattle.table_check.proofs.RowWorkedOut.{in-more}
@@ -20,18 +20,17 @@ use Rattle.table_check.proofs.step_plainly.Statement.{statement}
 use Rattle.table_check.proofs.step_plainly.Tie as tie
 
 abbrev Inv-loop : tie.InvT-loop
-Inv-loop gs₀ recs places k latest₀ earlier₀ tolds₀ n₀ common₀ i₀ gs latest earlier tolds n common i =
+Inv-loop gs₀ recs places k sets₀ tolds₀ n₀ common₀ i₀ gs sets tolds n common i =
     (i ≤ k)
     × (length gs ≡ mostGroups)
     × (n ≤ mostGroups)
     × (joinedWith common (take n gs) ≡ groupsIn recs places i)
-    × (length latest ≡ keys)
-    × (length earlier ≡ mostSets)
+    × (length sets ≡ keys)
     × (length tolds ≡ mostSets)
-    × LinkedTo recs places i latest earlier tolds
+    × MaskedTo recs places i sets tolds
 
 abbrev μ-loop : tie.MeasureT-loop
-μ-loop gs₀ recs places k latest₀ earlier₀ tolds₀ n₀ common₀ i₀ gs latest earlier tolds n common i = k - i
+μ-loop gs₀ recs places k sets₀ tolds₀ n₀ common₀ i₀ gs sets tolds n common i = k - i
 
 loop-holds : tie.Need-loop-holds Inv-loop μ-loop
 loop-holds c =
@@ -43,37 +42,32 @@ loop-holds c =
       joined-none _ ∙ s .pre .1 ∙ sym (groups-none (now (a .recs)) (now (a .places))),
       refl,
       refl,
-      refl,
-      linked-none (now (a .recs)) (now (a .places)) _ _ _ (λ x l. getD-replicate keys x 0 0 l),
+      masked-none (now (a .recs)) (now (a .places)) _ _ (λ x l. getD-replicate keys x 0 0 l),
     )
 
-slice-aggregate-take-set : tie.Need-slice-aggregate-take-set Inv-loop μ-loop
-slice-aggregate-take-set c = search needs
+slice-aggregate-mark-set : tie.Need-slice-aggregate-mark-set Inv-loop μ-loop
+slice-aggregate-mark-set c = search needs
 
-slice-aggregate-take-set-2 : tie.Need-slice-aggregate-take-set-2 Inv-loop μ-loop
-slice-aggregate-take-set-2 c = search needs
+slice-aggregate-mark-set-2 : tie.Need-slice-aggregate-mark-set-2 Inv-loop μ-loop
+slice-aggregate-mark-set-2 c = search needs
 
-slice-aggregate-take-set-3 : tie.Need-slice-aggregate-take-set-3 Inv-loop μ-loop
-slice-aggregate-take-set-3 c = search needs
-
-take-set-requires : tie.Need-take-set-requires Inv-loop μ-loop
-take-set-requires c κs =
-    let s = c .before .before .before .before .before .before .before .before in
-    let l = c .before .before .before .before .loop in (
+mark-set-requires : tie.Need-mark-set-requires Inv-loop μ-loop
+mark-set-requires c κs =
+    let s = c .before .before .before .before .before .before .before in
+    let l = c .before .before .before .loop in (
       omega (arith, s .pre .3),
       omega (arith, s .pre .2),
       omega (arith, l .inv .4),
       omega (arith, s .pre .3, l .inv .5),
-      omega (arith, s .pre .3, l .inv .6),
-      l .inv .7,
+      l .inv .6,
       λ j m. s .pre .6 (l .i) j (omega arith) m,
     )
 
 step-later-requires : tie.Need-step-later-requires Inv-loop μ-loop
 step-later-requires c κs =
-    let s = c .before .before .before .before .before .before .before .before .before .before .before .before .before in
+    let s = c .before .before .before .before .before .before .before .before .before .before .before in
     let a = s .args in
-    let l = c .before .before .before .before .before .before .before .before .before .loop in (
+    let l = c .before .before .before .before .before .before .before .loop in (
       l .inv .1,
       l .inv .2,
       omega arith,
@@ -87,12 +81,12 @@ same-length c = search needs
 
 returns : tie.Need-returns Inv-loop μ-loop
 returns c =
-    let b = c .before .before .before .before .before .before .before .before in
-    let s = b .before .before .before .before .before .before .before .before .before in
+    let b = c .before .before .before .before .before .before .before in
+    let s = b .before .before .before .before .before .before .before .before in
     let a = s .args in
-    let l = b .before .before .before .before .before .loop in
+    let l = b .before .before .before .before .loop in
     let r = c .before .before .before .step-later in
-    let m = b .take-set in
+    let m = b .mark-set in
     let rs = now (a .recs) in
     let ps = now (a .places) in
     let e = recordAt rs (getD ps (l .i) 0) in
@@ -118,12 +112,12 @@ loop-less c = search needs
 
 loop-again : tie.Need-loop-again Inv-loop μ-loop
 loop-again c =
-    let b = c .before .before .before .before .before .before .before .before in
-    let s = b .before .before .before .before .before .before .before .before .before in
+    let b = c .before .before .before .before .before .before .before in
+    let s = b .before .before .before .before .before .before .before .before in
     let a = s .args in
-    let l = b .before .before .before .before .before .loop in
+    let l = b .before .before .before .before .loop in
     let r = c .before .before .before .step-later in
-    let m = b .take-set in
+    let m = b .mark-set in
     let rs = now (a .recs) in
     let ps = now (a .places) in
     let e = recordAt rs (getD ps (l .i) 0) in
@@ -136,7 +130,6 @@ loop-again c =
       r .ensures .1 (omega arith) ∙ next,
       m .kept .0 ∙ l .inv .4,
       m .kept .1 .0 ∙ l .inv .5,
-      m .kept .1 .1 .0 ∙ l .inv .6,
       m .ensures .1,
     )
 
@@ -162,10 +155,9 @@ step-plainly-spec =
     Inv-loop
     μ-loop
     loop-holds
-    slice-aggregate-take-set
-    slice-aggregate-take-set-2
-    slice-aggregate-take-set-3
-    take-set-requires
+    slice-aggregate-mark-set
+    slice-aggregate-mark-set-2
+    mark-set-requires
     step-later-requires
     same-length
     returns

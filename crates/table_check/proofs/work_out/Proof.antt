@@ -5,6 +5,7 @@ use lib.ListN.{length-set}
 use lib.Seq.{take-suc-set}
 use denote.Ref.{now}
 use borrow.Author.Tests.{not-true}
+use Rattle.table_check.proofs.SetsInTurn.{none-limited-turn}
 use borrow.Author.Needs.{needs}
 use Rattle.table_check.proofs.work_out.Statement.{statement}
 use Rattle.table_check.proofs.work_out.Tie as tie
@@ -23,7 +24,8 @@ step-plainly-requires c κs =
       take-suc-set (now (s .args .gs)) 0 0 (omega (arith, s .pre .2)),
       s .pre .0,
       s .pre .1,
-      s .pre .3,
+      none-limited-turn (now (s .args .recs)) (now (s .args .places)) (s .args .k) (s .pre .0) (s .pre .3)
+          (sym (limited .ensures) ∙ not-true (limited .result) (c .before .if1 .taken)),
       sym (limited .ensures) ∙ not-true (limited .result) (c .before .if1 .taken),
       s .pre .4,
     )
@@ -35,7 +37,14 @@ same-length c =
     r .step-plainly .kept .0 ∙ length-set (now (s .args .gs)) 0 _
 
 returns : tie.Need-returns
-returns c = search needs
+returns c =
+    let r = c .before .before in
+    let limited = r .before .before .before .is-any-limited in
+    let s = r .before .before .before .before .before .before .before in
+    let a = s .args in
+    let none = sym (limited .ensures) ∙ not-true (limited .result) (r .before .before .if1 .taken) in
+    let turn = none-limited-turn (now (a .recs)) (now (a .places)) (a .k) (s .pre .0) (s .pre .3) none in
+    record { few = λ h. (turn, r .step-plainly .ensures .few h); many = λ h w. r .step-plainly .ensures .many h }
 
 slice-aggregate-put-names : tie.Need-slice-aggregate-put-names
 slice-aggregate-put-names c = search needs

@@ -8,7 +8,7 @@ use denote.Ref.{now}
 use Rattle.group_step.specs.GroupRows.{settled}
 use Rattle.group_engine.specs.SearchForms.{countTold}
 use Rattle.edit_causal.proofs.ConflictsAmongSets.{none-itself}
-use Rattle.group_limited.specs.LimitedForms.{setsIn}
+use Rattle.group_sight.specs.SightForms.{setsIn}
 use Rattle.table_engine.proofs.MasksOfSets.{masks-fit, masks-groups}
 use borrow.Author.Needs.{needs}
 use Rattle.table_engine.proofs.put_groups.Statement.{statement}

@@ -1,5 +1,4 @@
--- `table_engine::put_plainly` meets its contract: after i places their Sets have their masks, and stand in the chains
--- of
+-- `table_engine::put_plainly` meets its contract: after i places their Sets have their masks, and stand among those of
 -- their keys. Assumes nothing.
 use mathlib.Core.Path.{_≡_, refl, sym, ap, _∙_}
 use Prim.Native.Nat.{ℕ, _-_, _≤_}
@@ -10,9 +9,9 @@ use Rattle.math_lists.specs.NumbersBelow.{mask}
 use Rattle.edit_record.specs.Layout.{keys}
 use Rattle.edit_causal.specs.Conflict.{conflictsIn}
 use Rattle.edit_history.proofs.EditsInPlaces.{sets-length}
-use Rattle.group_limited.specs.LimitedForms.{setsIn}
-use Rattle.table_sets.specs.KeyForms.{LinkedTo}
-use Rattle.table_sets.proofs.MarksByKey.{linked-none}
+use Rattle.group_sight.specs.SightForms.{setsIn}
+use Rattle.table_sets.specs.MaskForms.{MaskedTo}
+use Rattle.table_sets.proofs.MarksByMask.{masked-none}
 use Rattle.table_sets.proofs.SetsTold.{tells-in-places}
 use Rattle.table_engine.specs.Enumeration.{mostDecided}
 use Rattle.table_engine.specs.EngineForms.{MaskedFirst}
@@ -22,17 +21,16 @@ use Rattle.table_engine.proofs.put_plainly.Statement.{statement}
 use Rattle.table_engine.proofs.put_plainly.Tie as tie
 
 abbrev Inv-loop : tie.InvT-loop
-Inv-loop recs places k masks₀ latest₀ earlier₀ tolds₀ i₀ masks latest earlier tolds i =
+Inv-loop recs places k masks₀ sets₀ tolds₀ i₀ masks sets tolds i =
     (i ≤ k)
     × (length masks ≡ length masks₀)
     × MaskedFirst i (setsIn recs places k) masks
-    × (length latest ≡ keys)
-    × (length earlier ≡ mostDecided)
+    × (length sets ≡ keys)
     × (length tolds ≡ mostDecided)
-    × LinkedTo recs places i latest earlier tolds
+    × MaskedTo recs places i sets tolds
 
 abbrev μ-loop : tie.MeasureT-loop
-μ-loop recs places k masks₀ latest₀ earlier₀ tolds₀ i₀ masks latest earlier tolds i = k - i
+μ-loop recs places k masks₀ sets₀ tolds₀ i₀ masks sets tolds i = k - i
 
 loop-holds : tie.Need-loop-holds Inv-loop μ-loop
 loop-holds c =
@@ -42,41 +40,36 @@ loop-holds c =
       λ i l. absurd (omega arith),
       refl,
       refl,
-      refl,
-      linked-none (now (a .recs)) (now (a .places)) _ _ _ (λ x l. getD-replicate keys x 0 0 l),
+      masked-none (now (a .recs)) (now (a .places)) _ _ (λ x l. getD-replicate keys x 0 0 l),
     )
 
-slice-aggregate-take-set : tie.Need-slice-aggregate-take-set Inv-loop μ-loop
-slice-aggregate-take-set c = search needs
+slice-aggregate-mark-set : tie.Need-slice-aggregate-mark-set Inv-loop μ-loop
+slice-aggregate-mark-set c = search needs
 
-slice-aggregate-take-set-2 : tie.Need-slice-aggregate-take-set-2 Inv-loop μ-loop
-slice-aggregate-take-set-2 c = search needs
+slice-aggregate-mark-set-2 : tie.Need-slice-aggregate-mark-set-2 Inv-loop μ-loop
+slice-aggregate-mark-set-2 c = search needs
 
-slice-aggregate-take-set-3 : tie.Need-slice-aggregate-take-set-3 Inv-loop μ-loop
-slice-aggregate-take-set-3 c = search needs
-
-take-set-requires : tie.Need-take-set-requires Inv-loop μ-loop
-take-set-requires c κs =
-    let l = c .before .before .before .before .loop in
-    let s = c .before .before .before .before .before .before .before .before in
+mark-set-requires : tie.Need-mark-set-requires Inv-loop μ-loop
+mark-set-requires c κs =
+    let l = c .before .before .before .loop in
+    let s = c .before .before .before .before .before .before .before in
     let a = s .args in (
       omega (arith, s .pre .1),
       omega (arith, s .pre .0),
       omega (arith, l .inv .3),
       omega (arith, l .inv .4, s .pre .1),
-      omega (arith, l .inv .5, s .pre .1),
-      l .inv .6,
+      l .inv .5,
       λ j m. tells-in-places (now (a .recs)) (now (a .places)) (a .k) (s .pre .0) (s .pre .4) (l .i) j (omega arith) m,
     )
 
 put-row-requires : tie.Need-put-row-requires Inv-loop μ-loop
 put-row-requires c κs =
-    let l = c .before .before .before .before .before .before .before .before .before .loop in
-    let s = c .before .before .before .before .before .before .before .before .before .before .before .before .before in
+    let l = c .before .before .before .before .before .before .before .loop in
+    let s = c .before .before .before .before .before .before .before .before .before .before .before in
     let a = s .args in (
       omega (arith, s .pre .1),
       omega (arith, l .inv .1, s .pre .2),
-      rw (c .before .before .before .before .take-set .ensures .0)
+      rw (c .before .before .before .mark-set .ensures .0)
           (row-small (now (a .recs)) (now (a .places)) (a .k) (s .pre .0) (s .pre .3) (l .i) (omega arith)),
     )
 
@@ -88,11 +81,11 @@ loop-less c = search needs
 
 loop-again : tie.Need-loop-again Inv-loop μ-loop
 loop-again c =
-    let l = c .before .before .before .before .before .before .before .before .before .before .before .before .loop in
+    let l = c .before .before .before .before .before .before .before .before .before .before .loop in
     let s = c .before .before .before .before .before .before .before .before .before .before .before .before
-    .before .before .before .before in
+    .before .before in
     let a = s .args in
-    let t = c .before .before .before .before .before .before .before .take-set in
+    let t = c .before .before .before .before .before .before .mark-set in
     let p = c .before .before .put-row in (
       omega arith,
       p .kept .0 ∙ l .inv .1,
@@ -100,7 +93,6 @@ loop-again c =
           (t .ensures .0) (l .masks) (p .last .0) (l .inv .2) (p .ensures .0) (p .ensures .1),
       t .kept .0 ∙ l .inv .3,
       t .kept .1 .0 ∙ l .inv .4,
-      t .kept .1 .1 .0 ∙ l .inv .5,
       t .ensures .1,
     )
 
@@ -124,10 +116,9 @@ put-plainly-spec =
     Inv-loop
     μ-loop
     loop-holds
-    slice-aggregate-take-set
-    slice-aggregate-take-set-2
-    slice-aggregate-take-set-3
-    take-set-requires
+    slice-aggregate-mark-set
+    slice-aggregate-mark-set-2
+    mark-set-requires
     put-row-requires
     add-i
     loop-less

@@ -1,6 +1,6 @@
 -- `table_index::survey_held` meets its contract. Assumes nothing.
 use mathlib.Core.Path.{_≡_, refl, sym, ap, ap₂, subst, _∙_}
-use mathlib.Core.Bool.{Bool, true, false, not, cond}
+use mathlib.Core.Bool.{Bool, not, cond}
 use Prim.Native.Nat.{ℕ}
 use lib.Dec.{eqb}
 use lib.ListN.{getD}
@@ -15,14 +15,10 @@ use Rattle.edit_history.specs.EditsHeld.{editsOf, setsOn}
 use Rattle.edit_walk.specs.WalkForms.{placeOf}
 use Rattle.table_index.specs.IndexForms.{numberAt, limitAt}
 use Rattle.table_index.specs.declared.Mates.{Mates}
+use Rattle.table_index.proofs.LookByIndex.{told}
 use Rattle.table_index.proofs.SurveyByIndex.{survey-found, Aimed, aimed}
 use Rattle.table_index.proofs.survey_held.Statement.{statement}
 use Rattle.table_index.proofs.survey_held.Tie as tie
-
--- an entry that is 0 or 1, by the test for 0
-told : (b : Bool) (n : ℕ) → n ≡ cond b 1 0 → not (eqb n 0) ≡ b
-told true n e = rw e
-told false n e = rw e
 
 abbrev start-of : tie.After-place-at → tie.Start
 start-of c =

@@ -8,7 +8,7 @@ use borrow.Author.Needs.{needs}
 use Rattle.edit_record.specs.declared.Edit.{Edit}
 use Rattle.edit_history.specs.EditsHeld.{recordAt}
 use Rattle.group_step.specs.GroupRows.{mostSets}
-use Rattle.group_limited.proofs.NamesOfSets.{names-there}
+use Rattle.group_sight.proofs.NamesOfSets.{names-there}
 use Rattle.table_kept.specs.BoxForms.{TellOf}
 use Rattle.table_kept.proofs.put_anew.Statement.{statement}
 use Rattle.table_kept.proofs.put_anew.Tie as tie

@@ -9,11 +9,8 @@ use borrow.Author.Needs.{needs}
 use Rattle.table_plain.proofs.enter.Statement.{statement}
 use Rattle.table_plain.proofs.enter.Tie as tie
 
-array-read-s : tie.Need-array-read-s
-array-read-s c = search needs
-
-slice-aggregate-pair-at : tie.Need-slice-aggregate-pair-at
-slice-aggregate-pair-at c = search needs
+shared-slice-read-s : tie.Need-shared-slice-read-s
+shared-slice-read-s c = search needs
 
 pair-at-requires : tie.Need-pair-at-requires
 pair-at-requires c κs = search needs
@@ -48,35 +45,24 @@ mul-places c = search needs
 slice-write-places : tie.Need-slice-write-places
 slice-write-places c = search needs
 
-put-plain-requires : tie.Need-put-plain-requires
-put-plain-requires c κs = search needs
-
 same-length : tie.Need-same-length
 same-length c = search needs
 
 same-length-2 : tie.Need-same-length-2
 same-length-2 c = search needs
 
-same-length-3 : tie.Need-same-length-3
-same-length-3 c = search needs
-
 returns : tie.Need-returns
 returns c =
-    let a = c .before .before .before .before .before .before .before .before .before .before .before .before .args in
-    let w = c .before .before .before .before in
-    let is = w .slot-of .ensures ∙ ap (slotOf (now (a .places)) (getD (a .t5) siteAt 0)) (w .before
-    .before .before .pair-at .ensures) in (
-      refl,
-      c .before .before .put-plain .ensures,
-      ap (λ (i : ℕ). set (now (a .places)) i (a .n)) is,
-    )
+    let a = c .before .before .before .before .before .before .before .before .args in
+    let is = c .slot-of .ensures
+    ∙ ap (slotOf (now (a .places)) (getD (now (a .rec)) siteAt 0)) (c .before .before .before .pair-at .ensures) in
+    (refl, ap (λ (i : ℕ). set (now (a .places)) i (a .n)) is)
 
 pub enter-spec : {M : Type 1} → statement M
 enter-spec =
     tie.close
     (tie.spec
-    array-read-s
-    slice-aggregate-pair-at
+    shared-slice-read-s
     pair-at-requires
     cast-own
     mul-held
@@ -88,8 +74,6 @@ enter-spec =
     cast-places
     mul-places
     slice-write-places
-    put-plain-requires
     same-length
     same-length-2
-    same-length-3
     returns)

@@ -2,6 +2,7 @@
 -- Assumes nothing.
 use mathlib.Core.Path.{_≡_, refl}
 use mathlib.Core.Bool.{false}
+use denote.Ref.{now}
 use borrow.Author.Tests.{eq-eqb, ne-eqb}
 use Rattle.math_lists.proofs.Booleans.{clash}
 use Rattle.edit_record.specs.Layout.{createKind, setKind}
@@ -11,17 +12,18 @@ use borrow.Author.Needs.{needs}
 use Rattle.table_plain.proofs.store.Statement.{statement}
 use Rattle.table_plain.proofs.store.Tie as tie
 
-array-read-kind : tie.Need-array-read-kind
-array-read-kind c = search needs
+shared-slice-read-kind : tie.Need-shared-slice-read-kind
+shared-slice-read-kind c = search needs
 
-array-read-key : tie.Need-array-read-key
-array-read-key c = search needs
+shared-slice-read-key : tie.Need-shared-slice-read-key
+shared-slice-read-key c = search needs
 
 store-set-requires : tie.Need-store-set-requires
 store-set-requires c κs =
-    let s = c .before .before .before .before .before .before .before .before .before .before .before in
-    let e = decodeOf (s .args .t8) in
-    (s .pre .0, s .pre .1 .of-set (eq-eqb (e .kind) setKind (c .before .before .before .before .before .if1 .taken)))
+    let k = c .before .before .before .before .before .before in
+    let s = k .before .before .before .before .before .before .before .before in
+    let e = decodeOf (now (s .args .rec)) in
+    (s .pre .0, s .pre .2 .of-set (eq-eqb (e .kind) setKind (k .if1 .taken)))
 
 same-length : tie.Need-same-length
 same-length c = search needs
@@ -40,32 +42,26 @@ same-length-5 c = search needs
 
 returns : tie.Need-returns
 returns c =
-    let s = c .before .before .before .before .before .before .before .before .before .before .before .before
-    .before .before .before .before .before .before .before .before .before .before in
-    let e = decodeOf (s .args .t8) in
-    let is = c .before .before .before .before .before .before .before .before .before .before .before .before
-    .before .before .before .before .if1 .taken in
+    let w = c .before .before .before .before .before .before .before .before .before .before in
+    let k = w .before .before .before .before .before .before .before in
+    let e = decodeOf (now (k .before .before .before .before .before .before .before .before .args .rec)) in
+    let is = k .if1 .taken in
     let set = eq-eqb (e .kind) setKind is in
     let other : isCreate e ≡ false = rw is refl in
     record {
-      of-set = λ k. c .before .before .before .before .before .before .before .before .before .before .store-set
-          .ensures;
-      no-set = λ k. clash set k;
-      of-create = λ k. clash k other;
-      of-layer = λ k l. clash set l;
+      of-set = λ y. w .store-set .ensures;
+      no-set = λ y. clash set y;
+      of-create = λ y. clash y other;
+      of-layer = λ y z. clash set z;
     }
 
 put-create-requires : tie.Need-put-create-requires
 put-create-requires c κs =
-    let s = c .before .before .before .before .before .before .before .before .before in
-    let e = decodeOf (s .args .t8) in
-    let x = s .pre .1 in (
-      s .pre .0,
-      x .of-create (eq-eqb (e .kind) createKind (c .before .before .if2 .taken)),
-      x .objects-long,
-      x
-          .numbers-long,
-    )
+    let k = c .before .before in
+    let s = k .before .before .before .before .before .before .before .before .before in
+    let e = decodeOf (now (s .args .rec)) in
+    let x = s .pre .2 in
+    (s .pre .0, x .of-create (eq-eqb (e .kind) createKind (k .if2 .taken)), x .objects-long, x .numbers-long)
 
 same-length-6 : tie.Need-same-length-6
 same-length-6 c = search needs
@@ -75,33 +71,33 @@ same-length-7 c = search needs
 
 returns-2 : tie.Need-returns-2
 returns-2 c =
-    let e = decodeOf (c .before .before .before .before .before .before .before .before .before .before .before
-    .before .before .before .args .t8) in
-    let create = eq-eqb (e .kind) createKind (c .before .before .before .before .before .before .before .if2 .taken) in
+    let w = c .before .before .before .before in
+    let k = w .before .before .before in
+    let e = decodeOf (now (k .before .before .before .before .before .before .before .before .before .args .rec)) in
+    let create = eq-eqb (e .kind) createKind (k .if2 .taken) in
     record {
-      of-set = λ k. clash k (ne-eqb (e .kind) setKind (c .before .before .before .before .before .before .before
-          .before .if1 .left));
-      no-set = λ k. (refl, refl, refl, refl);
-      of-create = λ k. c .before .before .before .before .put-create .ensures;
-      of-layer = λ k l. clash create k;
+      of-set = λ y. clash y (ne-eqb (e .kind) setKind (k .before .if1 .left));
+      no-set = λ y. (refl, refl, refl, refl);
+      of-create = λ y. w .put-create .ensures;
+      of-layer = λ y z. clash create y;
     }
 
 returns-3 : tie.Need-returns-3
 returns-3 c =
-    let e = decodeOf (c .before .before .before .before .before .before .before .args .t8) in
+    let e = decodeOf (now (c .before .before .before .before .before .before .before .before .before .args .rec)) in
     record {
-      of-set = λ k. clash k (ne-eqb (e .kind) setKind (c .before .if1 .left));
-      no-set = λ k. (refl, refl, refl, refl);
-      of-create = λ k. clash k (ne-eqb (e .kind) createKind (c .if2 .left));
-      of-layer = λ k l. (refl, refl);
+      of-set = λ y. clash y (ne-eqb (e .kind) setKind (c .before .if1 .left));
+      no-set = λ y. (refl, refl, refl, refl);
+      of-create = λ y. clash y (ne-eqb (e .kind) createKind (c .if2 .left));
+      of-layer = λ y z. (refl, refl);
     }
 
 pub store-spec : {M : Type 1} → statement M
 store-spec =
     tie.close
     (tie.spec
-    array-read-kind
-    array-read-key
+    shared-slice-read-kind
+    shared-slice-read-key
     store-set-requires
     same-length
     same-length-2

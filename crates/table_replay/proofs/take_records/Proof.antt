@@ -1,7 +1,7 @@
 -- `table_replay::take_records` meets its contract. Assumes nothing.
 use mathlib.Core.Path.{_≡_, refl, sym, ap, subst, _∙_}
-use mathlib.Core.List.{List, [], _∷_, _++_}
-use Prim.Native.Nat.{ℕ, _+_, _<_}
+use mathlib.Core.List.{List}
+use Prim.Native.Nat.{_+_, _<_}
 use native.Mathlib.Numerals.{add-one}
 use native.Mathlib.Omega.{arith}
 use lib.ListN.{length}
@@ -10,10 +10,9 @@ use Rattle.edit_record.specs.declared.Edit.{Edit}
 use Rattle.edit_record.specs.RecordBytes.{decodeOf}
 use Rattle.edit_form.specs.OldForm.{startOf}
 use Rattle.edit_form.proofs.Stretches.{next-start, next-inside}
-use Rattle.edit_history.specs.EditsHeld.{mostRecords, countFrom}
-use Rattle.table_drawing.specs.Tables.{Tables, heldBy}
+use Rattle.edit_history.specs.EditsHeld.{mostRecords}
+use Rattle.table_drawing.specs.Tables.{Tables}
 use Rattle.table_drawing.specs.AnswerNumbers.{numberOf}
-use Rattle.edit_walk.specs.WalkForms.{Spaced}
 use Rattle.edit_walk.proofs.RoomInIndex.{spaced-same}
 use Rattle.table_index.specs.IndexForms.{IndexOf}
 use Rattle.table_arrival.specs.Arrival.{acceptanceOf}
@@ -22,15 +21,15 @@ use Rattle.table_kept.specs.BoxForms.{KeptFor}
 use Rattle.table_given.proofs.ReplayGoes.{Going}
 use Rattle.table_given.proofs.ReplayGoes.{going-ends}
 use Rattle.table_replay.proofs.ShortOrLong.{short-took, long-takes}
-use Rattle.table_replay.proofs.ShortOrLong.{going-next, parts-after, kept-next, kept-after}
+use Rattle.table_replay.proofs.ShortOrLong.{going-next, parts-after, kept-after}
 use Rattle.table_replay.proofs.take_records.Proof.InTurn.{counted-in, Inv-loop, μ-loop}
-use Rattle.table_replay.proofs.take_records.Proof.InTurn.{start-of, round-of, short-of}
+use Rattle.table_replay.proofs.take_records.Proof.InTurn.{start-of, record-of, round-of, short-of}
 use Rattle.table_replay.proofs.take_records.Proof.InTurn.{call-of, left-of, recs-of}
 use Rattle.table_replay.proofs.take_records.Proof.InTurn.{form-of, given-of, tables-of}
-use Rattle.table_replay.proofs.take_records.Proof.InTurn.{inside, taken-is, lent-long}
+use Rattle.table_replay.proofs.take_records.Proof.InTurn.{inside, lent-long}
 use Rattle.table_replay.proofs.take_records.Proof.InTurn.{started, loop-long, call-long}
-use Rattle.table_replay.proofs.take_records.Proof.InTurn.{wide-at, takes, front-is}
-use Rattle.table_replay.proofs.take_records.Proof.InTurn.{stands-as, as-before, held-at}
+use Rattle.table_replay.proofs.take_records.Proof.InTurn.{wide-at, takes, takes-short}
+use Rattle.table_replay.proofs.take_records.Proof.InTurn.{rec-is, held-now, as-before, held-at}
 use Rattle.table_replay.proofs.take_records.Proof.InTurn.{long-left, long-outcome}
 use Rattle.table_replay.proofs.take_records.Statement.{statement}
 use Rattle.table_replay.proofs.take_records.Tie as tie
@@ -65,99 +64,97 @@ add-at c =
     (c .length-from .result) (c .length-from .ensures) in
     omega (arith, next, s .good)
 
-front-from-requires : tie.Need-front-from-requires Inv-loop μ-loop
-front-from-requires c κs = lent-long (c .before .before)
+widened-if-requires : tie.Need-widened-if-requires Inv-loop μ-loop
+widened-if-requires c κs = lent-long (c .before .before)
 
 slice-aggregate-long-in : tie.Need-slice-aggregate-long-in Inv-loop μ-loop
 slice-aggregate-long-in c = search needs
 
 long-in-requires : tie.Need-long-in-requires Inv-loop μ-loop
-long-in-requires c κs = (lent-long (c .before .before .before .before), c .before .front-from .ensures)
+long-in-requires c κs = (
+  lent-long (c .before .before .before .before),
+  c .before .before .length-from .ensures,
+  c .before .widened-if
+      .ensures,
+)
 
-slice-aggregate-take-plain : tie.Need-slice-aggregate-take-plain Inv-loop μ-loop
-slice-aggregate-take-plain c = sym (wide-at (c .before .before .before .before .before .before .before))
+slice-aggregate-take-short : tie.Need-slice-aggregate-take-short Inv-loop μ-loop
+slice-aggregate-take-short c = sym (wide-at (c .before .before .before .before .before .before .before))
 
-take-plain-requires : tie.Need-take-plain-requires Inv-loop μ-loop
-take-plain-requires c κs =
-    let q = c .before .before .before .before .before .before .before .before in
-    let f = q .before .before in
-    let r = f .before .before .before in
+take-short-requires : tie.Need-take-short-requires Inv-loop μ-loop
+take-short-requires c κs =
+    let q = c .before .before .before .before .before .before .before .before .before .before in
+    let r = q .before .before .before .before .before in
     let b = r .before in
-    let x = takes r in (
-      record {
-        isSound = x .isSound;
-        wide = x .wide;
-        index = x .index;
-        apart = x .apart;
-        few = omega (arith, r .loop-test .taken, start-of b .pre .4);
-        room =
-            λ plain. subst
-            (λ (y : List ℕ). Spaced (λ s. countFrom s (heldBy (tables-of b) ++ (decodeOf y ∷ []))) (b .loop .places))
-            (sym (front-is f plain))
-            (x .room);
-      },
-      stands-as q,
+    let l = b .loop in (
+      rw (rec-is q) (takes-short r),
+      subst (λ (es : List Edit). KeptFor es (l .names) (l .rows)) (sym (held-now b)) (l .inv .5),
     )
 
 add-i : tie.Need-add-i Inv-loop μ-loop
 add-i c =
-    let r = round-of (c .before .before .before .before .before .before .before .before .before .before
-    .before .before .before .before .before .before) in
+    let r = round-of (c .before .before .before .before .before .before .before .before .before .before .before
+    .before .before .before .before .before .before .before .before .before) in
     omega (arith, r .loop-test .taken, start-of (r .before) .pre .4)
 
 loop-less : tie.Need-loop-less Inv-loop μ-loop
 loop-less c = omega (
   arith,
-  round-of (c .before .before .before .before .before .before .before .before
-      .before .before .before .before .before .before .before .before) .loop-test .taken,
+  round-of (c .before .before .before .before .before .before .before .before .before
+      .before .before .before .before .before .before .before .before .before .before .before) .loop-test .taken,
 )
 
 loop-again : tie.Need-loop-again Inv-loop μ-loop
 loop-again c =
-    let p = c .before .before .before .before .before .before .before .before .before .before .before
-    .before .before .before .before .before in
+    let p = c .before .before .before .before .before .before .before .before .before .before .before .before
+    .before .before .before .before .before .before .before .before in
+    let q = record-of p in
     let r = round-of p in
     let b = r .before in
     let s = start-of b in
     let l = b .loop in
-    let w = p .before .before .before .before .before .before .before .before .before .before .before .before in
-    let lv = short-took (s .args .sites) (l .i) (tables-of b) _ _ _ _ _ _ _ _ _ _ _ _ _ _ _ _ (p .take-plain .ensures)
-    (c .if1 .taken) in
-    let is = front-is (p .before .before .before .before .before .before .before .before .before .before .before)
-    (p .take-plain .ensures .plain (c .if1 .taken)) in (
+    let w = q .before .before .before in
+    let lv = short-took (s .args .sites) (l .i) (tables-of b) _ _ _ _ _ _ _ _ _ _ _ _ _ _ _ _
+    (p .take-short .ensures .0) (c .if1 .taken) in (
       omega (arith, r .loop-test .taken),
       rw (add-one (l .i))
           (next-start (form-of b) (recs-of b) (l .i) (l .at) (l .inv .1) (w .length-from .result)
           (w .length-from .ensures)),
       going-next (s .args .sites) (given-of b) (s .pre .3) (l .i) _ (l .inv .2) _
-          (lv .outcome ∙ ap (acceptanceOf (tables-of b)) is),
+          (lv .outcome ∙ ap (acceptanceOf (tables-of b)) (rec-is q)),
       lv .index refl,
-      spaced-same (counted-in (form-of b) (recs-of b) (s .args .n)) _ _ (lv .starts refl) (lv .index refl .places-long)
+      spaced-same (counted-in (form-of b) (recs-of b) (s .args .n)) _ _ (lv .starts refl) (lv .index refl
+          .places-long)
           (l .inv .4),
-      kept-next (given-of b) (l .i) (l .names) (l .rows) (l .inv .5),
+      kept-after (given-of b) (l .i) _ _ _ _ (held-now b) (ap decodeOf (rec-is q))
+          (rw (c .if1 .taken) at (p .take-short .ensures .1)),
     )
 
-cast-t53 : tie.Need-cast-t53 Inv-loop μ-loop
-cast-t53 c =
-    let r = round-of (c .before .before .before .before .before .before .before .before .before .before
-    .before .before .before .before .before .before) in
+cast-t57 : tie.Need-cast-t57 Inv-loop μ-loop
+cast-t57 c =
+    let r = round-of (c .before .before .before .before .before .before .before .before .before .before .before
+    .before .before .before .before .before .before .before .before .before) in
     let few : r .before .loop .i < mostRecords = omega (arith, r .loop-test .taken, start-of (r .before) .pre .4) in
     search (needs, few)
 
-take-one-requires : tie.Need-take-one-requires Inv-loop μ-loop
-take-one-requires c κs =
-    let c9 = c .before .before .before .before .before .before .before .before .before in
-    let p = c9 .before .before .before .before .before .before .before .before .before .before .before .before
-    .before .before .before .before in
+take-next-requires : tie.Need-take-next-requires Inv-loop μ-loop
+take-next-requires c κs =
+    let i = c .before .before .before .before .before .before .before .before .before in
+    let p = i .before .before .before .before .before .before .before .before .before .before .before .before
+    .before .before .before .before .before .before .before .before in
     let r = round-of p in
     let b = r .before in
     let s = start-of b in
     let l = b .loop in (
-      rw (taken-is b)
-          (long-takes (s .args .sites) (l .i) (tables-of b) _ _ _ _ _ _ _ _ _ _ _ _ _ _ _ _ (p .take-plain .ensures)
-          (c9 .if1 .left) (given-of b (l .i)) (takes r)),
-      lent-long r,
-      subst (λ (es : List Edit). KeptFor es (l .names) (l .rows)) (sym (held-at p (c9 .if1 .left))) (l .inv .5),
+      rw (rec-is (record-of p))
+          (long-takes (s .args .sites) (l .i) (tables-of b) _ _ _ _ _ _ _ _ _ _ _ _ _ _ _ _
+          (p .take-short .ensures .0)
+          (i .if1 .left) (given-of b (l .i)) (takes r)),
+      subst
+          (λ (es : List Edit). KeptFor es (p .take-short .last .1 .1 .1 .1 .1 .1 .1 .1 .1 .1 .1 .1 .1 .0)
+          (p .take-short .last .1 .1 .1 .1 .1 .1 .1 .1 .1 .1 .1 .1 .0))
+          (held-now b ∙ sym (held-at p (i .if1 .left)))
+          (rw (i .if1 .left) at (p .take-short .ensures .1)),
     )
 
 number-requires : tie.Need-number-requires Inv-loop μ-loop
@@ -182,7 +179,7 @@ same-length-4 : tie.Need-same-length-4 Inv-loop μ-loop
 same-length-4 c =
     let m = call-of (c .before) in
     let b = round-of (short-of m) .before in
-    m .take-one .kept .1 .1 .1 .1 .0
+    m .take-next .kept .1 .1 .1 .1 .0
     ∙ ap length (as-before m .0)
     ∙ b .loop .inv .3 .places-long
     ∙ sym (start-of b .pre .1 .places-long)
@@ -191,7 +188,7 @@ same-length-5 : tie.Need-same-length-5 Inv-loop μ-loop
 same-length-5 c =
     let m = call-of (c .before) in
     let b = round-of (short-of m) .before in
-    m .take-one .kept .1 .1 .1 .1 .1 .0
+    m .take-next .kept .1 .1 .1 .1 .1 .0
     ∙ ap length (as-before m .1)
     ∙ b .loop .inv .3 .numbers-long
     ∙ sym (start-of b .pre .1 .numbers-long)
@@ -200,7 +197,7 @@ same-length-6 : tie.Need-same-length-6 Inv-loop μ-loop
 same-length-6 c =
     let m = call-of (c .before) in
     let b = round-of (short-of m) .before in
-    m .take-one .kept .1 .1 .1 .1 .1 .1 .0
+    m .take-next .kept .1 .1 .1 .1 .1 .1 .0
     ∙ ap length (as-before m .2)
     ∙ b .loop .inv .3 .counts-long
     ∙ sym (start-of b .pre .1 .counts-long)
@@ -209,7 +206,7 @@ same-length-7 : tie.Need-same-length-7 Inv-loop μ-loop
 same-length-7 c =
     let m = call-of (c .before) in
     let b = round-of (short-of m) .before in
-    m .take-one .kept .1 .1 .1 .1 .1 .1 .1 .0
+    m .take-next .kept .1 .1 .1 .1 .1 .1 .1 .0
     ∙ ap length (as-before m .3)
     ∙ b .loop .inv .3 .chained .chains-long
     ∙ sym (start-of b .pre .1 .chained .chains-long)
@@ -218,16 +215,16 @@ same-length-8 : tie.Need-same-length-8 Inv-loop μ-loop
 same-length-8 c =
     let m = call-of (c .before) in
     let b = round-of (short-of m) .before in
-    m .take-one .kept .1 .1 .1 .1 .1 .1 .1 .1 .0
-    ∙ b .loop .inv .5 .rows-long
+    m .take-next .kept .1 .1 .1 .1 .1 .1 .1 .1 .0
+    ∙ short-of m .take-short .ensures .1 .rows-long
     ∙ sym (start-of b .pre .6 .rows-long)
 
 same-length-9 : tie.Need-same-length-9 Inv-loop μ-loop
 same-length-9 c =
     let m = call-of (c .before) in
     let b = round-of (short-of m) .before in
-    m .take-one .kept .1 .1 .1 .1 .1 .1 .1 .1 .1 .0
-    ∙ b .loop .inv .5 .names-long
+    m .take-next .kept .1 .1 .1 .1 .1 .1 .1 .1 .1 .0
+    ∙ short-of m .take-short .ensures .1 .names-long
     ∙ sym (start-of b .pre .6 .names-long)
 
 returns : tie.Need-returns Inv-loop μ-loop
@@ -238,7 +235,7 @@ returns c =
     let s = start-of b in
     let l = b .loop in
     going-ends (s .args .sites) (given-of b) (s .pre .3) (l .i) _ (l .inv .2)
-    (numberOf (m .take-one .result .answer)) _ (long-outcome m)
+    (numberOf (m .take-next .result .answer)) _ (long-outcome m)
     (λ z. c .if2 .taken (c .before .number .ensures ∙ z))
     (s .args .n)
     (r .loop-test .taken)
@@ -255,14 +252,15 @@ loop-again-2 : tie.Need-loop-again-2 Inv-loop μ-loop
 loop-again-2 c =
     let d = c .before .before in
     let m = call-of d in
-    let k = m .take-one in
+    let k = m .take-next in
     let p = short-of m in
     let r = round-of p in
     let b = r .before in
     let s = start-of b in
     let l = b .loop in
-    let w = p .before .before .before .before .before .before .before .before .before .before .before .before in
-    let z : numberOf (m .take-one .result .answer) ≡ 0 = sym (d .number .ensures) ∙ c .before .if2 .left in
+    let q = record-of p in
+    let w = q .before .before .before in
+    let z : numberOf (m .take-next .result .answer) ≡ 0 = sym (d .number .ensures) ∙ c .before .if2 .left in
     let lv = long-left m in
     let ok = rw z at (long-outcome m) in
     let parts = parts-after (tables-of b) _ (given-of b (l .i)) ok in (
@@ -279,11 +277,11 @@ loop-again-2 c =
           (lv .index z),
       spaced-same (counted-in (form-of b) (recs-of b) (s .args .n)) _ _ (lv .starts z) (lv .index z .places-long)
           (l .inv .4),
-      kept-after (given-of b) (l .i) _ _ _ _ (held-at p (left-of m)) (ap decodeOf (taken-is b)) (k .ensures .1),
+      kept-after (given-of b) (l .i) _ _ _ _ (held-at p (left-of m)) (ap decodeOf (rec-is q)) (k .ensures .1),
     )
 
-cast-t74 : tie.Need-cast-t74 Inv-loop μ-loop
-cast-t74 c = search needs
+cast-t78 : tie.Need-cast-t78 Inv-loop μ-loop
+cast-t78 c = search needs
 
 same-length-10 : tie.Need-same-length-10 Inv-loop μ-loop
 same-length-10 c = loop-long (c .before) .0
@@ -331,16 +329,16 @@ take-records-spec =
     part-rest-end
     length-from-requires
     add-at
-    front-from-requires
+    widened-if-requires
     slice-aggregate-long-in
     long-in-requires
-    slice-aggregate-take-plain
-    take-plain-requires
+    slice-aggregate-take-short
+    take-short-requires
     add-i
     loop-less
     loop-again
-    cast-t53
-    take-one-requires
+    cast-t57
+    take-next-requires
     number-requires
     same-length
     same-length-2
@@ -355,7 +353,7 @@ take-records-spec =
     add-i-2
     loop-less-2
     loop-again-2
-    cast-t74
+    cast-t78
     same-length-10
     same-length-11
     same-length-12

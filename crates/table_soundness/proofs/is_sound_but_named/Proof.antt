@@ -1,93 +1,85 @@
--- `table_soundness::is_sound_but_named` meets its contract: what is gathered tells all but 16. Assumes nothing.
-use mathlib.Core.Path.{refl, sym}
-use native.Mathlib.Omega.{arith}
+-- `table_soundness::is_sound_but_named` meets its contract. Assumes nothing.
+use mathlib.Core.Bool.{true}
+use mathlib.Core.Path.{_≡_, refl, sym, _∙_}
 use denote.Ref.{now}
-use borrow.Author.Tests.{not-true, not-false}
-use borrow.Author.Needs.{needs}
+use borrow.Author.Tests.{not-true, not-false, leb-true}
 use Rattle.math_lists.proofs.Booleans.{clash}
-use Rattle.table_drawing.specs.Tables.{Tables, tablesOf}
-use Rattle.table_soundness.proofs.SoundTests.{few, few-sites, record-room, not-right}
+use Rattle.table_soundness.proofs.SoundTests.{wrong-lengths, past-limits, crowded}
+use Rattle.table_soundness.specs.Sound.{withinLimits}
+use Rattle.table_drawing.specs.Tables.{Tables, tablesOf, lengthsRight}
+use borrow.Author.Needs.{needs}
 use Rattle.table_soundness.proofs.is_sound_but_named.Statement.{statement}
 use Rattle.table_soundness.proofs.is_sound_but_named.Tie as tie
 
 abbrev tables-of : tie.Start → Tables
 tables-of s = tablesOf (s .args .c) (now (s .args .records)) (now (s .args .objects)) (now (s .args .groups))
 
-abbrev start-of : tie.After-gather → tie.Start
-start-of g = g .before .before .before .before .before .before .before .before .before .before
+-- ---- what is known once there is room enough
 
-cast-n : tie.Need-cast-n
-cast-n c = search needs
+abbrev start-of : tie.After-is-room-enough → tie.Start
+start-of x = x .before .before .before .before .before .before .before .before .before .before
 
-slice-aggregate-gather : tie.Need-slice-aggregate-gather
-slice-aggregate-gather c = search needs
+lengths-on : (x : tie.After-is-room-enough) →
+    let t = tables-of (start-of x) in lengthsRight (t .records) (t .objects) (t .groups) ≡ true
+lengths-on x =
+    let l = x .before .before .before .before .before .lengths-right in
+    sym (l .ensures) ∙ not-false (l .result) (x .before .before .before .before .if1 .left)
 
-slice-aggregate-gather-2 : tie.Need-slice-aggregate-gather-2
-slice-aggregate-gather-2 c = search needs
+limits-on : (x : tie.After-is-room-enough) → withinLimits (start-of x .args .c) ≡ true
+limits-on x =
+    let v = x .before .before .before .within-limits in
+    sym (v .ensures) ∙ not-false (v .result) (x .before .before .if2 .left)
 
-gather-requires : tie.Need-gather-requires
-gather-requires c κs =
-    let s = c .before .before .before .before .before .before .before .before .before in
-    let a = s .args in
-    let (n, _) = few (a .c) (s .pre .1) in
-    let long = record-room (now (a .records)) (now (a .objects)) (now (a .groups)) (s .pre .0) in
-    (few-sites (a .c) (s .pre .1), s .pre .2, n, omega (arith, long, n), s .pre .3, refl, refl)
+lengths-right-requires : tie.Need-lengths-right-requires
+lengths-right-requires c κs = search needs
+
+returns : tie.Need-returns
+returns c =
+    let l = c .before .lengths-right in
+    let t = tables-of (c .before .before .before .before .before .before) in
+    (sym (wrong-lengths t (sym (l .ensures) ∙ not-true (l .result) (c .if1 .taken))), λ y. clash y refl)
+
+within-limits-requires : tie.Need-within-limits-requires
+within-limits-requires c κs = search needs
+
+returns-2 : tie.Need-returns-2
+returns-2 c =
+    let w = c .before .within-limits in
+    let t = tables-of (c .before .before .before .before .before .before .before .before) in
+    (sym (past-limits t (sym (w .ensures) ∙ not-true (w .result) (c .if2 .taken))), λ y. clash y refl)
+
+is-room-enough-requires : tie.Need-is-room-enough-requires
+is-room-enough-requires c κs = search needs
+
+returns-3 : tie.Need-returns-3
+returns-3 c =
+    let w = c .before .is-room-enough in
+    let t = tables-of (start-of (c .before)) in
+    (sym (crowded t (sym (w .ensures) ∙ not-true (w .result) (c .if3 .taken))), λ y. clash y refl)
+
+is-sound-within-requires : tie.Need-is-sound-within-requires
+is-sound-within-requires c κs =
+    let x = c .before .before in
+    let r = x .is-room-enough in
+    let spread = leb-true _ _ (sym (r .ensures) ∙ not-false (r .result) (c .before .if3 .left)) in
+    (lengths-on x, limits-on x, spread, start-of x .pre)
 
 same-length : tie.Need-same-length
 same-length c = search needs
 
-returns : tie.Need-returns
-returns c =
-    let g = c .before .before .before .before .before .before in
-    let wrong = not-true (g .gather .result .right) (c .if1 .taken) in
-    record {
-      whole = sym (not-right (tables-of (start-of g)) (g .gather .result) _ _ _ (g .gather .ensures) wrong);
-      pass = λ h. clash h refl;
-      few = λ h. clash h refl;
-      indexed = λ h. clash h refl;
-    }
-
-slice-aggregate-rest-sound : tie.Need-slice-aggregate-rest-sound
-slice-aggregate-rest-sound c = search needs
-
-slice-aggregate-rest-sound-2 : tie.Need-slice-aggregate-rest-sound-2
-slice-aggregate-rest-sound-2 c = search needs
-
-rest-sound-requires : tie.Need-rest-sound-requires
-rest-sound-requires c κs =
-    let g = c .before .before .before .before .before .before .before .before in
-    record {
-      lengths = start-of g .pre .0;
-      limits = start-of g .pre .1;
-      gathered = g .gather .ensures .right (not-false (g .gather .result .right) (c .before .before .if1 .left));
-    }
-
-same-length-2 : tie.Need-same-length-2
-same-length-2 c = search needs
-
-returns-2 : tie.Need-returns-2
-returns-2 c =
-    let g = c .before .before .before .before .before .before .before .before .before .gather in
-    let ok = not-false (g .result .right) (c .before .before .before .if1 .left) in
-    record {
-      whole = c .rest-sound .ensures .0;
-      pass = λ h. g .ensures .right ok .pass;
-      few = c .rest-sound .ensures .1;
-      indexed = λ h. g .ensures .indexed ok;
-    }
+returns-4 : tie.Need-returns-4
+returns-4 c = search needs
 
 pub is-sound-but-named-spec : {M : Type 1} → statement M
 is-sound-but-named-spec =
     tie.close
     (tie.spec
-    cast-n
-    slice-aggregate-gather
-    slice-aggregate-gather-2
-    gather-requires
-    same-length
+    lengths-right-requires
     returns
-    slice-aggregate-rest-sound
-    slice-aggregate-rest-sound-2
-    rest-sound-requires
-    same-length-2
-    returns-2)
+    within-limits-requires
+    returns-2
+    is-room-enough-requires
+    returns-3
+    is-sound-within-requires
+    same-length
+    returns-4)

@@ -1,7 +1,7 @@
 -- `table_soundness::rest_sound` meets its contract. Assumes nothing.
 use denote.Ref.{now}
 use Rattle.table_drawing.specs.Tables.{tablesOf}
-use Rattle.table_soundness.proofs.SoundTests.{few, group-room, rest-is, rest-few}
+use Rattle.table_soundness.proofs.SoundTests.{few, group-room, rest-is}
 use borrow.Author.Needs.{needs}
 use Rattle.table_soundness.proofs.rest_sound.Statement.{statement}
 use Rattle.table_soundness.proofs.rest_sound.Tie as tie
@@ -44,7 +44,7 @@ returns c =
       s .pre .gathered .sum,
       c .before .before .before .before .counts-agree .ensures,
     )
-    (rest-is t _ _ _ (s .pre), rest-few t _ _ _ (s .pre))
+    (rest-is t _ _ _ (s .pre))
 
 pub rest-sound-spec : {M : Type 1} → statement M
 rest-sound-spec =

@@ -8,7 +8,7 @@ use lib.ListN.{length}
 use denote.Ref.{now}
 use Rattle.edit_walk.specs.WalkForms.{Indexed}
 use Rattle.group_named.specs.ChainForms.{TargetsHeld}
-use Rattle.group_named.proofs.SetsChained.{LinkedFrom, linked-none, linked-all, linked-with}
+use Rattle.group_named.proofs.SetsChained.{ByteLinkedFrom, linked-none, linked-all, linked-with}
 use borrow.Author.Needs.{needs}
 use Rattle.group_named.proofs.chain.chain_sets.Statement.{statement}
 use Rattle.group_named.proofs.chain.chain_sets.Tie as tie
@@ -17,16 +17,16 @@ abbrev Inv-loop : tie.InvT-loop
 Inv-loop chain₀ recs n places i₀ chain i =
     (i ≤ n)
     × (length chain ≡ length chain₀)
-    × (Indexed recs n places → TargetsHeld recs n → LinkedFrom recs n i chain)
+    × (Indexed recs n places → TargetsHeld recs n → ByteLinkedFrom recs n i chain)
 
 abbrev μ-loop : tie.MeasureT-loop
 μ-loop chain₀ recs n places i₀ chain i = i
 
 -- from the place before i
-before : (rs : List ℕ) (n i : ℕ) (ch : List ℕ) → 0 < i → LinkedFrom rs n i ch → LinkedFrom rs n ((i - 1) + 1) ch
+before : (rs : List ℕ) (n i : ℕ) (ch : List ℕ) → 0 < i → ByteLinkedFrom rs n i ch → ByteLinkedFrom rs n ((i - 1) + 1) ch
 before rs n i ch l h =
     let e : i ≡ (i - 1) + 1 = omega arith in
-    subst (λ (j : ℕ). LinkedFrom rs n j ch) e h
+    subst (λ (j : ℕ). ByteLinkedFrom rs n j ch) e h
 
 loop-holds : tie.Need-loop-holds Inv-loop μ-loop
 loop-holds c =
@@ -64,7 +64,7 @@ loop-again c =
     let some : 0 < l .i = c .before .before .before .before .loop-test .taken in (
       omega (arith, some),
       k .kept .0 ∙ l .inv .1,
-      λ index targets. subst (LinkedFrom rs (a .n) q) (sym (k .ensures))
+      λ index targets. subst (ByteLinkedFrom rs (a .n) q) (sym (k .ensures))
           (linked-with rs (now (a .places)) (a .n) index targets q (omega (arith, some)) (l .chain)
           (omega (arith, l .inv .1, s .pre .1)) (before rs (a .n) (l .i) (l .chain) some (l .inv .2 index targets))),
     )

@@ -8,7 +8,7 @@ use lib.ListN.{length, length-set}
 use denote.Ref.{now}
 use Rattle.group_step.specs.GroupRows.{mostSets}
 use Rattle.group_named.specs.ChainForms.{Follows}
-use Rattle.group_named.proofs.SetsGathered.{FollowedTo, goes-on, stops}
+use Rattle.group_named.proofs.SetsGathered.{ByteFollowedTo, goes-on, stops}
 use Rattle.group_named.proofs.SetsGathered.{followed-more, followed-end, followed-full}
 use borrow.Author.Needs.{needs}
 use Rattle.group_named.proofs.chain.gather_sets.Statement.{statement}
@@ -16,7 +16,7 @@ use Rattle.group_named.proofs.chain.gather_sets.Tie as tie
 
 abbrev Inv-loop : tie.InvT-loop
 Inv-loop out₀ chain p at₀ k₀ out at k =
-    (k ≤ mostSets) × (length out ≡ length out₀) × FollowedTo chain p k at out × (at < 256)
+    (k ≤ mostSets) × (length out ≡ length out₀) × ByteFollowedTo chain p k at out × (at < 256)
 
 abbrev μ-loop : tie.MeasureT-loop
 μ-loop out₀ chain p at₀ k₀ out at k = mostSets - k

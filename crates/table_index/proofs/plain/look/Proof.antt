@@ -1,15 +1,13 @@
 -- `table_index::plain::look` meets its contract. Assumes nothing.
 use mathlib.Core.Path.{_≡_, sym, refl, _∙_}
-use mathlib.Core.Bool.{true, false}
-use lib.Dec.{eqb}
+use mathlib.Core.Bool.{true}
 use denote.Ref.{now}
 use borrow.Author.Needs.{needs}
-use borrow.Author.Tests.{eq-eqb, ne-eqb, not-false}
-use Rattle.math_lists.proofs.Booleans.{clash, or-left, or-off}
+use borrow.Author.Tests.{not-false}
+use Rattle.math_lists.proofs.Booleans.{clash}
 use Rattle.edit_record.specs.declared.Edit.{Edit}
-use Rattle.edit_record.specs.Layout.{setKind, limitedKind}
 use Rattle.edit_record.specs.RecordBytes.{decodeOf}
-use Rattle.edit_record.specs.Answer1.{isSet, isLimited}
+use Rattle.edit_record.specs.Answer1.{isSet}
 use Rattle.edit_record.proofs.WellFormed.{set-not-create}
 use Rattle.edit_history.specs.EditsHeld.{editsOf}
 use Rattle.edit_history.specs.Answers2to5.{passes}
@@ -21,8 +19,8 @@ use Rattle.table_index.proofs.plain.look.Tie as tie
 
 abbrev start-of : tie.After-is-passing-with → tie.Start
 start-of c =
-    let c3 = c .before .before .before in
-    c3 .before .before .before .before .before .before .before .before
+    let c2 = c .before .before in
+    c2 .before .before .before .before .before .before .before .before
 
 abbrev e-of : tie.Start → Edit
 e-of s = decodeOf (now (s .args .rec))
@@ -44,77 +42,72 @@ passed c ok =
 shared-slice-read-kind : tie.Need-shared-slice-read-kind
 shared-slice-read-kind c = search needs
 
-no-set-requires : tie.Need-no-set-requires
-no-set-requires c κs = search needs
-
-returns : tie.Need-returns
-returns c ok = clash ok (c .no-set .ensures)
-
 is-all-seen-requires : tie.Need-is-all-seen-requires
 is-all-seen-requires c κs = search needs
 
 is-passing-with-requires : tie.Need-is-passing-with-requires
 is-passing-with-requires c κs = search needs
 
-no-set-requires-2 : tie.Need-no-set-requires-2
-no-set-requires-2 c κs = search needs
+no-set-requires : tie.Need-no-set-requires
+no-set-requires c κs = search needs
 
-returns-2 : tie.Need-returns-2
-returns-2 c ok = clash ok (c .no-set2 .ensures)
+returns : tie.Need-returns
+returns c ok = clash ok (c .no-set .ensures .0)
+
+is-set-kind-requires : tie.Need-is-set-kind-requires
+is-set-kind-requires c κs = search needs
 
 look-at-set-requires : tie.Need-look-at-set-requires
 look-at-set-requires c κs =
-    let c2 = c .before .before in
-    let s = start-of c2 in
+    let k = c .before in
+    let c3 = k .before .before in
+    let s = start-of c3 in
     let a = s .args in
     let e = e-of s in
-    let ok = not-false (c2 .is-passing-with .result) (c .before .if2 .left) in
-    let set : isSet e ≡ true = or-left (eqb (e .kind) setKind) (isLimited e) (eq-eqb (e .kind) setKind
-    (c .if3 .taken)) in (
+    let ok = not-false (c3 .is-passing-with .result) (k .before .if1 .left) in
+    let set : isSet e ≡ true = sym (k .is-set-kind .ensures) ∙ c .if2 .taken in (
       (
         countersOf (a .sites) (a .n) (a .m) (now (a .held)) 0,
         s .pre .0,
         refl,
         turn-of (a .sites) (now (a .held)) (now (a .recs)) (now (a .places)) e
-            (sym (c2 .is-passing-with .ensures) ∙ ok),
-        c2 .before .is-all-seen .ensures,
+            (sym (c3 .is-passing-with .ensures) ∙ ok),
+        c3 .before .is-all-seen .ensures,
       ),
       s .pre .1,
       s .pre .2,
       s .pre .3,
       set,
-      target-of (a .sites) (editsOf (now (a .recs)) (a .n)) e (passed c2 ok) set,
+      target-of (a .sites) (editsOf (now (a .recs)) (a .n)) e (passed c3 ok) set,
     )
+
+returns-2 : tie.Need-returns-2
+returns-2 c ok =
+    let k = c .before .before in
+    let c4 = k .before .before in
+    let e = e-of (start-of c4) in
+    let set : isSet e ≡ true = sym (k .is-set-kind .ensures) ∙ c .before .if2 .taken in
+    record {
+      pass = passed c4 (not-false (c4 .is-passing-with .result) (k .before .if1 .left));
+      create-room = λ y. clash y (set-not-create e set);
+      set = λ y. c .look-at-set .ensures ok;
+      no-other = λ y. set;
+    }
+
+no-set-requires-2 : tie.Need-no-set-requires-2
+no-set-requires-2 c κs = search needs
 
 returns-3 : tie.Need-returns-3
 returns-3 c ok =
-    let c3 = c .before .before .before in
-    let s = start-of c3 in
+    let k = c .before .before in
+    let c4 = k .before .before in
+    let s = start-of c4 in
     let e = e-of s in
-    let set : isSet e ≡ true
-    = or-left (eqb (e .kind) setKind) (isLimited e) (eq-eqb (e .kind) setKind (c .before .if3 .taken)) in
     record {
-      plain = ne-eqb (e .kind) limitedKind (c3 .before .before .if1 .left);
-      pass = passed c3 (not-false (c3 .is-passing-with .result) (c .before .before .if2 .left));
-      create-room = λ k. clash k (set-not-create e set);
-      set = λ k. c .look-at-set .ensures ok;
-    }
-
-no-set-requires-3 : tie.Need-no-set-requires-3
-no-set-requires-3 c κs = search needs
-
-returns-4 : tie.Need-returns-4
-returns-4 c ok =
-    let c3 = c .before .before .before in
-    let s = start-of c3 in
-    let e = e-of s in
-    let plain : isLimited e ≡ false = ne-eqb (e .kind) limitedKind (c3 .before .before .if1 .left) in
-    record {
-      plain = plain;
-      pass = passed c3 (not-false (c3 .is-passing-with .result) (c .before .before .if2 .left));
-      create-room = create-room-of e (s .args .m) (sym (c .no-set3 .ensures) ∙ ok);
-      set = λ k. clash k (or-off (eqb (e .kind) setKind) (isLimited e) (ne-eqb (e .kind) setKind (c
-          .before .if3 .left)) plain);
+      pass = passed c4 (not-false (c4 .is-passing-with .result) (k .before .if1 .left));
+      create-room = create-room-of e (s .args .m) (sym (c .no-set2 .ensures .0) ∙ ok);
+      set = λ y. clash y (sym (k .is-set-kind .ensures) ∙ c .before .if2 .left);
+      no-other = λ y. clash y (c .no-set2 .ensures .1);
     }
 
 pub look-spec : {M : Type 1} → statement M
@@ -122,13 +115,12 @@ look-spec =
     tie.close
     (tie.spec
     shared-slice-read-kind
-    no-set-requires
-    returns
     is-all-seen-requires
     is-passing-with-requires
-    no-set-requires-2
-    returns-2
+    no-set-requires
+    returns
+    is-set-kind-requires
     look-at-set-requires
-    returns-3
-    no-set-requires-3
-    returns-4)
+    returns-2
+    no-set-requires-2
+    returns-3)

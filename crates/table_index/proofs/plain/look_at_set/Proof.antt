@@ -1,16 +1,17 @@
 -- `table_index::plain::look_at_set` meets its contract. Assumes nothing.
-use mathlib.Core.Path.{_≡_, sym, ap, _∙_}
+use mathlib.Core.Path.{_≡_, ap, _∙_}
+use mathlib.Core.Bool.{not}
 use Prim.Native.Nat.{ℕ}
+use lib.Dec.{eqb}
 use lib.ListN.{getD}
 use denote.Ref.{now}
 use borrow.Author.Needs.{needs}
 use borrow.Author.Tests.{ltb-true}
-use Rattle.math_lists.proofs.Booleans.{clash}
 use Rattle.edit_record.specs.declared.Edit.{Edit}
 use Rattle.edit_record.specs.RecordBytes.{decodeOf}
 use Rattle.edit_walk.specs.WalkForms.{placeOf}
 use Rattle.table_index.specs.IndexForms.{marksOn}
-use Rattle.table_index.proofs.LookByIndex.{target, found-of}
+use Rattle.table_index.proofs.LookByIndex.{target, met-of}
 use Rattle.table_index.proofs.plain.look_at_set.Statement.{statement}
 use Rattle.table_index.proofs.plain.look_at_set.Tie as tie
 
@@ -62,15 +63,9 @@ add-byte-at c = search needs
 byte-at-requires-2 : tie.Need-byte-at-requires-2
 byte-at-requires-2 c κs = search needs
 
-no-set-requires : tie.Need-no-set-requires
-no-set-requires c κs = search needs
-
-returns : tie.Need-returns
-returns c ok = clash ok (c .no-set .ensures)
-
 marks-unless-requires : tie.Need-marks-unless-requires
 marks-unless-requires c κs =
-    let c4 = c .before .before .before .before in
+    let c4 = c .before .before .before in
     let s = start-of c4 in
     let a = s .args in
     let (d, h, count, turn, sees) = s .pre .0 in
@@ -87,22 +82,22 @@ marks-unless-requires c κs =
       s .pre .4,
     )
 
-returns-2 : tie.Need-returns-2
-returns-2 c ok =
-    let c2 = c .before .before in
-    let c3 = c2 .before in
-    let c5 = c3 .before .before in
-    let s = start-of c5 in
+returns : tie.Need-returns
+returns c ok =
+    let c1 = c .before in
+    let c2 = c1 .before in
+    let c4 = c2 .before .before in
+    let s = start-of c4 in
     let a = s .args in
     let (d, h, count, turn, sees) = s .pre .0 in
-    let is = place-is c5 in
-    found-of d (now (a .recs)) h (a .n) count (now (a .places)) (now (a .numbers)) (now (a .counts))
+    let is = place-is c4 in
+    met-of d (now (a .recs)) h (a .n) count (now (a .places)) (now (a .numbers)) (now (a .counts))
     (now (a .chains)) (s .pre .2) (e-of s) (s .pre .5) _
-    (c3 .before .byte-at .ensures ∙ ap (λ (i : ℕ). getD (now (a .numbers)) i 0) is)
-    (c3 .at16 .ensures)
-    (sym (c2 .byte-at2 .ensures) ∙ c .before .if1 .left)
+    (c2 .before .byte-at .ensures ∙ ap (λ (i : ℕ). getD (now (a .numbers)) i 0) is)
+    (c2 .at16 .ensures)
+    (ap (λ (k : ℕ). not (eqb k 0)) (c1 .byte-at2 .ensures))
     (c .marks-unless .ensures ∙ ap (λ (i : ℕ). marksOn (now (a .recs)) (a .n) i (e-of s)) is)
-    (ltb-true (c3 .at16 .result) _ ok)
+    (ltb-true (c2 .at16 .result) _ ok)
 
 pub look-at-set-spec : {M : Type 1} → statement M
 look-at-set-spec =
@@ -118,7 +113,5 @@ look-at-set-spec =
     cast-sets
     add-byte-at
     byte-at-requires-2
-    no-set-requires
-    returns
     marks-unless-requires
-    returns-2)
+    returns)

@@ -1,21 +1,18 @@
 -- One turn of the loop of `take_records`: the record that is taken, what taking it asks, and what it leaves either way.
 -- Assumes nothing.
-use mathlib.Core.Path.{_≡_, refl, sym, ap, _∙_}
+use mathlib.Core.Path.{_≡_, refl, sym, ap, subst, _∙_}
 use mathlib.Core.Bool.{false}
 use mathlib.Core.List.{List}
 use Prim.Native.Nat.{ℕ, _-_, _≤_}
-use lib.Dec.{lit<}
+use native.Mathlib.Omega.{arith}
 use lib.ListN.{length, take, drop, replicate}
-use lib.Seq.{getD-take}
 use denote.Ref.{now}
 use Rattle.table_arrival.proofs.Faithful.{faithful-apart}
 use borrow.Author.Needs.{needs}
-use Rattle.edit_record.specs.declared.Edit.{Edit}
-use Rattle.edit_record.specs.Layout.{mostSites, kindAt, recordLength}
-use Rattle.edit_record.specs.RecordBytes.{decodeOf}
-use Rattle.edit_record.specs.Answer1.{isLimited}
+use Rattle.edit_record.specs.Layout.{mostSites}
+use Rattle.edit_record.specs.RecordBytes.{spanOf}
 use Rattle.edit_form.specs.OldForm.{lengthFrom, longFrom, startOf, storedIn}
-use Rattle.edit_form.proofs.OldRecords.{front-plain}
+use Rattle.edit_form.proofs.OldRecords.{long-from-whole}
 use Rattle.edit_form.proofs.Stretches.{lent-is, start-inside, lent-there}
 use Rattle.edit_history.specs.EditsHeld.{editsOf, countFrom}
 use Rattle.table_drawing.specs.Tables.{Tables, tablesOf, heldBy}
@@ -25,7 +22,7 @@ use Rattle.table_index.specs.IndexForms.{IndexOf, countersOf}
 use Rattle.table_arrival.specs.Arrival.{acceptanceOf}
 use Rattle.table_given.specs.Replay.{editsIn}
 use Rattle.table_kept.specs.BoxForms.{KeptFor}
-use Rattle.table_plain.specs.TakingForms.{Takes, Leaves, StandsAs}
+use Rattle.table_plain.specs.TakingForms.{Takes, Leaves, TakesShort}
 use Rattle.table_given.proofs.OwnRecords.{holds, held-edits}
 use Rattle.table_given.proofs.ReplayGoes.{Going, RightlyLong, going-start, going-faithful, going-sound}
 use Rattle.table_given.proofs.ReplayGoes.{going-long, next-long}
@@ -57,24 +54,26 @@ abbrev pub μ-loop : tie.MeasureT-loop
 abbrev pub start-of : tie.At-loop Inv-loop μ-loop → tie.Start Inv-loop μ-loop
 start-of b = b .before .before .before .before .before .before .before .before .before .before .before
 
-abbrev pub round-of : tie.After-take-plain Inv-loop μ-loop → tie.In-loop Inv-loop μ-loop
-round-of p =
-    p .before .before .before .before .before .before .before .before .before .before .before .before .before .before
+abbrev pub record-of : tie.After-take-short Inv-loop μ-loop → tie.After-long-in Inv-loop μ-loop
+record-of p = p .before .before .before .before .before .before .before .before .before .before .before
 
-abbrev pub short-of : tie.After-take-one Inv-loop μ-loop → tie.After-take-plain Inv-loop μ-loop
+abbrev pub round-of : tie.After-take-short Inv-loop μ-loop → tie.In-loop Inv-loop μ-loop
+round-of p = record-of p .before .before .before .before .before
+
+abbrev pub short-of : tie.After-take-next Inv-loop μ-loop → tie.After-take-short Inv-loop μ-loop
 short-of m =
     let m10 = m .before .before .before .before .before .before .before .before .before .before in
-    m10 .before .before .before .before .before .before .before .before .before .before .before .before
-    .before .before .before .before
+    let m20 = m10 .before .before .before .before .before .before .before .before .before .before in
+    m20 .before .before .before .before .before .before .before .before .before .before
 
-abbrev pub call-of : tie.After-number Inv-loop μ-loop → tie.After-take-one Inv-loop μ-loop
+abbrev pub call-of : tie.After-number Inv-loop μ-loop → tie.After-take-next Inv-loop μ-loop
 call-of d =
     let d10 = d .before .before .before .before .before .before .before .before .before .before in
     d10 .before .before .before .before .before .before .before .before .before .before
 
 -- it was left to the long way
 abbrev pub left-of :
-    (m : tie.After-take-one Inv-loop μ-loop) → short-of m .take-plain .result .ok ≡ false
+    (m : tie.After-take-next Inv-loop μ-loop) → short-of m .take-short .result .ok ≡ false
 left-of m = m .before .before .before .before .before .before .before .before .before .before .if1 .left
 
 -- the stretch, its form and its records, and the tables at the start and where the loop stands
@@ -124,9 +123,6 @@ abbrev pub rest-of : tie.In-loop Inv-loop μ-loop → List ℕ
 rest-of r =
     let b = r .before in
     take (length (recs-of b) - b .loop .at) (drop (b .loop .at) (recs-of b))
-
-abbrev pub long-of : tie.In-loop Inv-loop μ-loop → List ℕ
-long-of r = longFrom (form-of (r .before)) (rest-of r)
 
 pub lent-long : (r : tie.In-loop Inv-loop μ-loop) → lengthFrom (form-of (r .before)) (rest-of r) ≤ length (rest-of r)
 lent-long r =
@@ -195,63 +191,70 @@ takes r =
           (l .inv .2) (l .places) (l .inv .4);
     }
 
--- the short way is given all of it, unless it is limited
-pub front-is :
-    (c : tie.After-front-from Inv-loop μ-loop) → isLimited (decodeOf (c .front-from .result)) ≡ false →
-    (let b = c .before .before .before .before in
-    c .front-from .result ≡ given-of b (b .loop .i))
-front-is c plain =
-    let r = c .before .before .before in
-    let is = c .front-from .ensures in
-    let own = rw (getD-take recordLength (long-of r) kindAt 0 (lit< tt)) at (rw is at plain) in
-    is ∙ front-plain (form-of (r .before)) (rest-of r) (lent-long r) own ∙ taken-is (r .before)
+-- what is taken is the stretch's record
+pub rec-is :
+    (q : tie.After-long-in Inv-loop μ-loop) →
+    (let b = q .before .before .before .before .before .before in
+    now (q .long-in .result) ≡ given-of b (b .loop .i))
+rec-is q = q .long-in .ensures ∙ taken-is (q .before .before .before .before .before .before)
 
--- and is told the same where it stands
-pub stands-as :
-    (c : tie.After-long-in Inv-loop μ-loop) →
-    StandsAs (now (c .long-in .result)) (c .before .before .front-from .result)
-stands-as c =
-    let f = c .before .before in
-    let r = f .before .before .before in
-    let told = c .long-in .ensures .1 in (
-      c .long-in .ensures .0,
-      λ plain. told
-          ∙ ap decodeOf (sym (f .front-from .ensures ∙ front-plain (form-of (r .before)) (rest-of r) (lent-long r)
-          (ap (λ (e : Edit). isLimited e) (sym told) ∙ plain))),
-    )
+-- and the short way is given all that it asks
+pub takes-short :
+    (r : tie.In-loop Inv-loop μ-loop) →
+    (let b = r .before in
+    let l = b .loop in
+    TakesShort (tables-of b) (l .places) (l .numbers) (l .counts) (l .chains) (given-of b (l .i)))
+takes-short r =
+    let b = r .before in
+    record {
+      takes = takes r;
+      few = omega (arith, r .loop-test .taken, start-of b .pre .4);
+      whole =
+          subst (λ (y : List ℕ). length y ≡ spanOf y) (taken-is b)
+          (long-from-whole (form-of b) (rest-of r) (lent-long r));
+    }
+
+-- the edits held are the stretch's
+pub held-now :
+    (b : tie.At-loop Inv-loop μ-loop) →
+    editsOf (b .loop .records) (b .loop .i) ≡ editsIn (given-of b) (b .loop .i)
+held-now b =
+    let s = start-of b in
+    let l = b .loop in
+    held-edits (s .args .sites) (given-of b) (l .i) (tables-of b)
+    (holds (s .args .sites) (given-of b) (s .pre .3) (l .i) (tables-of b) (l .inv .2))
 
 -- where it goes the long way, the index is as it was
 pub as-before :
-    (m : tie.After-take-one Inv-loop μ-loop) →
+    (m : tie.After-take-next Inv-loop μ-loop) →
     (let p = short-of m in
     let l = round-of p .before .loop in
-    let k = p .take-plain in
+    let k = p .take-short in
     (k .last .1 .1 .1 .1 .1 .1 .1 .1 .0 ≡ l .places)
     × (k .last .1 .1 .1 .1 .1 .1 .1 .1 .1 .0 ≡ l .numbers)
     × (k .last .1 .1 .1 .1 .1 .1 .1 .1 .1 .1 .0 ≡ l .counts)
     × (k .last .1 .1 .1 .1 .1 .1 .1 .1 .1 .1 .1 .0 ≡ l .chains))
-as-before m = short-of m .take-plain .ensures .index (left-of m)
+as-before m = short-of m .take-short .ensures .0 .index (left-of m)
 
 -- and the same edits are held
 pub held-at :
-    (p : tie.After-take-plain Inv-loop μ-loop) → p .take-plain .result .ok ≡ false →
+    (p : tie.After-take-short Inv-loop μ-loop) → p .take-short .result .ok ≡ false →
     (let b = round-of p .before in
-    editsOf (p .take-plain .last .1 .1 .1 .1 .1 .0) (b .loop .i) ≡ editsIn (given-of b) (b .loop .i))
+    editsOf (p .take-short .last .1 .1 .1 .1 .1 .0) (b .loop .i) ≡ editsIn (given-of b) (b .loop .i))
 held-at p left =
     let b = round-of p .before in
     let s = start-of b in
     let l = b .loop in
-    ap heldBy (short-kept (s .args .sites) (l .i) (tables-of b) _ _ _ _ _ _ _ _ _ _ _ _ _ _ _ _ (p .take-plain .ensures)
-    left)
-    ∙ held-edits (s .args .sites) (given-of b) (l .i) (tables-of b)
-    (holds (s .args .sites) (given-of b) (s .pre .3) (l .i) (tables-of b) (l .inv .2))
+    ap heldBy (short-kept (s .args .sites) (l .i) (tables-of b) _ _ _ _ _ _ _ _ _ _ _ _ _ _ _ _
+    (p .take-short .ensures .0) left)
+    ∙ held-now b
 
 -- what the long way leaves
 pub long-left :
-    (m : tie.After-take-one Inv-loop μ-loop) →
+    (m : tie.After-take-next Inv-loop μ-loop) →
     (let b = round-of (short-of m) .before in
     let l = b .loop in
-    let k = m .take-one in
+    let k = m .take-next in
     Leaves (tables-of b) (given-of b (l .i)) (numberOf (k .result .answer))
     (tablesOf (k .result .counters) (k .last .1 .0) (k .last .1 .1 .0) (k .last .1 .1 .1 .0)) (l .places)
     (k .last .1 .1 .1 .1 .0) (k .last .1 .1 .1 .1 .1 .0) (k .last .1 .1 .1 .1 .1 .1 .0)
@@ -261,13 +264,13 @@ long-left m =
     let b = round-of p .before in
     let s = start-of b in
     let l = b .loop in
-    long-leaves (s .args .sites) (l .i) (tables-of b) _ _ _ _ _ _ _ _ _ _ _ _ _ _ _ _ (p .take-plain .ensures)
-    (left-of m) (given-of b (l .i)) _ _ _ _ _ _ (rw (taken-is b) at (m .take-one .ensures .0))
+    long-leaves (s .args .sites) (l .i) (tables-of b) _ _ _ _ _ _ _ _ _ _ _ _ _ _ _ _ (p .take-short .ensures .0)
+    (left-of m) (given-of b (l .i)) _ _ _ _ _ _ (rw (rec-is (record-of p)) at (m .take-next .ensures .0))
 
 pub long-outcome :
-    (m : tie.After-take-one Inv-loop μ-loop) →
+    (m : tie.After-take-next Inv-loop μ-loop) →
     (let b = round-of (short-of m) .before in
-    let k = m .take-one in
+    let k = m .take-next in
     outcomeOf (numberOf (k .result .answer))
     (tablesOf (k .result .counters) (k .last .1 .0) (k .last .1 .1 .0) (k .last .1 .1 .1 .0))
     ≡ acceptanceOf (tables-of b) (given-of b (b .loop .i)))

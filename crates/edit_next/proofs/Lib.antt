@@ -1,0 +1,2 @@
+pub mod NextDecides
+pub mod AllSeen

@@ -1,0 +1,2 @@
+pub mod StepApart
+pub mod StepCovered

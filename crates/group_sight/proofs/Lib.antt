@@ -1,0 +1,5 @@
+pub mod OneMoreTaken
+pub mod NamesOfSets
+pub mod FoesConflict
+pub mod SeenThrough
+pub mod MarksOfSets
