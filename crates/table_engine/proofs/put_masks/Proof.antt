@@ -1,9 +1,17 @@
 -- `table_engine::put_masks` meets its contract. Assumes nothing.
-use mathlib.Core.Path.{sym, subst, _∙_}
+use mathlib.Core.Path.{_≡_, sym, subst, _∙_}
+use mathlib.Core.Bool.{false}
 use mathlib.Core.List.{List}
+use Prim.Native.Nat.{_≤_}
 use native.Mathlib.Omega.{arith}
+use lib.ListN.{length}
 use denote.Ref.{now}
+use Rattle.math_lists.specs.SortedLists.{Asc, any}
 use Rattle.edit_record.specs.declared.Edit.{Edit}
+use Rattle.edit_record.specs.Answer1.{isLimited}
+use Rattle.group_sight.specs.SightForms.{setsIn}
+use Rattle.table_sets.specs.KeyForms.{Tells}
+use Rattle.table_engine.specs.Enumeration.{mostDecided}
 use Rattle.table_engine.specs.EngineForms.{MasksTell}
 use Rattle.table_engine.proofs.BoxPrepared.{few-of, told-of}
 use borrow.Author.Needs.{needs}
@@ -47,18 +55,30 @@ cast-are-all-named c = search needs
 are-all-named-requires : tie.Need-are-all-named-requires
 are-all-named-requires c κs = search needs
 
-put-plainly-requires : tie.Need-put-plainly-requires
-put-plainly-requires c κs =
-    let x = c .before .before .before .before .before .before .before in
+-- what `put_plainly` asks, where no Set is limited and they are few enough
+asked : (y : tie.After-are-all-named) →
+    let a = y .before .before .before .before .before .before .before .before .before .before .args in
+    let sets = setsIn (now (a .recs)) (now (a .members)) (a .k) in
+    a .k ≤ mostDecided →
+    (a .k ≤ length (now (a .members)))
+    × (a .k ≤ mostDecided)
+    × (a .k ≤ length (now (a .masks)))
+    × (any isLimited sets ≡ false)
+    × Asc Tells sets
+asked y few =
+    let x = y .before .before .before .before in
     let s = x .before .before .before .before .before .before in
     let a = s .args in
-    let few = few-of (a .c) (now (a .recs)) (now (a .index)) (a .p) (a .k) (s .pre .0) in (
-      omega (arith, few, s .pre .1),
-      omega arith,
-      omega (arith, s .pre .2),
-      sym (x .is-any-limited .ensures) ∙ c .before .before .before .before .before .if2 .left,
+    let most = few-of (a .c) (now (a .recs)) (now (a .index)) (a .p) (a .k) (s .pre .0) in (
+      omega (arith, most, s .pre .1),
+      few,
+      omega (arith, few, s .pre .2),
+      sym (x .is-any-limited .ensures) ∙ y .before .before .if2 .left,
       told-of (a .c) (now (a .recs)) (now (a .index)) (a .p) (a .k) (s .pre .0) (now (a .members)) (s .pre .3),
     )
+
+put-plainly-requires : tie.Need-put-plainly-requires
+put-plainly-requires c κs = asked (c .before .before .before) (omega arith)
 
 same-length-5 : tie.Need-same-length-5
 same-length-5 c = search needs
@@ -80,17 +100,7 @@ returns-3 c =
     }
 
 put-plainly-requires-2 : tie.Need-put-plainly-requires-2
-put-plainly-requires-2 c κs =
-    let x = c .before .before .before .before .before .before .before .before in
-    let s = x .before .before .before .before .before .before in
-    let a = s .args in
-    let few = few-of (a .c) (now (a .recs)) (now (a .index)) (a .p) (a .k) (s .pre .0) in (
-      omega (arith, few, s .pre .1),
-      omega arith,
-      omega (arith, s .pre .2),
-      sym (x .is-any-limited .ensures) ∙ c .before .before .before .before .before .before .if2 .left,
-      told-of (a .c) (now (a .recs)) (now (a .index)) (a .p) (a .k) (s .pre .0) (now (a .members)) (s .pre .3),
-    )
+put-plainly-requires-2 c κs = asked (c .before .before .before .before) (omega arith)
 
 same-length-7 : tie.Need-same-length-7
 same-length-7 c = search needs
