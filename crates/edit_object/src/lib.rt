@@ -13,13 +13,15 @@ use edit_record::Seq;
 use edit_record::Site;
 use edit_record::is_set_kind;
 ghost use mathlib.Core.Path.{_≡_};
+ghost use mathlib.Core.Bool.{_&&_};
 ghost use mathlib.Core.List.{map};
 ghost use Prim.Native.Nat.{_≤_, _<_};
+ghost use lib.Dec.{ltb};
 ghost use lib.ListN.{length, take};
 ghost use Rattle.edit_record.specs.Layout.{recordLength};
 ghost use Rattle.edit_record.specs.RecordBytes.{decodeOf};
 ghost use Rattle.edit_history.specs.EditsHeld.{mostRecords, recordAt, editsOf, isSetOn, setsOn};
-ghost use Rattle.edit_object.specs.CreateHeld.{isCreateOf, isHeld};
+ghost use Rattle.edit_object.specs.CreateHeld.{isCreateOf};
 
 // Whether the record in place p is the Create s.q; only the bytes that tell it are read, where they stand.
 fn is_create_at(recs: &[u8], p: usize, s: Site, q: Seq) -> bool
@@ -33,18 +35,15 @@ fn is_create_at(recs: &[u8], p: usize, s: Site, q: Seq) -> bool
     (kind == CREATE) & is_same(Site(site), Seq(seq), s, q)
 }
 
-// Whether one of the first n records is the Create s.q.
-pub fn is_create_held(recs: &[u8], n: usize, s: Site, q: Seq) -> bool
+// Whether it is, and stands among the first n.
+pub fn is_create_in(recs: &[u8], n: usize, p: usize, s: Site, q: Seq) -> bool
     requires { ⌜ n ≤ mostRecords ⌝ }
-    ensures { λ r. ⌜ r ≡ isHeld (editsOf (now (recs .entry)) n) s q ⌝ }
+    ensures { λ r. ⌜ r ≡ (ltb p n && isCreateOf s q (recordAt (now (recs .entry)) p)) ⌝ }
 {
-    let mut held = false;
-    let mut i: usize = 0;
-    while i < n {
-        held = held | is_create_at(recs, i, s, q);
-        i += 1;
+    if n <= p {
+        return false;
     }
-    held
+    is_create_at(recs, p, s, q)
 }
 
 // Whether a record that is there whole is a Set on the Create s.q; only the bytes that tell it are read.
