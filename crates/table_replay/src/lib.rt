@@ -1,5 +1,7 @@
 // Records taken one after another from an empty drawing.
+use edit_form::OLD;
 use edit_history::RECORDS;
+use edit_record::RECORD;
 use edit_record::SITES;
 use edit_walk::PLACES;
 use group_kept::ROWS;
@@ -81,6 +83,8 @@ fn take_records(
         ≡ replayOf sites (storedIn form (now (recs .entry))) n ⌝ }
 {
     let mut held = [0u16; SITES];
+    // an old record is put here as a long one; to put zeros here for each long one took a sixth of the time
+    let mut wide = [0u8; RECORD];
     let mut m: u16 = 0;
     let mut sum: u32 = 0;
     let mut at: usize = 0;
@@ -89,7 +93,10 @@ fn take_records(
         let rest = &recs[at..];
         let used = edit_form::length_from(rest, form);
         at = at + used;
-        let wide = edit_form::widened_if(rest, form);
+        if form == OLD {
+            let next = edit_form::widened_from(rest);
+            wide = next;
+        }
         let rec = edit_form::long_in(rest, form, used, &wide);
         let t = table_next::short::take_short(
             sites,
