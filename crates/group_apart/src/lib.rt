@@ -26,8 +26,9 @@ pub fn step_apart(gs: &mut [u64], n: usize, m: u64, k: usize) -> usize
         ⌜ (r ≡ length (step m k (take n (now (gs .entry)))))
         × (now (gs .exit) ≡ settled (step m k (take n (now (gs .entry)))) (now (gs .entry))) ⌝ }
 {
-    if !gaining::are_compatible(gs, n, m) {
-        return covered::step_split(gs, n, m, k);
+    let t = group_step::count_staying(gs, n, m);
+    if 0 < t {
+        return covered::step_split(gs, n, m, k, t);
     }
     gaining::gain(gs, n, k);
     n

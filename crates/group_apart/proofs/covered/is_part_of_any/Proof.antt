@@ -1,22 +1,21 @@
--- `group_apart::covered::seek` meets its contract: x is part of none of the numbers passed, so those left decide.
--- Assumes nothing.
+-- `group_apart::covered::is_part_of_any` meets its contract: x is part of none of the numbers passed, so those left
+-- decide. Assumes nothing.
 use mathlib.Core.Path.{_≡_, refl, sym, _∙_}
 use Prim.Native.Nat.{_-_, _≤_}
 use native.Mathlib.Omega.{arith}
 use borrow.Author.Needs.{needs}
-use borrow.Author.Tests.{lt-ltb, le-ltb}
 use lib.Seq.{slice}
 use Rattle.math_lists.specs.SortedLists.{any}
 use Rattle.group_step.specs.StepForms.{partOf}
 use Rattle.group_step.proofs.LoopTurns.{found, not-yet, none-found}
-use Rattle.group_apart.proofs.covered.seek.Statement.{statement}
-use Rattle.group_apart.proofs.covered.seek.Tie as tie
+use Rattle.group_apart.proofs.covered.is_part_of_any.Statement.{statement}
+use Rattle.group_apart.proofs.covered.is_part_of_any.Tie as tie
 
 abbrev Inv-loop : tie.InvT-loop
-Inv-loop s i n x j₀ j = (j ≤ n) × (any (partOf x) (slice i n s) ≡ any (partOf x) (slice j n s))
+Inv-loop s t n x j₀ j = (j ≤ n) × (any (partOf x) (slice t n s) ≡ any (partOf x) (slice j n s))
 
 abbrev μ-loop : tie.MeasureT-loop
-μ-loop s i n x j₀ j = n - j
+μ-loop s t n x j₀ j = n - j
 
 loop-holds : tie.Need-loop-holds Inv-loop μ-loop
 loop-holds c = (search needs, refl)
@@ -34,11 +33,8 @@ returns : tie.Need-returns Inv-loop μ-loop
 returns c =
     let l = c .before .before .before .before .loop in
     let a = c .before .before .before .before .before .before .args in
-    let e = sym (c .before .is-part .ensures) ∙ c .if1 .taken in (
-      omega arith,
-      lt-ltb (l .j) (a .n) (omega arith)
-          ∙ found (partOf (a .x)) _ (a .s .now) (l .j) (a .n) (l .inv .1) (omega arith) (omega arith) e,
-    )
+    let e = sym (c .before .is-part .ensures) ∙ c .if1 .taken in
+    found (partOf (a .x)) _ (a .s .now) (l .j) (a .n) (l .inv .1) (omega arith) (omega arith) e
 
 add-j : tie.Need-add-j Inv-loop μ-loop
 add-j c = search needs
@@ -56,14 +52,11 @@ loop-again c =
 returns-2 : tie.Need-returns-2 Inv-loop μ-loop
 returns-2 c =
     let l = c .before .loop in
-    let a = c .before .before .before .args in (
-      omega arith,
-      le-ltb (a .n) (a .n) (omega arith)
-          ∙ none-found (partOf (a .x)) _ (a .s .now) (l .j) (a .n) (l .inv .1) (omega arith) (omega arith),
-    )
+    let a = c .before .before .before .args in
+    none-found (partOf (a .x)) _ (a .s .now) (l .j) (a .n) (l .inv .1) (omega arith) (omega arith)
 
-pub seek-spec : {M : Type 1} → statement M
-seek-spec =
+pub is-part-of-any-spec : {M : Type 1} → statement M
+is-part-of-any-spec =
     tie.close
     (tie.spec
     Inv-loop
