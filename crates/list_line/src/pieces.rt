@@ -1,7 +1,7 @@
 // Pieces of lines that are kept from line to line, since the lines of an object have most of them in common: a setting
-// of each key, and the names of the Sets in dispute. The names are formed once for all lines of the object; a setting is
-// formed anew only where the last one in its place was told by another number. A piece is copied whole, with what stands
-// behind it: that is written over next.
+// of each key, and the names of the Sets in dispute. The names are formed once for all lines of the object; a setting
+// is formed anew only where the last one in its place was told by another number. A piece is copied whole, with what
+// stands behind it: that is written over next.
 use edit_causal::shown;
 use edit_record::VALUES;
 use group_step::SETS;

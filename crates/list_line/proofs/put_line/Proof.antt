@@ -54,7 +54,8 @@ returns c =
     let third = set .put-settings .ensures in
     let last = c .before .before .put-byte .ensures in
     let disputes = take (a .d) (a .disputes .now) in
-    let few : length disputes ≤ mostSets = omega (arith, start .pre .1, length-take-le (a .d) (a .disputes .now) (start .pre .0)) in (
+    let few : length disputes ≤ mostSets
+    = omega (arith, start .pre .1, length-take-le (a .d) (a .disputes .now) (start .pre .0)) in (
       four [] (dotted (a .site) (a .seq)) (space ∷ identifierText (identifierBy disputes (a .g)))
           (settingsBy _ (a .g) keys) (newline ∷ []) (first .0) (second .0) (third .0) (last .0),
       omega (arith, first .1, second .1, third .1, last .1),

@@ -56,8 +56,8 @@ returns c =
     f .kept .0
     ∙ mid-len at (at + pieceLength) (a .texts .now) (omega (arith, long))
     ∙ omega arith in
-    name-more (a .texts .now) (f .last .0) j (omega (arith, low)) long whole (a .lens .now) (f .result) many (a .i) (a .x)
-    refl (f .ensures .0) (f .ensures .1)
+    name-more (a .texts .now) (f .last .0) j (omega (arith, low)) long whole (a .lens .now) (f .result) many (a .i)
+    (a .x) refl (f .ensures .0) (f .ensures .1)
 
 pub put-name-spec : {M : Type 1} → statement M
 put-name-spec =

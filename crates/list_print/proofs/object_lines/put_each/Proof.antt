@@ -49,7 +49,8 @@ put-version-requires c κs =
     let looped = here .before .before in
     let l = looped .loop in
     let named = looped .before .before .before .before .before in
-    let p = named .before .before .before .before .before .before .before .before .before .before .before .before .pre in (
+    let s6 = named .before .before .before .before .before .before in
+    let p = s6 .before .before .before .before .before .before .pre in (
       p .0,
       omega (arith, here .if1 .taken, p .1),
       omega (arith, here .if1 .taken, p .1, p .2, l .inv .5 .end, l .inv .5 .few),
@@ -63,7 +64,8 @@ add-v c =
     let put = c .before .before .before .before .before .before .before .before .before .before in
     let here = put .before .before .before .before .before .before in
     let named = here .before .before .before .before .before .before .before in
-    record { fits = omega (arith, here .if1 .taken, named .before .before .before .before .before .before .before .before .before .before .before .before .pre .1) }
+    let s6 = named .before .before .before .before .before .before in
+    record { fits = omega (arith, here .if1 .taken, s6 .before .before .before .before .before .before .pre .1) }
 
 loop-less : tie.Need-loop-less Inv-loop μ-loop
 loop-less c = omega arith
@@ -97,25 +99,29 @@ same-length-3 : tie.Need-same-length-3 Inv-loop μ-loop
 same-length-3 c =
     let looped = c .before .before in
     let named = looped .before .before .before .before .before in
-    looped .loop .inv .3 .texts-long ∙ sym (named .before .before .before .before .before .before .before .before .before .before .before .before .pre .4 .texts-long)
+    let s6 = named .before .before .before .before .before .before in
+    looped .loop .inv .3 .texts-long ∙ sym (s6 .before .before .before .before .before .before .pre .4 .texts-long)
 
 same-length-4 : tie.Need-same-length-4 Inv-loop μ-loop
 same-length-4 c =
     let looped = c .before .before in
     let named = looped .before .before .before .before .before in
-    looped .loop .inv .3 .lens-long ∙ sym (named .before .before .before .before .before .before .before .before .before .before .before .before .pre .4 .lens-long)
+    let s6 = named .before .before .before .before .before .before in
+    looped .loop .inv .3 .lens-long ∙ sym (s6 .before .before .before .before .before .before .pre .4 .lens-long)
 
 same-length-5 : tie.Need-same-length-5 Inv-loop μ-loop
 same-length-5 c =
     let looped = c .before .before in
     let named = looped .before .before .before .before .before in
-    looped .loop .inv .3 .told-long ∙ sym (named .before .before .before .before .before .before .before .before .before .before .before .before .pre .4 .told-long)
+    let s6 = named .before .before .before .before .before .before in
+    looped .loop .inv .3 .told-long ∙ sym (s6 .before .before .before .before .before .before .pre .4 .told-long)
 
 returns : tie.Need-returns Inv-loop μ-loop
 returns c =
     let l = c .before .before .loop in
     let named = c .before .before .before .before .before .before .before in
-    let a = named .before .before .before .before .before .before .before .before .before .before .before .before .args in
+    let s6 = named .before .before .before .before .before .before in
+    let a = s6 .before .before .before .before .before .before .args in
     let e : l .v ≡ a .g .count = omega (arith, c .if1 .left, l .inv .0) in
     (rw (← e) (l .inv .5), l .inv .3)
 
