@@ -12,7 +12,8 @@ use Rattle.table_sets.proofs.by_key.is_unlike.Tie as tie
 
 returns : tie.Need-returns
 returns c a b x y f =
-    let same = eq-eqb (shownValue (a .key) (a .value)) (shownValue (b .key) (b .value)) (omega (arith, x .value, y .value)) in
+    let same = eq-eqb (shownValue (a .key) (a .value)) (shownValue (b .key) (b .value))
+    (omega (arith, x .value, y .value)) in
     rw same (sym (and-false (not (hasSeen (b .vector) (a .site) (a .seq)))))
 
 mul-site : tie.Need-mul-site
