@@ -45,10 +45,10 @@ use Rattle.table_drawing.proofs.Counters.Laws as T′
 -- ---- the code
 
 -- a `&mut` slice of numbers
-abbrev slice : Lifetime → Width → Ty
+abbrev pub slice : Lifetime → Width → Ty
 slice ℓ w = sliceTy (tyRef ℓ mut (tyInt w))
 
-abbrev its : Ty → Local
+abbrev pub its : Ty → Local
 its τ = local τ valueLocal
 
 -- the callee's result: an answer and the counters
@@ -56,7 +56,7 @@ abbrev pub result : Sym → Ty → Ty
 result ν τ = tyStruct ν (tcons τ (tcons T′.mir tnil))
 
 -- place n is lent on in places m and k, the pointer and the slice
-abbrev lent-on : ℕ → ℕ → ℕ → Width → Body → Body
+abbrev pub lent-on : ℕ → ℕ → ℕ → Width → Body → Body
 lent-on n m k w rest =
     seq (assign (place m []) (addrOf (place n (field 0 ∷ deref (tyInt w) ∷ []))))
     (seq (assign (place k []) (aggregate (copy (place m []) ∷ copy (place n (field 1 ∷ [])) ∷ []))) rest)
