@@ -19,7 +19,7 @@ use Rattle.table_output.proofs.OutputOutcomes.{lent-back}
 use Rattle.list_text.specs.Pieces.{plus, dottedLength, equatedLength}
 use Rattle.list_version.specs.VersionForms.{nameBy}
 use Rattle.list_line.specs.Line.{nameText}
-use Rattle.list_line.specs.LineForms.{stampText, pieceLength, pieces, pieceAt, Kept, NameIn, Named}
+use Rattle.list_line.specs.LineForms.{stampText, pieceLength, pieces, pieceAt, Kept, NameIn, NamesKept}
 use Rattle.list_line.specs.LineForms.{NameMore, SameNames}
 
 -- a part goes by what stands up to its end
@@ -115,8 +115,8 @@ module _ (texts part : List ℕ) (j : ℕ) (low : j < pieces) (long : length tex
         ];
       }
 
-      pub names-same : SameNames texts lens renewed (set lens j n)
-      names-same i x l e = other-name i x l (λ q. omega arith) e
+      pub names-stay : SameNames texts lens renewed (set lens j n)
+      names-stay i x l e = other-name i x l (λ q. omega arith) e
 
     -- a name put in its place
     pub name-more :
@@ -192,15 +192,15 @@ named-more {texts₁ = texts₁} {lens₁ = lens₁} xs i few more have k l =
       | no d ↦ more .others k (getD xs k 0) (omega arith) d (have k (omega (arith, d)))
     ]
 
-pub all-named :
+pub all-names-kept :
     {texts lens : List ℕ} (xs : List ℕ) (d : ℕ) → d ≤ length xs →
-    ((k : ℕ) → k < d → NameIn texts lens k (getD xs k 0)) → Named texts lens (take d xs)
-all-named xs d fits have k l =
+    ((k : ℕ) → k < d → NameIn texts lens k (getD xs k 0)) → NamesKept texts lens (take d xs)
+all-names-kept xs d fits have k l =
     let low : k < d = omega (arith, length-take-le d xs fits) in
     rw (getD-take d xs k 0 low) (have k low)
 
-pub named-at :
-    {texts lens : List ℕ} (xs : List ℕ) (d i : ℕ) → d ≤ length xs → i < d → Named texts lens (take d xs) →
+pub kept-name-at :
+    {texts lens : List ℕ} (xs : List ℕ) (d i : ℕ) → d ≤ length xs → i < d → NamesKept texts lens (take d xs) →
     NameIn texts lens i (getD xs i 0)
-named-at {texts} {lens} xs d i fits low all =
+kept-name-at {texts} {lens} xs d i fits low all =
     rw (getD-take d xs i 0 low) at (all i (omega (arith, length-take-le d xs fits)))

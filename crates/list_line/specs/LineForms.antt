@@ -54,8 +54,8 @@ pub record NameIn (texts lens : List ℕ) (i x : ℕ) : Type 0 where
   pub name : pieceAt texts lens (keys + i) ≡ plus ∷ nameText (nameBy x)
 
 -- so do the names of all the Sets in dispute xs
-abbrev pub Named : List ℕ → List ℕ → List ℕ → Type 0
-Named texts lens xs = (i : ℕ) → i < length xs → NameIn texts lens i (getD xs i 0)
+abbrev pub NamesKept : List ℕ → List ℕ → List ℕ → Type 0
+NamesKept texts lens xs = (i : ℕ) → i < length xs → NameIn texts lens i (getD xs i 0)
 
 -- every name that stood before stands in texts₁ as well
 abbrev pub SameNames : List ℕ → List ℕ → List ℕ → List ℕ → Type 0

@@ -31,7 +31,7 @@ ghost use Rattle.list_line.specs.Line.{nameText, identifierText};
 ghost use Rattle.list_line.specs.Line.{identifierLength, settingsLength, lineLength};
 ghost use Rattle.list_version.specs.VersionForms.{nameBy, isIn, identifierBy, KeyedBy};
 ghost use Rattle.list_line.specs.LineForms.{stampText, settingsBy, lineBy, pieceLength, pieces, Kept};
-ghost use Rattle.list_line.specs.LineForms.{NameIn, Named, SameNames};
+ghost use Rattle.list_line.specs.LineForms.{NameIn, NamesKept, SameNames};
 
 // The bytes that a line has at most: the Create; for each Set a separator and its name; for each key a space, the key,
 // `=` and the value; and a newline.
@@ -80,7 +80,7 @@ fn put_members(
         × (n + d * (1 + dottedLength) + pieceLength ≤ length (now out))
         × (length (now texts) ≡ pieces * pieceLength)
         × (length (now lens) ≡ pieces)
-        × Named (now texts) (now lens) (take d (now disputes)) ⌝ }
+        × NamesKept (now texts) (now lens) (take d (now disputes)) ⌝ }
     ensures { λ r. ⌜ (take r (now (out .exit)) ≡ take n (now (out .entry))
         ++ flatMap (λ y. plus ∷ nameText y) (identifierBy (take d (now (disputes .entry))) g))
         × (r ≤ n + d * (1 + dottedLength)) ⌝ }
@@ -110,7 +110,7 @@ fn put_identifier(
         × (n + identifierLength + pieceLength ≤ length (now out))
         × (length (now texts) ≡ pieces * pieceLength)
         × (length (now lens) ≡ pieces)
-        × Named (now texts) (now lens) (take d (now disputes)) ⌝ }
+        × NamesKept (now texts) (now lens) (take d (now disputes)) ⌝ }
     ensures { λ r. ⌜ (take r (now (out .exit)) ≡ take n (now (out .entry))
         ++ (space ∷ identifierText (identifierBy (take d (now (disputes .entry))) g)))
         × (r ≤ n + identifierLength) ⌝ }
@@ -209,7 +209,7 @@ pub fn put_line(
         × (d ≤ mostSets)
         × (lineLength + pieceLength ≤ length (now out))
         × Kept (now texts) (now lens) (now told)
-        × Named (now texts) (now lens) (take d (now disputes))
+        × NamesKept (now texts) (now lens) (take d (now disputes))
         × (t ≤ length (now stamps))
         × (t ≤ mostSets)
         × (keys ≤ length (now keyed))
@@ -218,7 +218,7 @@ pub fn put_line(
         ≡ lineBy site seq (take d (now (disputes .entry))) (take t (now (stamps .entry))) g)
         × (r ≤ lineLength)
         × Kept (now (texts .exit)) (now (lens .exit)) (now (told .exit))
-        × Named (now (texts .exit)) (now (lens .exit)) (take d (now (disputes .entry))) ⌝ }
+        × NamesKept (now (texts .exit)) (now (lens .exit)) (take d (now (disputes .entry))) ⌝ }
 {
     let a = put_dotted(out, 0, site, seq);
     let b = put_identifier(out, a, texts, lens, disputes, d, g);

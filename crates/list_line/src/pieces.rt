@@ -27,7 +27,7 @@ ghost use Rattle.list_text.specs.Pieces.{plus, dottedLength, equatedLength};
 ghost use Rattle.list_line.specs.Line.{nameText};
 ghost use Rattle.list_version.specs.VersionForms.{nameBy};
 ghost use Rattle.list_line.specs.LineForms.{pieceLength, pieces, stampText, pieceAt, Kept};
-ghost use Rattle.list_line.specs.LineForms.{Named, NameMore, SameNames};
+ghost use Rattle.list_line.specs.LineForms.{NamesKept, NameMore, SameNames};
 
 // The bytes of the place of a piece, and how many places there are: one for each key, then one for each Set.
 pub const PIECE: usize = 16;
@@ -104,7 +104,7 @@ pub fn put_names(texts: &mut [u8], lens: &mut [u8], disputes: &[u64], d: usize)
         × (length (now lens) ≡ pieces) ⌝ }
     ensures { λ r. ⌜ ((told : List ℕ) → Kept (now (texts .entry)) (now (lens .entry)) told →
         Kept (now (texts .exit)) (now (lens .exit)) told
-        × Named (now (texts .exit)) (now (lens .exit)) (take d (now (disputes .entry)))) ⌝ }
+        × NamesKept (now (texts .exit)) (now (lens .exit)) (take d (now (disputes .entry)))) ⌝ }
 {
     let mut i: usize = 0;
     while i < d {

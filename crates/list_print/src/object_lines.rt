@@ -10,7 +10,7 @@ ghost use Prim.Native.Nat.{_+_, _*_, _≤_, _<_};
 ghost use lib.ListN.{length, take, getD};
 ghost use Rattle.group_step.specs.GroupRows.{mostGroups};
 ghost use Rattle.list_line.specs.Line.{lineLength};
-ghost use Rattle.list_line.specs.LineForms.{pieceLength, Kept, Named};
+ghost use Rattle.list_line.specs.LineForms.{pieceLength, Kept, NamesKept};
 ghost use Rattle.list_print.specs.Printing.{joined, listLength};
 ghost use Rattle.list_lines.specs.LinesForms.{LongEnough, lineIn};
 ghost use Rattle.list_print.specs.PrintForms.{Behind};
@@ -49,12 +49,12 @@ fn put_version(
         × (n + lineLength ≤ listLength)
         × (lineLength + pieceLength ≤ length (now line))
         × Kept (now texts) (now lens) (now told)
-        × Named (now texts) (now lens) (take (g .disputes) (now disputes)) ⌝ }
+        × NamesKept (now texts) (now lens) (take (g .disputes) (now disputes)) ⌝ }
     ensures { λ r. ⌜ Behind (now (out .entry)) n
         (lineIn g (now (disputes .entry)) (now (stamps .entry)) (getD (now (versions .entry)) v 0)) lineLength
         (now (out .exit)) r
         × Kept (now (texts .exit)) (now (lens .exit)) (now (told .exit))
-        × Named (now (texts .exit)) (now (lens .exit)) (take (g .disputes) (now (disputes .entry))) ⌝ }
+        × NamesKept (now (texts .exit)) (now (lens .exit)) (take (g .disputes) (now (disputes .entry))) ⌝ }
 {
     let k = put_line(
         line,

@@ -1,5 +1,4 @@
 -- `list_line::put_line` meets its contract: the Create, the identifier, the values and a newline. Assumes nothing.
-use mathlib.Core.Path.{_∙_}
 use mathlib.Core.List.{[], _∷_}
 use Prim.Native.Nat.{_≤_}
 use native.Mathlib.Omega.{arith}

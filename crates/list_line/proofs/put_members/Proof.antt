@@ -9,7 +9,7 @@ use Rattle.list_text.specs.Pieces.{plus, dottedLength}
 use Rattle.list_version.specs.VersionForms.{identifierBy}
 use Rattle.list_line.specs.Line.{nameText}
 use Rattle.list_line.proofs.LineTurns.{no-member, member-more}
-use Rattle.list_line.proofs.KeptPieces.{named-at}
+use Rattle.list_line.proofs.KeptPieces.{kept-name-at}
 use borrow.Author.Needs.{needs}
 use Rattle.list_line.proofs.put_members.Statement.{statement}
 use Rattle.list_line.proofs.put_members.Tie as tie
@@ -45,7 +45,7 @@ put-member-requires c κs =
       omega (arith, p .2, l .inv .1, l .inv .2),
       p .3,
       p .4,
-      named-at (s .args .disputes .now) (s .args .d) (l .i) (p .0) (omega arith) (p .5),
+      kept-name-at (s .args .disputes .now) (s .args .d) (l .i) (p .0) (omega arith) (p .5),
     )
 
 add-i : tie.Need-add-i Inv-loop μ-loop

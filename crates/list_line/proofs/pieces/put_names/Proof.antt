@@ -5,7 +5,7 @@ use Prim.Native.Nat.{ℕ, _*_, _-_, _≤_, _<_}
 use native.Mathlib.Omega.{arith}
 use lib.ListN.{length, getD}
 use Rattle.list_line.specs.LineForms.{pieceLength, pieces, Kept, NameIn}
-use Rattle.list_line.proofs.KeptPieces.{named-more, all-named}
+use Rattle.list_line.proofs.KeptPieces.{named-more, all-names-kept}
 use borrow.Author.Needs.{needs}
 use Rattle.list_line.proofs.pieces.put_names.Statement.{statement}
 use Rattle.list_line.proofs.pieces.put_names.Tie as tie
@@ -71,7 +71,7 @@ returns c told k =
     let start = c .before .before .before .before .before in
     let a = start .args in (
       l .inv .3 told k,
-      all-named (a .disputes .now) (a .d) (start .pre .0) (λ j low. l .inv .4 j (omega arith)),
+      all-names-kept (a .disputes .now) (a .d) (start .pre .0) (λ j low. l .inv .4 j (omega arith)),
     )
 
 pub put-names-spec : {M : Type 1} → statement M

@@ -5,7 +5,7 @@ use lib.ListN.{length}
 use borrow.Rule.Slice.PartMut.{mid-len}
 use Rattle.list_line.specs.LineForms.{pieceLength}
 use native.Mathlib.Omega.{arith}
-use Rattle.list_line.proofs.KeptPieces.{renewed-piece, renewed-kept, names-same}
+use Rattle.list_line.proofs.KeptPieces.{renewed-piece, renewed-kept, names-stay}
 use borrow.Author.Needs.{needs}
 use Rattle.list_line.proofs.pieces.renew.Statement.{statement}
 use Rattle.list_line.proofs.pieces.renew.Tie as tie
@@ -70,7 +70,7 @@ returns c =
       renewed-piece (s .args .texts .now) (f .last .0) (s .args .j) (omega arith) (kept .texts-long) whole
           (s .args .lens .now) (f .result) (kept .lens-long) (s .args .told .now) (s .args .v) kept low (f .ensures .0)
           (f .ensures .1),
-      names-same (s .args .texts .now) (f .last .0) (s .args .j) (omega arith) (kept .texts-long) whole
+      names-stay (s .args .texts .now) (f .last .0) (s .args .j) (omega arith) (kept .texts-long) whole
           (s .args .lens .now) (f .result) (kept .lens-long) (s .args .told .now) (s .args .v) kept low (f .ensures .0)
           (f .ensures .1),
     )

@@ -7,7 +7,7 @@ use native.Mathlib.Omega.{arith}
 use denote.Ref.{now}
 use lib.ListN.{length, take}
 use Rattle.list_line.specs.Line.{lineLength}
-use Rattle.list_line.specs.LineForms.{Kept, Named}
+use Rattle.list_line.specs.LineForms.{Kept, NamesKept}
 use Rattle.list_lines.specs.LinesForms.{lineIn}
 use Rattle.list_print.specs.Printing.{joined}
 use Rattle.list_print.specs.PrintForms.{Behind}
@@ -21,7 +21,7 @@ Inv-loop out₀ line₀ texts₀ lens₀ told₀ n g disputes stamps keyed versi
     × (length out ≡ length out₀)
     × (length line ≡ length line₀)
     × Kept texts lens told
-    × Named texts lens (take (g .disputes) disputes)
+    × NamesKept texts lens (take (g .disputes) disputes)
     × Behind out₀ n (joined (map (lineIn g disputes stamps) (take v versions))) (v * lineLength) out w
 
 abbrev μ-loop : tie.MeasureT-loop
