@@ -266,4 +266,5 @@ module _ {m : ℕ} (X : Passed m) (Answer R : RattleType) (answer : R .Denot →
       pub local-meets : (𝓣 : Tables 𝓤 H) → Triple 𝓤 (𝓣 .C callee) Thin
           → Meets 𝓤 H A (given X R .signature) (WpFn 𝓤 H (𝓣 .C) (𝓣 .Λ) function) (closing 𝓤 H A (given X R) on)
       local-meets 𝓣 known = walk-meets 𝓤 H A (given X R) (stayed X R) W (goes-all X R 𝓤 H A W) on
-          (WpFn 𝓤 H (𝓣 .C) (𝓣 .Λ) function) (WpFn-mono 𝓤 H (W .laws) 𝓣 function) (walks (𝓣 .C) (𝓣 .Λ) (fmOf 𝓤 H (W .laws) 𝓣) known)
+          (WpFn 𝓤 H (𝓣 .C) (𝓣 .Λ) function) (WpFn-mono 𝓤 H (W .laws) 𝓣 function)
+          (walks (𝓣 .C) (𝓣 .Λ) (fmOf 𝓤 H (W .laws) 𝓣) known)

@@ -196,8 +196,8 @@ bits-more l k i bits m e =
 
 pub four-bits-more :
     (l : List ℕ) (k part i bits : ℕ) → eqb bits 0 ≡ all i (zeroFour l k part) →
-    eqb (bitOr (bitOr (bitOr (bitOr bits (getD l (k + i) 0)) (getD l (k + part + i) 0)) (getD l (k + part + part + i) 0))
-    (getD l (k + part + part + part + i) 0)) 0
+    eqb (bitOr (bitOr (bitOr (bitOr bits (getD l (k + i) 0)) (getD l (k + part + i) 0))
+    (getD l (k + part + part + i) 0)) (getD l (k + part + part + part + i) 0)) 0
     ≡ all (i + 1) (zeroFour l k part)
 four-bits-more l k part i bits e =
     rw (

@@ -77,7 +77,9 @@ widened-from-requires c κs =
 -- where the form is the old one, the record is there as a long one; it has room in any case
 wide-long : (c : tie.Joined1 Inv-loop μ-loop) → length (c .if1 .wide) ≡ recordLength
 wide-long c =
-    ⊎-elim (λ v. rw (v .2) (search (needs, v .1 .ok))) (λ v. rw (v .1) (c .before .before .before .before .loop .inv .6))
+    ⊎-elim
+    (λ v. rw (v .2) (search (needs, v .1 .ok)))
+    (λ v. rw (v .1) (c .before .before .before .before .loop .inv .6))
     (c .if1 .came)
 
 widened :

@@ -1,7 +1,7 @@
 -- `list_version::values::sum_of` meets its contract: the total is the sum of the first 2 * i entries, each below
 -- 65,536. Assumes nothing.
 use mathlib.Core.Path.{_≡_}
-use Prim.Native.Nat.{ℕ, _+_, _*_, _-_, _≤_, _<_}
+use Prim.Native.Nat.{ℕ, _*_, _-_, _≤_, _<_}
 use native.Mathlib.Omega.{arith}
 use lib.ListN.{getD}
 use Rattle.math_lists.specs.NumbersBelow.{sum}
