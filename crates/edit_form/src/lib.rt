@@ -92,17 +92,6 @@ pub fn widened_from(rest: &[u8]) -> [u8; RECORD]
     )
 }
 
-// An old record as a long one; of a long one, which is read where it stands, zeros.
-pub fn widened_if(rest: &[u8], form: u8) -> [u8; RECORD]
-    requires { ⌜ lengthFrom form (now rest) ≤ length (now rest) ⌝ }
-    ensures { λ r. ⌜ (form ≡ oldForm → r ≡ longFrom form (now (rest .entry))) ⌝ }
-{
-    if form == OLD {
-        return widened_from(rest);
-    }
-    [0u8; RECORD]
-}
-
 // Where that record, of so many bytes, stands as a long one: a long one where it is, an old one in `wide`. A copy is
 // read slowly right after it was made, so what can be read where it stands is.
 pub fn long_in<'a>(rest: &'a [u8], form: u8, used: usize, wide: &'a [u8]) -> &'a [u8]

@@ -1,7 +1,7 @@
 -- The turns of a loop over the records that puts the places of those that pass a test f at the front of a list.
 -- Assumes nothing.
 use mathlib.Core.Path.{_≡_, refl, ap, _∙_}
-use mathlib.Core.Bool.{Bool, true, false, _&&_, cond}
+use mathlib.Core.Bool.{Bool, true, false, cond}
 use mathlib.Core.List.{List, [], _∷_, _++_, map, map-append, append-nil}
 use Prim.Native.Nat.{ℕ, _+_, _<_}
 use native.Mathlib.Numerals.{add-one}
@@ -14,13 +14,8 @@ use Rattle.edit_record.specs.declared.Edit.{Edit}
 use Rattle.edit_history.specs.EditsHeld.{recordAt, editsOf}
 use Rattle.edit_history.proofs.EditsHeld.{chosen-more, chosen-grow}
 
--- a record whose target has another site is no Set of the object
-pub not-on : (set site seq : Bool) → site ≡ false → false ≡ (set && (site && seq))
-not-on true site seq e = rw e
-not-on false site seq e = refl
-
 module _ (rs : List ℕ) (f : Edit → Bool) where
-  more-passed :
+  pub more-passed :
       (i : ℕ) →
       filter f (editsOf rs (i + 1)) ≡ filter f (editsOf rs i) ++ cond (f (recordAt rs i)) (recordAt rs i ∷ []) []
   unfolding editsOf

@@ -1,2 +1,3 @@
+pub mod PutApart
 pub mod StepApart
 pub mod StepCovered

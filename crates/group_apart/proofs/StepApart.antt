@@ -2,24 +2,26 @@
 -- them conflicts: each gains the Set, and no other thing happens. Assumes nothing.
 use mathlib.Core.Path.{_≡_, refl, sym, ap, _∙_}
 use mathlib.Core.Logic.{inl, inr}
-use mathlib.Core.Bool.{true, false}
+use mathlib.Core.Bool.{true, false, not}
 use mathlib.Core.List.{List, [], _∷_, List·Memᴰ·head, List·Memᴰ·tail}
 use Prim.Native.Nat.{ℕ, suc, _+_, _*_, _^_, _<_}
 use native.Mathlib.Nat.{le-refl}
 use native.Mathlib.Omega.{arith}
 use lib.Bits.{bitAnd, bitOr, and-le-r, or-shifted-r}
 use lib.Dec.{eqb}
+use lib.ListN.{length}
+use lib.Seq.{take-all}
 use borrow.Author.Tests.{eqb-true, eq-eqb, not-true}
-use Rattle.math_lists.specs.SortedLists.{any, elem, Ascending}
+use Rattle.math_lists.specs.SortedLists.{any, elem, filter, Ascending}
 use Rattle.math_lists.proofs.Booleans.{clash, decide, off, either, or-left}
-use Rattle.math_lists.proofs.Elements.{any-map, any-on, any-at, elem→mem, mem→elem}
+use Rattle.math_lists.proofs.Elements.{any-map, any-on, any-at, filter-on, elem→mem, mem→elem}
 use Rattle.math_lists.proofs.SortedLists.{ascending-unique}
 use Rattle.math_maximal.specs.Groups.{bit}
 use Rattle.math_maximal.specs.Step.{compatible, partOfLarger, dropped, step}
 use Rattle.math_maximal.proofs.Bits.{bit-high, bit-or, bit-power, gains}
 use Rattle.math_maximal.proofs.StepOnAnyRow.{row, row-at, candidate-on, step-at, step-on, step-ascending}
 use Rattle.math_maximal.proofs.StepOnAnyRow.{dropped-at, larger-at, larger-on}
-use Rattle.group_step.specs.StepForms.{conflicting, Apart, allCompatible, gaining, gained}
+use Rattle.group_step.specs.StepForms.{conflicting, staying, Apart, allCompatible, gaining, gained}
 
 -- ---- a number below 2 ^ k that gains k
 
@@ -113,6 +115,15 @@ module _ (m k : ℕ) (gs : List ℕ) (low : (x : ℕ) → elem x gs ≡ true →
       (not-dropped g e)))
 
 -- ---- a Set without conflict
+
+-- where no group stays, none conflicts
+pub none-stays : (m : ℕ) (gs : List ℕ) → length (staying m gs) ≡ 0 → allCompatible m gs ≡ true
+unfolding staying any
+none-stays m gs e =
+    ap not (off (any (conflicting m) gs) (λ h.
+    let (g, there, d) = any-at (conflicting m) gs h in
+    clash (filter-on (conflicting m) gs g there d)
+    (ap (elem g) (sym (take-all 0 (filter (conflicting m) gs) (omega arith))))))
 
 and-none : (g : ℕ) → compatible 0 g ≡ true
 and-none g = eq-eqb (bitAnd g 0) 0 (omega (arith, and-le-r g 0))

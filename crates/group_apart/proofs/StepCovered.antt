@@ -84,12 +84,13 @@ module _ (m k : ℕ) where
         (a : Ascending gs)
         (low : (x : ℕ) → elem x gs ≡ true → x < 2 ^ k)
         (apart : Apart gs)
-        (covered : allCovered m k (wholes m k gs) gs ≡ true) where
+        (covered : allCovered m k (wholes m k gs) (staying m gs) ≡ true) where
       -- what remains of one that conflicts is part of one that gains the Set
       cover :
           (g : ℕ) → elem g gs ≡ true → compatible m g ≡ false →
           (h : ℕ) × (elem h gs ≡ true) × (compatible m h ≡ true)
           × (partOf (candidate m k g) (candidate m k h) ≡ true)
+      unfolding staying
       cover g e d =
           elim (decide (any (partOf (candidate m k g)) (wholes m k gs))) [
             | inl h ↦
@@ -97,8 +98,10 @@ module _ (m k : ℕ) where
                 let (h, f, fit, q) = wholes-at y u in
                 (h, f, fit, rw q at p))
             | inr h ↦
-                clash (any-on (uncovered m k (wholes m k gs)) gs g e (rw (d, h)))
-                (not-true (any (uncovered m k (wholes m k gs)) gs) covered)
+                clash
+                (any-on (uncovered m k (wholes m k gs)) (staying m gs) g (filter-on (conflicting m) gs g e (rw d))
+                (rw h))
+                (not-true (any (uncovered m k (wholes m k gs)) (staying m gs)) covered)
           ]
 
       -- none that gains the Set is part of what another gives

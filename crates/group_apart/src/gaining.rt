@@ -1,5 +1,4 @@
-// A row of which no group conflicts with the new Set: the test for it, and the row where each group gains the Set.
-use group_step::is_compatible;
+// A row of which no group conflicts with the new Set: each group gains the Set.
 use group_step::only;
 use group_step::zero_all;
 ghost use mathlib.Core.Path.{_≡_};
@@ -7,22 +6,7 @@ ghost use mathlib.Core.List.{_++_};
 ghost use Prim.Native.Nat.{_-_, _≤_, _<_};
 ghost use lib.ListN.{length, take, drop, replicate};
 ghost use Rattle.group_step.specs.GroupRows.{mostSets};
-ghost use Rattle.group_step.specs.StepForms.{allCompatible, gained};
-
-// Whether none of the n first groups has a member of m.
-pub fn are_compatible(gs: &[u64], n: usize, m: u64) -> bool
-    requires { ⌜ n ≤ length (now gs) ⌝ }
-    ensures { λ r. ⌜ r ≡ allCompatible m (take n (now (gs .entry))) ⌝ }
-{
-    let mut i: usize = 0;
-    while i < n {
-        if !is_compatible(m, gs[i]) {
-            return false;
-        }
-        i += 1;
-    }
-    true
-}
+ghost use Rattle.group_step.specs.StepForms.{gained};
 
 // Puts Set k into each of the n first groups.
 pub fn put_bit(gs: &mut [u64], n: usize, k: usize)

@@ -14,7 +14,8 @@ ghost use Rattle.group_step.specs.GroupRows.{mostGroups, mostSets, mostObjects,
 ghost use Rattle.group_step.specs.StepForms.{Apart};
 
 // The step on a row in which no group is part of a larger one, as in every row that has the groups of its Sets. If none
-// of them conflicts with the new Set, then no candidate is part of a larger one, and there is nothing to look for.
+// of them conflicts with the new Set, then no candidate is part of a larger one, and there is nothing to look for; if
+// all do, none gains the Set as a whole, and nothing can be covered.
 pub fn step_apart(gs: &mut [u64], n: usize, m: u64, k: usize) -> usize
     requires { ⌜ (length (now gs) ≡ mostGroups)
         × (n ≤ mostGroups)
@@ -26,11 +27,15 @@ pub fn step_apart(gs: &mut [u64], n: usize, m: u64, k: usize) -> usize
         ⌜ (r ≡ length (step m k (take n (now (gs .entry)))))
         × (now (gs .exit) ≡ settled (step m k (take n (now (gs .entry)))) (now (gs .entry))) ⌝ }
 {
-    if !gaining::are_compatible(gs, n, m) {
-        return covered::step_split(gs, n, m, k);
+    let t = group_step::count_staying(gs, n, m);
+    if t == 0 {
+        gaining::gain(gs, n, k);
+        return n;
     }
-    gaining::gain(gs, n, k);
-    n
+    if t < n {
+        return covered::step_split(gs, n, m, k, t);
+    }
+    group_step::step_row(gs, n, m, k)
 }
 
 // The same on the row of object o, where it stands in the table.

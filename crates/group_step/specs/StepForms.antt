@@ -3,7 +3,7 @@
 -- of the crate `math_maximal` on a row of groups; the laws `code-step`, `apart-step` and `covered-step` show that, so
 -- nothing here has to be believed. Assumes nothing.
 use mathlib.Core.Path.{_≡_}
-use mathlib.Core.Bool.{Bool, true, false, not, _&&_}
+use mathlib.Core.Bool.{Bool, true, false, not}
 use mathlib.Core.List.{List, _++_, map}
 use Prim.Native.Nat.{ℕ, _^_}
 use lib.Bits.{bitAnd, bitOr}
@@ -59,9 +59,9 @@ partOf x y = eqb (bitAnd x y) x
 unfoldable pub wholes : ℕ → ℕ → List ℕ → List ℕ
 wholes m k gs = map (candidate m k) (filter (compatible m) gs)
 
--- g conflicts with the new Set, and what remains of it is part of none of ys
+-- what remains of g, with the new Set, is part of none of ys
 abbrev pub uncovered : ℕ → ℕ → List ℕ → ℕ → Bool
-uncovered m k ys g = not (compatible m g) && not (any (partOf (candidate m k g)) ys)
+uncovered m k ys g = not (any (partOf (candidate m k g)) ys)
 
 abbrev pub allCovered : ℕ → ℕ → List ℕ → List ℕ → Bool
 allCovered m k ys gs = not (any (uncovered m k ys) gs)

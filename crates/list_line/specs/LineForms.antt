@@ -4,7 +4,7 @@ use mathlib.Core.Path.{_≡_}
 use mathlib.Core.Bool.{cond}
 use mathlib.Core.List.{List, [], _∷_, _++_}
 use Prim.Native.Nat.{ℕ, zero, suc, _+_, _-_, _*_, _%_, _≤_, _<_}
-use lib.Dec.{eqb, ltb}
+use lib.Dec.{eqb}
 use lib.ListN.{length, getD, take, drop}
 use Rattle.edit_record.specs.Layout.{keys}
 use Rattle.edit_causal.specs.ShownValue.{shownValue}
@@ -36,22 +36,33 @@ pieceLength = 16
 abbrev pub pieces : ℕ
 pieces = keys + mostSets
 
--- the piece in place j that is told by v, a stamp or a Set in dispute
-abbrev pub pieceText : ℕ → ℕ → List ℕ
-pieceText j v = cond (ltb j keys) (stampText j v) (plus ∷ nameText (nameBy v))
-
--- how many bytes it has at most
-abbrev pub pieceMost : ℕ → ℕ
-pieceMost j = cond (ltb j keys) (1 + equatedLength) (1 + dottedLength)
-
 -- the first bytes of a place
 abbrev pub pieceAt : List ℕ → List ℕ → ℕ → List ℕ
 pieceAt texts lens j = take (getD lens j 0) (drop (j * pieceLength) texts)
 
--- what stands in a place is the piece told by the number kept for it, or nothing
+-- what stands in the place of a key is the setting told by the stamp kept for it, or nothing
 pub record Kept (texts lens told : List ℕ) : Type 0 where
   pub texts-long : length texts ≡ pieces * pieceLength
   pub lens-long : length lens ≡ pieces
-  pub told-long : length told ≡ pieces
-  pub few : (j : ℕ) → j < pieces → getD lens j 0 ≤ pieceMost j
-  pub piece : (j : ℕ) → j < pieces → (getD lens j 0 ≡ 0 → ⊥) → pieceAt texts lens j ≡ pieceText j (getD told j 0)
+  pub told-long : length told ≡ keys
+  pub few : (j : ℕ) → j < keys → getD lens j 0 ≤ 1 + equatedLength
+  pub piece : (j : ℕ) → j < keys → (getD lens j 0 ≡ 0 → ⊥) → pieceAt texts lens j ≡ stampText j (getD told j 0)
+
+-- the name of the Set in dispute x stands in the i-th place behind those of the keys
+pub record NameIn (texts lens : List ℕ) (i x : ℕ) : Type 0 where
+  pub few : getD lens (keys + i) 0 ≤ 1 + dottedLength
+  pub name : pieceAt texts lens (keys + i) ≡ plus ∷ nameText (nameBy x)
+
+-- so do the names of all the Sets in dispute xs
+abbrev pub NamesKept : List ℕ → List ℕ → List ℕ → Type 0
+NamesKept texts lens xs = (i : ℕ) → i < length xs → NameIn texts lens i (getD xs i 0)
+
+-- every name that stood before stands in texts₁ as well
+abbrev pub SameNames : List ℕ → List ℕ → List ℕ → List ℕ → Type 0
+SameNames texts lens texts₁ lens₁ = (i x : ℕ) → i < mostSets → NameIn texts lens i x → NameIn texts₁ lens₁ i x
+
+-- the i-th name is put: the others stand as before, and so does what is kept of the keys
+pub record NameMore (texts lens : List ℕ) (i x : ℕ) (texts₁ lens₁ : List ℕ) : Type 0 where
+  pub own : NameIn texts₁ lens₁ i x
+  pub others : (j y : ℕ) → j < mostSets → (j ≡ i → ⊥) → NameIn texts lens j y → NameIn texts₁ lens₁ j y
+  pub kept : (told : List ℕ) → Kept texts lens told → Kept texts₁ lens₁ told

@@ -30,7 +30,8 @@ ghost use Rattle.list_text.specs.Pieces.{space, plus, dottedLength, equatedLeng
 ghost use Rattle.list_line.specs.Line.{nameText, identifierText};
 ghost use Rattle.list_line.specs.Line.{identifierLength, settingsLength, lineLength};
 ghost use Rattle.list_version.specs.VersionForms.{nameBy, isIn, identifierBy, KeyedBy};
-ghost use Rattle.list_line.specs.LineForms.{stampText, settingsBy, lineBy, pieceLength, Kept};
+ghost use Rattle.list_line.specs.LineForms.{stampText, settingsBy, lineBy, pieceLength, pieces, Kept};
+ghost use Rattle.list_line.specs.LineForms.{NameIn, NamesKept, SameNames};
 
 // The bytes that a line has at most: the Create; for each Set a separator and its name; for each key a space, the key,
 // `=` and the value; and a newline.
@@ -43,38 +44,33 @@ pub const BUFFER: usize = LINE + PIECE;
 fn put_member(
     out: &mut [u8],
     n: usize,
-    texts: &mut [u8],
-    lens: &mut [u8],
-    told: &mut [u64],
+    texts: &[u8],
+    lens: &[u8],
     i: usize,
     x: u64,
     g: u64,
 ) -> usize
     requires { ⌜ (i < mostSets)
         × (n + pieceLength ≤ length (now out))
-        × Kept (now texts) (now lens) (now told) ⌝ }
+        × (length (now texts) ≡ pieces * pieceLength)
+        × (length (now lens) ≡ pieces)
+        × NameIn (now texts) (now lens) i x ⌝ }
     ensures { λ r. ⌜ (take r (now (out .exit))
         ≡ take n (now (out .entry)) ++ cond (isIn g x) (plus ∷ nameText (nameBy x)) [])
-        × (r ≤ n + (1 + dottedLength))
-        × Kept (now (texts .exit)) (now (lens .exit)) (now (told .exit)) ⌝ }
+        × (r ≤ n + (1 + dottedLength)) ⌝ }
 {
     if !is_member(g, (x % NUMBERS) as usize) {
         return n;
     }
-    let j = ALL_KEYS + i;
-    if is_kept(lens, told, j, x) {
-        return put_piece(out, n, texts, lens, j);
-    }
-    put_anew(out, n, texts, lens, told, j, x)
+    put_piece(out, n, texts, lens, ALL_KEYS + i)
 }
 
 // Puts `+` and the name of each of the d Sets in dispute that is a member of g.
 fn put_members(
     out: &mut [u8],
     n: usize,
-    texts: &mut [u8],
-    lens: &mut [u8],
-    told: &mut [u64],
+    texts: &[u8],
+    lens: &[u8],
     disputes: &[u64],
     d: usize,
     g: u64,
@@ -82,16 +78,17 @@ fn put_members(
     requires { ⌜ (d ≤ length (now disputes))
         × (d ≤ mostSets)
         × (n + d * (1 + dottedLength) + pieceLength ≤ length (now out))
-        × Kept (now texts) (now lens) (now told) ⌝ }
+        × (length (now texts) ≡ pieces * pieceLength)
+        × (length (now lens) ≡ pieces)
+        × NamesKept (now texts) (now lens) (take d (now disputes)) ⌝ }
     ensures { λ r. ⌜ (take r (now (out .exit)) ≡ take n (now (out .entry))
         ++ flatMap (λ y. plus ∷ nameText y) (identifierBy (take d (now (disputes .entry))) g))
-        × (r ≤ n + d * (1 + dottedLength))
-        × Kept (now (texts .exit)) (now (lens .exit)) (now (told .exit)) ⌝ }
+        × (r ≤ n + d * (1 + dottedLength)) ⌝ }
 {
     let mut w = n;
     let mut i: usize = 0;
     while i < d {
-        w = put_member(out, w, texts, lens, told, i, disputes[i], g);
+        w = put_member(out, w, texts, lens, i, disputes[i], g);
         i += 1;
     }
     w
@@ -102,9 +99,8 @@ fn put_members(
 fn put_identifier(
     out: &mut [u8],
     n: usize,
-    texts: &mut [u8],
-    lens: &mut [u8],
-    told: &mut [u64],
+    texts: &[u8],
+    lens: &[u8],
     disputes: &[u64],
     d: usize,
     g: u64,
@@ -112,13 +108,14 @@ fn put_identifier(
     requires { ⌜ (d ≤ length (now disputes))
         × (d ≤ mostSets)
         × (n + identifierLength + pieceLength ≤ length (now out))
-        × Kept (now texts) (now lens) (now told) ⌝ }
+        × (length (now texts) ≡ pieces * pieceLength)
+        × (length (now lens) ≡ pieces)
+        × NamesKept (now texts) (now lens) (take d (now disputes)) ⌝ }
     ensures { λ r. ⌜ (take r (now (out .exit)) ≡ take n (now (out .entry))
         ++ (space ∷ identifierText (identifierBy (take d (now (disputes .entry))) g)))
-        × (r ≤ n + identifierLength)
-        × Kept (now (texts .exit)) (now (lens .exit)) (now (told .exit)) ⌝ }
+        × (r ≤ n + identifierLength) ⌝ }
 {
-    let w = put_members(out, n, texts, lens, told, disputes, d, g);
+    let w = put_members(out, n, texts, lens, disputes, d, g);
     if w == n {
         let k = put_byte(out, n, SPACE);
         return put_byte(out, k, MINUS);
@@ -142,7 +139,8 @@ fn put_setting(
         × Kept (now texts) (now lens) (now told) ⌝ }
     ensures { λ r. ⌜ (take r (now (out .exit)) ≡ take n (now (out .entry)) ++ stampText key s)
         × (r ≤ n + (1 + equatedLength))
-        × Kept (now (texts .exit)) (now (lens .exit)) (now (told .exit)) ⌝ }
+        × Kept (now (texts .exit)) (now (lens .exit)) (now (told .exit))
+        × SameNames (now (texts .entry)) (now (lens .entry)) (now (texts .exit)) (now (lens .exit)) ⌝ }
 {
     if s == 0 {
         return n;
@@ -176,7 +174,8 @@ fn put_settings(
     ensures { λ r. ⌜ (take r (now (out .exit))
         ≡ take n (now (out .entry)) ++ settingsBy (take t (now (stamps .entry))) g keys)
         × (r ≤ n + settingsLength)
-        × Kept (now (texts .exit)) (now (lens .exit)) (now (told .exit)) ⌝ }
+        × Kept (now (texts .exit)) (now (lens .exit)) (now (told .exit))
+        × SameNames (now (texts .entry)) (now (lens .entry)) (now (texts .exit)) (now (lens .exit)) ⌝ }
 {
     let mut w = n;
     let mut k: usize = 0;
@@ -189,7 +188,8 @@ fn put_settings(
 }
 
 // Puts at the front the line of the version g of the object whose Create is site.seq, by the d Sets in dispute, the
-// stamps of the t Sets and what is noted of their keys; says how many bytes it has.
+// stamps of the t Sets and what is noted of their keys; says how many bytes it has. The names of the Sets in dispute
+// are put in their places before.
 pub fn put_line(
     out: &mut [u8],
     texts: &mut [u8],
@@ -209,6 +209,7 @@ pub fn put_line(
         × (d ≤ mostSets)
         × (lineLength + pieceLength ≤ length (now out))
         × Kept (now texts) (now lens) (now told)
+        × NamesKept (now texts) (now lens) (take d (now disputes))
         × (t ≤ length (now stamps))
         × (t ≤ mostSets)
         × (keys ≤ length (now keyed))
@@ -216,10 +217,11 @@ pub fn put_line(
     ensures { λ r. ⌜ (take r (now (out .exit))
         ≡ lineBy site seq (take d (now (disputes .entry))) (take t (now (stamps .entry))) g)
         × (r ≤ lineLength)
-        × Kept (now (texts .exit)) (now (lens .exit)) (now (told .exit)) ⌝ }
+        × Kept (now (texts .exit)) (now (lens .exit)) (now (told .exit))
+        × NamesKept (now (texts .exit)) (now (lens .exit)) (take d (now (disputes .entry))) ⌝ }
 {
     let a = put_dotted(out, 0, site, seq);
-    let b = put_identifier(out, a, texts, lens, told, disputes, d, g);
+    let b = put_identifier(out, a, texts, lens, disputes, d, g);
     let w = put_settings(out, b, texts, lens, told, stamps, t, keyed, peaks, g);
     put_byte(out, w, NEWLINE)
 }

@@ -1,6 +1,7 @@
 // Pieces of lines that are kept from line to line, since the lines of an object have most of them in common: a setting
-// of each key, and the names of the Sets in dispute. A piece is formed anew only where the last one in its place was
-// told by another number. It is copied whole, with what stands behind it: that is written over next.
+// of each key, and the names of the Sets in dispute. The names are formed once for all lines of the object; a setting
+// is formed anew only where the last one in its place was told by another number. A piece is copied whole, with what
+// stands behind it: that is written over next.
 use edit_causal::shown;
 use edit_record::VALUES;
 use group_step::SETS;
@@ -16,15 +17,17 @@ use list_version::sets::NUMBERS;
 use table_output::copy_in;
 ghost use mathlib.Core.Path.{_≡_};
 ghost use mathlib.Core.Bool.{not, _&&_};
-ghost use mathlib.Core.List.{_∷_, _++_};
-ghost use Prim.Native.Nat.{_+_, _*_, _≤_, _<_};
+ghost use mathlib.Core.List.{List, _∷_, _++_};
+ghost use Prim.Native.Nat.{ℕ, _+_, _*_, _≤_, _<_};
 ghost use lib.Dec.{eqb};
 ghost use lib.ListN.{length, take, drop, getD};
 ghost use Rattle.edit_record.specs.Layout.{keys};
+ghost use Rattle.group_step.specs.GroupRows.{mostSets};
 ghost use Rattle.list_text.specs.Pieces.{plus, dottedLength, equatedLength};
 ghost use Rattle.list_line.specs.Line.{nameText};
 ghost use Rattle.list_version.specs.VersionForms.{nameBy};
-ghost use Rattle.list_line.specs.LineForms.{pieceLength, pieces, stampText, pieceText, pieceMost, pieceAt, Kept};
+ghost use Rattle.list_line.specs.LineForms.{pieceLength, pieces, stampText, pieceAt, Kept};
+ghost use Rattle.list_line.specs.LineForms.{NamesKept, NameMore, SameNames};
 
 // The bytes of the place of a piece, and how many places there are: one for each key, then one for each Set.
 pub const PIECE: usize = 16;
@@ -57,18 +60,7 @@ pub fn form_name(text: &mut [u8], n: usize, x: u64) -> usize
     )
 }
 
-// Forms the piece of place j that v tells at the front.
-fn form(text: &mut [u8], j: usize, v: u64) -> usize
-    requires { ⌜ (j < pieces) × (j < keys → 0 < v) × (pieceLength ≤ length (now text)) ⌝ }
-    ensures { λ r. ⌜ (take r (now (text .exit)) ≡ pieceText j v) × (r ≤ pieceMost j) ⌝ }
-{
-    if j < ALL_KEYS {
-        return form_setting(text, 0, j as u8, v);
-    }
-    form_name(text, 0, v)
-}
-
-// Whether the piece in place j is the one that v tells.
+// Whether the setting in place j is the one that v tells.
 pub fn is_kept(lens: &[u8], told: &[u64], j: usize, v: u64) -> bool
     requires { ⌜ (j < length (now lens)) × (j < length (now told)) ⌝ }
     ensures { λ r. ⌜ r ≡ (not (eqb (getD (now (lens .entry)) j 0) 0) && eqb (getD (now (told .entry)) j 0) v) ⌝ }
@@ -76,17 +68,49 @@ pub fn is_kept(lens: &[u8], told: &[u64], j: usize, v: u64) -> bool
     (lens[j] != 0) & (told[j] == v)
 }
 
-// Forms the piece that v tells in place j.
+// Forms the setting of the key j by the stamp v in its place.
 fn renew(texts: &mut [u8], lens: &mut [u8], told: &mut [u64], j: usize, v: u64)
-    requires { ⌜ (j < pieces) × (j < keys → 0 < v) × Kept (now texts) (now lens) (now told) ⌝ }
+    requires { ⌜ (j < keys) × (0 < v) × Kept (now texts) (now lens) (now told) ⌝ }
     ensures { λ r. ⌜ Kept (now (texts .exit)) (now (lens .exit)) (now (told .exit))
-        × (pieceAt (now (texts .exit)) (now (lens .exit)) j ≡ pieceText j v) ⌝ }
+        × (pieceAt (now (texts .exit)) (now (lens .exit)) j ≡ stampText j v)
+        × SameNames (now (texts .entry)) (now (lens .entry)) (now (texts .exit)) (now (lens .exit)) ⌝ }
 {
     let at = j * PIECE;
     let end = at + PIECE;
-    let n = form(&mut texts[at..end], j, v);
+    let n = form_setting(&mut texts[at..end], 0, j as u8, v);
     lens[j] = n as u8;
     told[j] = v;
+}
+
+// Forms the name of the i-th Set in dispute, x, in its place.
+fn put_name(texts: &mut [u8], lens: &mut [u8], i: usize, x: u64)
+    requires { ⌜ (i < mostSets)
+        × (length (now texts) ≡ pieces * pieceLength)
+        × (length (now lens) ≡ pieces) ⌝ }
+    ensures { λ r. ⌜ NameMore (now (texts .entry)) (now (lens .entry)) i x (now (texts .exit)) (now (lens .exit)) ⌝ }
+{
+    let j = ALL_KEYS + i;
+    let at = j * PIECE;
+    let end = at + PIECE;
+    let n = form_name(&mut texts[at..end], 0, x);
+    lens[j] = n as u8;
+}
+
+// Forms the names of the d Sets in dispute, each in its place.
+pub fn put_names(texts: &mut [u8], lens: &mut [u8], disputes: &[u64], d: usize)
+    requires { ⌜ (d ≤ length (now disputes))
+        × (d ≤ mostSets)
+        × (length (now texts) ≡ pieces * pieceLength)
+        × (length (now lens) ≡ pieces) ⌝ }
+    ensures { λ r. ⌜ ((told : List ℕ) → Kept (now (texts .entry)) (now (lens .entry)) told →
+        Kept (now (texts .exit)) (now (lens .exit)) told
+        × NamesKept (now (texts .exit)) (now (lens .exit)) (take d (now (disputes .entry)))) ⌝ }
+{
+    let mut i: usize = 0;
+    while i < d {
+        put_name(texts, lens, i, disputes[i]);
+        i += 1;
+    }
 }
 
 // The bytes of place j.
@@ -109,7 +133,7 @@ pub fn put_piece(out: &mut [u8], n: usize, texts: &[u8], lens: &[u8], j: usize) 
     requires { ⌜ (j < pieces)
         × (length (now texts) ≡ pieces * pieceLength)
         × (length (now lens) ≡ pieces)
-        × (getD (now lens) j 0 ≤ pieceMost j)
+        × (getD (now lens) j 0 ≤ pieceLength)
         × (n + pieceLength ≤ length (now out)) ⌝ }
     ensures { λ r.
         ⌜ (take r (now (out .exit))
@@ -121,7 +145,7 @@ pub fn put_piece(out: &mut [u8], n: usize, texts: &[u8], lens: &[u8], j: usize) 
     n + lens[j] as usize
 }
 
-// Forms the piece that v tells in place j, and puts it behind the first n bytes.
+// Forms the setting of the key j by the stamp v in its place, and puts it behind the first n bytes.
 pub fn put_anew(
     out: &mut [u8],
     n: usize,
@@ -131,13 +155,14 @@ pub fn put_anew(
     j: usize,
     v: u64,
 ) -> usize
-    requires { ⌜ (j < pieces)
-        × (j < keys → 0 < v)
+    requires { ⌜ (j < keys)
+        × (0 < v)
         × (n + pieceLength ≤ length (now out))
         × Kept (now texts) (now lens) (now told) ⌝ }
-    ensures { λ r. ⌜ (take r (now (out .exit)) ≡ take n (now (out .entry)) ++ pieceText j v)
-        × (r ≤ n + pieceMost j)
-        × Kept (now (texts .exit)) (now (lens .exit)) (now (told .exit)) ⌝ }
+    ensures { λ r. ⌜ (take r (now (out .exit)) ≡ take n (now (out .entry)) ++ stampText j v)
+        × (r ≤ n + (1 + equatedLength))
+        × Kept (now (texts .exit)) (now (lens .exit)) (now (told .exit))
+        × SameNames (now (texts .entry)) (now (lens .entry)) (now (texts .exit)) (now (lens .exit)) ⌝ }
 {
     renew(texts, lens, told, j, v);
     put_piece(out, n, texts, lens, j)

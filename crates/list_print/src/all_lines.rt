@@ -133,7 +133,7 @@ fn put_objects(
     sort_objects(&mut order, records, c.records as usize, objects, m, places);
     let mut texts = [1u8; PIECES * PIECE];
     let mut lens = [0u8; PIECES];
-    let mut told = [0u64; PIECES];
+    let mut told = [0u64; ALL_KEYS];
     let mut disputes = [1u64; SETS];
     let mut stamps = [1u64; SETS];
     let mut versions = [1u64; GROUPS];

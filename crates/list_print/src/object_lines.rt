@@ -1,5 +1,6 @@
 // The lines of a gathered object, put into the output one behind another where they have room.
 use list_line::alone::put_lone_line;
+use list_line::pieces::put_names;
 use list_line::put_line;
 use list_objects::Gathered;
 use table_output::copy_in;
@@ -9,7 +10,7 @@ ghost use Prim.Native.Nat.{_+_, _*_, _≤_, _<_};
 ghost use lib.ListN.{length, take, getD};
 ghost use Rattle.group_step.specs.GroupRows.{mostGroups};
 ghost use Rattle.list_line.specs.Line.{lineLength};
-ghost use Rattle.list_line.specs.LineForms.{pieceLength, Kept};
+ghost use Rattle.list_line.specs.LineForms.{pieceLength, Kept, NamesKept};
 ghost use Rattle.list_print.specs.Printing.{joined, listLength};
 ghost use Rattle.list_lines.specs.LinesForms.{LongEnough, lineIn};
 ghost use Rattle.list_print.specs.PrintForms.{Behind};
@@ -47,11 +48,13 @@ fn put_version(
         × (v < mostGroups)
         × (n + lineLength ≤ listLength)
         × (lineLength + pieceLength ≤ length (now line))
-        × Kept (now texts) (now lens) (now told) ⌝ }
+        × Kept (now texts) (now lens) (now told)
+        × NamesKept (now texts) (now lens) (take (g .disputes) (now disputes)) ⌝ }
     ensures { λ r. ⌜ Behind (now (out .entry)) n
         (lineIn g (now (disputes .entry)) (now (stamps .entry)) (getD (now (versions .entry)) v 0)) lineLength
         (now (out .exit)) r
-        × Kept (now (texts .exit)) (now (lens .exit)) (now (told .exit)) ⌝ }
+        × Kept (now (texts .exit)) (now (lens .exit)) (now (told .exit))
+        × NamesKept (now (texts .exit)) (now (lens .exit)) (take (g .disputes) (now (disputes .entry))) ⌝ }
 {
     let k = put_line(
         line,
@@ -71,7 +74,8 @@ fn put_version(
     put_behind(out, n, line, k)
 }
 
-// Puts the lines of all versions behind the first n bytes, one after another.
+// Puts the lines of all versions behind the first n bytes, one after another. The names of the Sets in dispute are
+// formed once for all of them.
 fn put_each(
     out: &mut [u8],
     line: &mut [u8],
@@ -95,6 +99,7 @@ fn put_each(
         (take (g .count) (now (versions .entry))))) (g .count * lineLength) (now (out .exit)) r
         × Kept (now (texts .exit)) (now (lens .exit)) (now (told .exit)) ⌝ }
 {
+    put_names(texts, lens, disputes, g.disputes);
     let mut w = n;
     let mut v: usize = 0;
     while v < g.count {

@@ -6,7 +6,7 @@ use Prim.Native.Nat.{ℕ, zero, suc, _+_, _-_, _/_, _%_, _≤_, _<_}
 use native.Mathlib.Nat.{le-refl}
 use native.Mathlib.Numerals.{add-one}
 use native.Mathlib.Omega.{arith}
-use lib.ListN.{length, getD, take, drop, set}
+use lib.ListN.{length, getD, take, drop, set, length-set}
 use lib.Seq.{take-suc, take-suc-set, take-all, take-add, take-set-le, set-split, drop-at, length-take-le}
 use Rattle.list_text.specs.Decimal.{zeroDigit, decimal}
 use Rattle.list_text.proofs.OneDecimal.{decimal-one, decimal-more, length-one}
@@ -49,6 +49,23 @@ digit-before d o (suc i) end left ten some low room e =
     let more : end - i ≡ suc (end - suc i) = omega arith in
     e ∙ rw (back, more, byte-before o i (end - suc i) last (omega arith), decimal-more left ten)
     (append-assoc (decimal (left / 10)) (last ∷ []) (take (end - suc i) (drop (suc i) o)))
+
+-- two of them at once
+pub two-before :
+    (d o : List ℕ) (i end left : ℕ) → 100 ≤ left → 1 < i → i ≤ end → i ≤ length o →
+    d ≡ decimal left ++ take (end - i) (drop i o) →
+    d ≡ decimal (left / 100) ++ take (end - (i - 2)) (drop (i - 2)
+    (set (set o (i - 1) (zeroDigit + left % 100 % 10)) (i - 2) (zeroDigit + left % 100 / 10)))
+two-before d o i end left many some low room e =
+    let last = zeroDigit + left % 10 in
+    let rest : left / 100 ≡ left / 10 / 10 = omega arith in
+    let back : i - 2 ≡ i - 1 - 1 = omega arith in
+    let one : left % 100 % 10 ≡ left % 10 = omega arith in
+    let next : left % 100 / 10 ≡ left / 10 % 10 = omega arith in
+    rw (rest, back, one, next)
+    (digit-before d (set o (i - 1) last) (i - 1) end (left / 10) (omega arith) (omega arith) (omega arith)
+    (rw (length-set o (i - 1) last) (omega arith))
+    (digit-before d o i end left (omega arith) (omega arith) low room e))
 
 pub first-digit :
     (d s o : List ℕ) (n i end left : ℕ) → left < 10 → i ≡ n + length (decimal left) → i ≤ end → i ≤ length o →

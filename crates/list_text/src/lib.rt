@@ -97,7 +97,7 @@ fn digits(m: u32) -> usize
     10
 }
 
-// Puts the decimal of m, from the last digit to the first.
+// Puts the decimal of m, from the last digit to the first, two at a time while there are more.
 fn put_decimal(out: &mut [u8], n: usize, m: u32) -> usize
     requires { ⌜ n + length (decimal m) ≤ length (now out) ⌝ }
     ensures { λ r. ⌜ (take r (now (out .exit)) ≡ take n (now (out .entry)) ++ decimal m)
@@ -106,6 +106,13 @@ fn put_decimal(out: &mut [u8], n: usize, m: u32) -> usize
     let end = n + digits(m);
     let mut i = end;
     let mut left = m;
+    while 100 <= left {
+        let both = left % 100;
+        out[i - 1] = ZERO + (both % 10) as u8;
+        out[i - 2] = ZERO + (both / 10) as u8;
+        left = left / 100;
+        i -= 2;
+    }
     while 10 <= left {
         i -= 1;
         out[i] = ZERO + (left % 10) as u8;

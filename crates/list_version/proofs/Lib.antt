@@ -16,3 +16,4 @@ pub mod HighestMember
 pub mod StampsByKey
 pub mod NamesOfSome
 pub mod SitesInTurn
+pub mod SumByPairs

@@ -5,23 +5,28 @@ use super::ALL_KEYS;
 use super::SITE_NUMBERS;
 use super::sets::highest;
 use super::sets::is_member;
-use edit_causal::vector_sum;
 use edit_record::AT_KEY;
 use edit_record::AT_SITE;
-use edit_record::AT_VALUE;
+use edit_record::AT_VECTOR;
 use edit_record::KEYS;
+use edit_record::PLACE;
+use edit_record::RECORD;
+use edit_record::SITES;
 use edit_record::VALUES;
-use edit_record::vector_of;
 use group_step::only;
 use group_step::without;
 use table_sets::copied::copy_at;
 ghost use mathlib.Core.Path.{_≡_};
 ghost use mathlib.Core.List.{List};
 ghost use Prim.Native.Nat.{ℕ, _+_, _*_, _-_, _≤_, _<_, max};
-ghost use lib.ListN.{length, take, set, replicate};
-ghost use Rattle.edit_record.specs.Layout.{mostSites, keys, twoBytes};
+ghost use lib.ListN.{length, take, drop, set, replicate};
+ghost use Rattle.edit_record.specs.declared.Edit.{Edit};
+ghost use Rattle.edit_record.specs.Layout.{mostSites, keys, twoBytes, recordLength, vectorAt};
+ghost use Rattle.edit_record.specs.RecordBytes.{counts};
+ghost use Rattle.edit_causal.specs.TotalOrder.{vectorSum};
 ghost use Rattle.edit_history.specs.EditsHeld.{recordAt};
 ghost use Rattle.group_step.specs.GroupRows.{mostSets};
+ghost use Rattle.table_sets.specs.FieldForms.{HasFields};
 ghost use Rattle.list_version.specs.Identifier.{siteNumbers};
 ghost use Rattle.list_version.specs.VersionForms.{setsAt, stampOf, values, placings, Small, Stamped};
 ghost use Rattle.list_version.specs.VersionForms.{largestBy, KeyedBy, KeyedTo};
@@ -37,19 +42,49 @@ fn stamped(key: u8, sum: u32, site: u8, value: u32) -> u64
     key as u64 * PLACINGS + ((sum as u64 * SITE_NUMBERS + site as u64) * VALUES + value as u64 + 1)
 }
 
-// The stamp of the record in place p; 0 for a key that is none.
-fn stamp_at(recs: &[u8], p: u16) -> u64
-    ensures { λ r. ⌜ (r ≡ stampOf (recordAt (now (recs .entry)) p)) × Small (recordAt (now (recs .entry)) p) ⌝ }
+// The sum of the entries in the vector of a record that is there whole. They are read two at a time, which a processor
+// adds up in half as many steps.
+fn sum_of(rec: &[u8]) -> u32
+    requires { ⌜ recordLength ≤ length (now rec) ⌝ }
+    ensures { λ r. ⌜ (r ≡ vectorSum (counts mostSites (drop vectorAt (now (rec .entry)))))
+        × (r ≤ mostSites * (twoBytes - 1)) ⌝ }
 {
-    let rec = copy_at(recs, p);
-    let sum = vector_sum(vector_of(&rec));
-    let value = edit_record::four_at(&rec, AT_VALUE);
-    let site = rec[AT_SITE];
-    let key = rec[AT_KEY];
+    let mut total: u32 = 0;
+    let mut i: usize = 0;
+    while i < SITES / 2 {
+        let both = edit_record::four_at(rec, AT_VECTOR + 4 * i);
+        total = total + both % 65536 + both / 65536;
+        i += 1;
+    }
+    total
+}
+
+// The stamp of a record that is there whole; 0 for a key that is none.
+fn stamp_of(rec: &[u8]) -> u64
+    requires { ⌜ recordLength ≤ length (now rec) ⌝ }
+    ensures { λ r. ⌜ ((e : Edit) → HasFields (now (rec .entry)) e → (r ≡ stampOf e) × Small e) ⌝ }
+{
+    let sum = sum_of(rec);
+    let value = edit_record::value_of(rec);
+    let site = edit_record::byte_at(rec, AT_SITE);
+    let key = edit_record::byte_at(rec, AT_KEY);
     if KEYS <= key {
         return 0;
     }
     stamped(key, sum, site, value)
+}
+
+// The stamp of the record in place p, which is read where it stands, if all of it is there.
+fn stamp_at(recs: &[u8], p: u16) -> u64
+    ensures { λ r. ⌜ (r ≡ stampOf (recordAt (now (recs .entry)) p)) × Small (recordAt (now (recs .entry)) p) ⌝ }
+{
+    let at = p as usize * PLACE;
+    let end = at + RECORD;
+    if end <= recs.len() {
+        return stamp_of(&recs[at..end]);
+    }
+    let rec = copy_at(recs, p);
+    stamp_of(&rec)
 }
 
 // Notes that the i-th Set has the stamp s: among those of its key, and as a peak if it outdoes all of them before it.

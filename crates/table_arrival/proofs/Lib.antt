@@ -1,6 +1,7 @@
 pub mod RecordsOneMore
 pub mod FirstReason
 pub mod SixByCounters
+pub mod MatesFound
 pub mod Admitted
 pub mod UntouchedSound
 pub mod EntriesAfterStore

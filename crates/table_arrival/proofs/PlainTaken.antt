@@ -33,7 +33,7 @@ use Rattle.table_arrival.specs.Arrival.{counted, putRecord, putCounts, p
 use Rattle.table_arrival.specs.Arrival.{acceptanceOf}
 use Rattle.table_arrival.specs.ArrivalForms.{firstToSix, RowsApart}
 use Rattle.table_arrival.proofs.Admitted.{Admitted, admitted, admitted-target}
-use Rattle.table_arrival.proofs.CodeOutcomes.{create-is, layer-is, set-is, row-back, count-room}
+use Rattle.table_arrival.proofs.CodeOutcomes.{create-is, layer-is, set-is, row-back}
 use Rattle.table_arrival.proofs.ObjectOfSet.{object-less, row-few, row-ascending, row-below, row-rest}
 use Rattle.edit_record.proofs.WellFormed.{otherwise-layer}
 
@@ -90,10 +90,6 @@ module _
 
   pub fit-admitted : Admitted t b
   fit-admitted = admitted t b none-of-six
-
-  -- its site has an entry, and room in it
-  pub site-count : getD (t .counters .held) (e .site .0) 0 < mostRecords
-  site-count = count-room t b s fit-admitted
 
   -- ---- a Create, and a layer edit
 

@@ -5,13 +5,15 @@ use mathlib.Core.List.{List, [], _∷_}
 use mathlib.Core.Path.{_≡_}
 use mathlib.Core.Bool.{Bool, true, false, not, _&&_, _||_}
 use lib.Dec.{eqb, leb}
+use lib.ListN.{length}
 use Rattle.math_lists.specs.SortedLists.{any}
 use Rattle.edit_record.specs.Layout.{createKind, setKind, limitedKind}
 use Rattle.edit_record.specs.declared.Edit.{Edit}
 use Rattle.edit_record.specs.RecordBytes.{decodeOf}
-use Rattle.edit_record.specs.Answer1.{isSet, isAimed, malformed}
+use Rattle.edit_record.specs.Answer1.{isSet, isLimited, isAimed, malformed}
 use Rattle.edit_history.specs.declared.Surveyed.{Surveyed}
 use Rattle.edit_causal.specs.Conflict.{conflictsWith}
+use Rattle.edit_causal.specs.ConflictForms.{plainMarks}
 use Rattle.edit_history.specs.EditsHeld.{mostRecords, editsOf, setsOn, isTarget}
 use Rattle.edit_history.specs.Answers2to5.{isRepeated, isEarly, isTorn, isAstray, passes}
 use Rattle.edit_history.specs.Answer16.{isNameless, recordsNamed}
@@ -23,6 +25,7 @@ use Rattle.group_limited.specs.LimitedForms.{JudgedWhere}
 use Rattle.table_drawing.specs.declared.Counters.{Counters}
 use Rattle.table_drawing.specs.Tables.{Tables, heldBy}
 use Rattle.table_soundness.specs.Sound.{sound}
+use Rattle.table_arrival.specs.declared.Mates.{Mates}
 use Rattle.table_arrival.specs.declared.Tested.{Tested}
 use Rattle.table_arrival.specs.Answers6and7.{rowOf, isFull, firstOf, inTurn}
 
@@ -32,6 +35,12 @@ fullWith c kind k =
     leb mostRecords (c .records)
     || eqb kind createKind && leb mostObjects (c .objects)
     || (eqb kind setKind || eqb kind limitedKind) && leb mostSets k
+
+-- m tells of the Sets ms of an object, before the edit e
+pub record MatesOf (ms : List Edit) (e : Edit) (m : Mates) : Type 0 where
+  pub sets : m .sets ≡ length ms
+  pub plain : m .plain ≡ plainMarks e ms
+  pub limited : m .limited ≡ any isLimited ms
 
 -- what is judged of an edit e, where es are held: 16, and the Sets that conflict with it if its target is held; both if
 -- none of 1 to 5 applies

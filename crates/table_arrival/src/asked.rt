@@ -1,33 +1,37 @@
 // What an arriving record is asked, and asks, before it is taken: 1 to 3 by the counters, and then all the rest in one
 // survey of the records held, by the index of their places that the test of soundness leaves.
+use super::Mates;
 use edit_history::Surveyed;
+use edit_record::AT_KIND;
 use edit_record::AT_SEQ;
 use edit_record::AT_SITE;
 use edit_record::AT_TARGET;
 use edit_record::AT_TARGET_SEQ;
 use edit_record::CREATE;
+use edit_record::LIMITED;
+use edit_record::PLACE;
 use edit_record::Seq;
 use edit_record::Site;
-use group_step::SETS;
 use table_drawing::Answer;
 use table_drawing::Counters;
 ghost use mathlib.Core.Path.{_≡_};
 ghost use mathlib.Core.Bool.{true, false, cond};
 ghost use mathlib.Core.List.{[], _∷_};
-ghost use Prim.Native.Nat.{_≤_};
+ghost use Prim.Native.Nat.{_*_, _≤_};
 ghost use lib.ListN.{length};
 ghost use Rattle.math_lists.specs.SortedLists.{any};
-ghost use Rattle.edit_record.specs.Layout.{mostSites, recordLength};
+ghost use Rattle.edit_record.specs.Layout.{mostSites, recordLength, placeLength};
 ghost use Rattle.edit_record.specs.RecordBytes.{decodeOf};
-ghost use Rattle.edit_history.specs.EditsHeld.{mostRecords, editsOf, isTarget};
+ghost use Rattle.edit_history.specs.EditsHeld.{mostRecords, editsOf, setsOn, isTarget};
 ghost use Rattle.edit_history.specs.Answers2to5.{isTorn};
 ghost use Rattle.edit_history.specs.Answer16.{recordsNamed};
 ghost use Rattle.edit_history.specs.SurveyForms.{surveyOf, SurveyedOf, repeatedAgainst, earlyAgainst};
 ghost use Rattle.edit_walk.specs.WalkForms.{Indexed, inTurnAgainst};
+ghost use Rattle.group_step.specs.GroupRows.{mostSets};
 ghost use Rattle.table_index.specs.IndexForms.{numberAt, Holds};
 ghost use Rattle.table_drawing.specs.AnswerNumbers.{numberOf};
 ghost use Rattle.table_arrival.specs.Answers6and7.{firstOf, inTurn};
-ghost use Rattle.table_arrival.specs.ArrivalForms.{threeBy};
+ghost use Rattle.table_arrival.specs.ArrivalForms.{threeBy, MatesOf};
 
 // 2 or 3, if one of them applies to a record that is there whole, by the counts of the edits held.
 fn two_or_three(held: &[u16], rec: &[u8]) -> Answer
@@ -76,9 +80,40 @@ fn creates_before(recs: &[u8], p: usize) -> usize
     count
 }
 
+// What the Sets on the Create s.q, among the first n records, are to the edit of rec: one walk tells it all.
+fn mates_on(recs: &[u8], n: usize, s: Site, q: Seq, rec: &[u8]) -> Mates
+    requires { ⌜ (n * placeLength ≤ length (now recs))
+        × (n ≤ mostRecords)
+        × (recordLength ≤ length (now rec))
+        × (length (setsOn s q (editsOf (now recs) n)) ≤ mostSets) ⌝ }
+    ensures { λ r. ⌜ MatesOf (setsOn s q (editsOf (now (recs .entry)) n)) (decodeOf (now (rec .entry))) r ⌝ }
+{
+    let mut sets: usize = 0;
+    let mut plain: u64 = 0;
+    let mut limited = false;
+    let mut i: usize = 0;
+    while i < n {
+        let at = i * PLACE;
+        let place = &recs[at..];
+        if edit_object::is_set_in(place, s, q) {
+            let b = edit_causal::is_conflict_in(place, rec);
+            plain = edit_history::marked_if(b, plain, sets);
+            limited = limited | (place[AT_KIND] == LIMITED);
+            sets += 1;
+        }
+        i += 1;
+    }
+    Mates {
+        sets,
+        plain,
+        limited,
+    }
+}
+
 // All that a record whose target is held asks of the records held.
 fn survey_held(c: Counters, recs: &[u8], places: &[u16], rec: &[u8], torn: bool) -> Surveyed
     requires { ⌜ Holds c (now recs)
+        × (mostRecords * placeLength ≤ length (now recs))
         × Indexed (now recs) (c .records) (now places)
         × (recordLength ≤ length (now rec))
         × (any (isTarget (decodeOf (now rec))) (editsOf (now recs) (c .records)) ≡ true) ⌝ }
@@ -89,15 +124,12 @@ fn survey_held(c: Counters, recs: &[u8], places: &[u16], rec: &[u8], torn: bool)
     let q = edit_record::pair_at(rec, AT_TARGET_SEQ);
     let p = edit_walk::place_at(places, Site(s), Seq(q));
     let object = creates_before(recs, p as usize);
-    // what work space holds at first does not matter; zeros would be set by memset (docs/DECISIONS.md, 24)
-    let mut found = [1u16; SETS];
-    let sets = edit_object::put_places(&mut found, recs, c.records as usize, Site(s), Seq(q));
-    let m = table_index::mates_in(recs, &found, sets, rec);
+    let m = mates_on(recs, c.records as usize, Site(s), Seq(q), rec);
     Surveyed {
         torn,
         found: true,
         object,
-        sets,
+        sets: m.sets,
         plain: m.plain,
         limited: m.limited,
     }
@@ -106,6 +138,7 @@ fn survey_held(c: Counters, recs: &[u8], places: &[u16], rec: &[u8], torn: bool)
 // All that a record to which none of 1 to 3 is given asks of the records held.
 pub fn survey(c: Counters, recs: &[u8], places: &[u16], rec: &[u8]) -> Surveyed
     requires { ⌜ Holds c (now recs)
+        × (mostRecords * placeLength ≤ length (now recs))
         × Indexed (now recs) (c .records) (now places)
         × (recordLength ≤ length (now rec))
         × (inTurnAgainst (c .sites) (c .held) (decodeOf (now rec)) ≡ true)
@@ -117,11 +150,7 @@ pub fn survey(c: Counters, recs: &[u8], places: &[u16], rec: &[u8]) -> Surveyed
     if !a.held {
         return edit_history::none_found(a.torn);
     }
-    // in two places, so that its work space is no part of an arrival's
-    if a.torn {
-        return survey_held(c, recs, places, rec, true);
-    }
-    survey_held(c, recs, places, rec, false)
+    survey_held(c, recs, places, rec, a.torn)
 }
 
 // The answer to a record that asks nothing of the Sets held: 8 before it, where 16 is given to a record held.

@@ -38,6 +38,14 @@ pub struct Arrived {
     pub counters: Counters,
 }
 
+// Of the Sets of an object how many they are, which of them conflict with an edit by document 01's rule, bit i for the
+// i-th, and whether one is limited.
+pub struct Mates {
+    pub sets: usize,
+    pub plain: u64,
+    pub limited: bool,
+}
+
 // Whether 16 is given to none of the records held, and what is judged of an arriving one if so.
 pub struct Tested {
     pub named: bool,

@@ -1,3 +1,4 @@
 pub mod MasksOfSets
 pub mod EnumerationOutcomes
+pub mod BoxPrepared
 pub mod SameAsRow

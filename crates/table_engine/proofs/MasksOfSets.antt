@@ -1,6 +1,6 @@
 -- The masks of a box's Sets by the rows that tell of them, and the groups that they give. Assumes, where it is said,
 -- that the Sets are proper, or that none of them conflicts with itself.
-use mathlib.Core.Path.{_≡_, sym, ap, ap₂, subst, _∙_}
+use mathlib.Core.Path.{_≡_, sym, ap, ap₂, _∙_}
 use mathlib.Core.Logic.{inl, inr}
 use mathlib.Core.Bool.{Bool, false, cond}
 use mathlib.Core.List.{List}
@@ -37,17 +37,12 @@ use Rattle.group_engine.specs.SearchForms.{conflict, byMasks, Conflicts}
 use Rattle.group_engine.proofs.MasksOfElements.{groups-of-elements, conflicts-of-elements}
 use Rattle.group_limited.specs.LimitedForms.{withMark, RowsTell}
 use Rattle.group_sight.specs.SightForms.{setsIn}
-use Rattle.table_engine.specs.EngineForms.{groupsIn, MasksTell, MaskedFirst}
+use Rattle.table_engine.specs.EngineForms.{MasksTell, MaskedFirst}
 
-module _ (rs ps : List ℕ) (k : ℕ) (fits : k ≤ length ps) where
-  abbrev xs : List Edit
-  xs = setsIn rs ps k
+-- ---- the k Sets of a box
 
-  long : length xs ≡ k
-  long = sets-length rs ps k fits
-
-  -- ---- the masks by the rows
-
+module _ (xs : List Edit) (k : ℕ) (many : k ≡ length xs) where
+  -- their masks by the rows that tell of them
   pub masked :
       Proper xs → (plains cs out : List ℕ) → RowsTell xs plains cs →
       ((b : Box) → PlainRows b k plains → take k cs ≡ contexts b k →
@@ -56,14 +51,33 @@ module _ (rs ps : List ℕ) (k : ℕ) (fits : k ≤ length ps) where
   unfolding conflictsIn
   masked proper plains cs out rows told i l =
       let b = boxOn xs in
-      let law : Lawful b k = subst (Lawful b) long (proper .lawful) in
-      let named : AllNamed b k = subst (AllNamed b) long (proper .named) in
-      told b (subst (λ (n : ℕ). PlainRows b n plains) long (rows .plainly))
-      (subst (λ (n : ℕ). take n cs ≡ contexts b n) long (rows .held)) i l
+      let law : Lawful b k = rw many (proper .lawful) in
+      let named : AllNamed b k = rw many (proper .named) in
+      told b (rw many (rows .plainly)) (rw many (rows .held)) i l
       ∙ conflict-row-named b k law named i l
-      ∙ ap (λ (n : ℕ). mask n (conflictsBy b (contextsNamed b n) i)) (sym long)
+      ∙ ap (λ (n : ℕ). mask n (conflictsBy b (contextsNamed b n) i)) many
 
-  -- ---- the masks by document 01's conflicts, where none of the Sets is limited
+  -- what the masks of all of them tell
+  module _ (ms : List ℕ) (h : MasksTell k xs ms) where
+    told : (i j : ℕ) → i < length xs → j < length xs → conflict ms i j ≡ conflictsIn xs i j
+    told i j a b = rw (h i (omega (arith, many))) (mask-bit (length xs) (conflictsIn xs i) j b)
+
+    pub masks-fit : NoneItself xs → Conflicts ms k
+    masks-fit irr =
+        rw many (conflicts-of-elements (conflictsIn xs) (length xs) ms told (conflicts-turned xs) irr)
+
+    pub masks-groups : byMasks ms k ≡ groupsOf xs
+    unfolding groupsOf
+    masks-groups = ap (byMasks ms) many ∙ groups-of-elements (conflictsIn xs) (length xs) ms told
+
+-- ---- the masks by document 01's conflicts, where none of the Sets in the first k of the places ps is limited
+
+module _ (rs ps : List ℕ) (k : ℕ) (fits : k ≤ length ps) where
+  abbrev xs : List Edit
+  xs = setsIn rs ps k
+
+  long : length xs ≡ k
+  long = sets-length rs ps k fits
 
   module _ (none : any isLimited xs ≡ false) where
     plain-at : (i : ℕ) → i < length xs → isLimited (getD xs i noEdit) ≡ false
@@ -108,17 +122,3 @@ module _ (rs ps : List ℕ) (k : ℕ) (fits : k ≤ length ps) where
             ∙ sym (mask-by-or i (conflictsIn xs i)
             ∙ rw (conflict-at i i l l ∙ conflict-irreflexive (recordAt rs (getD ps i 0)))))
       ]
-
-  -- ---- what the masks of all of them tell
-
-  module _ (ms : List ℕ) (h : MasksTell k xs ms) where
-    told : (i j : ℕ) → i < length xs → j < length xs → conflict ms i j ≡ conflictsIn xs i j
-    told i j a b = rw (h i (omega (arith, long))) (mask-bit (length xs) (conflictsIn xs i) j b)
-
-    pub masks-fit : NoneItself xs → Conflicts ms k
-    masks-fit irr =
-        rw long at (conflicts-of-elements (conflictsIn xs) (length xs) ms told (conflicts-turned xs) irr)
-
-    pub masks-groups : byMasks ms k ≡ groupsIn rs ps k
-    unfolding groupsIn groupsOf
-    masks-groups = ap (byMasks ms) (sym long) ∙ groups-of-elements (conflictsIn xs) (length xs) ms told

@@ -16,6 +16,7 @@ use Rattle.edit_record.specs.declared.Edit.{Edit}
 use Rattle.edit_record.specs.Layout.{mostSites}
 use Rattle.edit_record.specs.Answer1.{isCreate, isLimited}
 use Rattle.edit_causal.proofs.Identities.{same-site, same-seq}
+use Rattle.edit_causal.specs.ConflictForms.{plainMarks}
 use Rattle.edit_history.specs.EditsHeld.{recordAt, editsOf, creates, setsOn, isTarget, indexOf, objectOf}
 use Rattle.edit_history.specs.Answers2to5.{isTorn}
 use Rattle.edit_history.specs.SurveyForms.{surveyOf}
@@ -25,8 +26,7 @@ use Rattle.edit_history.proofs.RecordsPassed.{InTurn, one-place}
 use Rattle.edit_walk.proofs.LatestDecides.{target-same}
 use Rattle.edit_walk.proofs.NewsDecide.{turn-against}
 use Rattle.table_drawing.specs.declared.Counters.{Counters}
-use Rattle.table_index.specs.IndexForms.{numberAt, placesOn, limitAt, limitedOn, IndexOf, Holds, matesOf}
-use Rattle.table_index.specs.declared.Mates.{Mates}
+use Rattle.table_index.specs.IndexForms.{numberAt, placesOn, limitAt, limitedOn, IndexOf, Holds}
 use Rattle.table_index.proofs.PlacesOfSets.{places-sets, places-length}
 
 module _ (c : Counters) (rs : List ℕ) (h : Holds c rs) where
@@ -134,15 +134,16 @@ module _ (c : Counters) (rs : List ℕ) (h : Holds c rs) where
 
     -- a survey of an edit whose target stands where the index says
     pub survey-found :
-        (e : Edit) → any (isTarget e) es ≡ true → (torn : Bool) (o k : ℕ) (m : Mates) → torn ≡ isTorn es e →
+        (e : Edit) → any (isTarget e) es ≡ true → (torn limited : Bool) (o k plain : ℕ) → torn ≡ isTorn es e →
         o ≡ numberAt rs (placeOf ps (e .tsite .0) (e .tseq .0)) → k ≡ length (setsOn (e .tsite) (e .tseq) es) →
-        m ≡ matesOf e (setsOn (e .tsite) (e .tseq) es) →
-        record { torn = torn; found = true; object = o; sets = k; plain = m .plain; limited = m .limited }
+        plain ≡ plainMarks e (setsOn (e .tsite) (e .tseq) es) →
+        limited ≡ any isLimited (setsOn (e .tsite) (e .tseq) es) →
+        record { torn = torn; found = true; object = o; sets = k; plain = plain; limited = limited }
         ≡ surveyOf es e
     unfolding surveyOf
-    survey-found e held torn o k m y z w v =
+    survey-found e held torn limited o k plain y z w v u =
         let (l, t) = target-placed e held in
-        rw (y, z, w, v, held, object-is e (placeOf ps (e .tsite .0) (e .tseq .0)) l t)
+        rw (y, z, w, v, u, held, object-is e (placeOf ps (e .tsite .0) (e .tseq .0)) l t)
 
 -- ---- by the whole index
 

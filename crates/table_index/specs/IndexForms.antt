@@ -26,7 +26,6 @@ use Rattle.edit_walk.specs.WalkForms.{placesLength, placeOf, Indexed, inTurnAga
 use Rattle.group_step.specs.GroupRows.{mostObjects, mostSets}
 use Rattle.table_drawing.specs.declared.Counters.{Counters}
 use Rattle.table_index.specs.declared.Looked.{Looked}
-use Rattle.table_index.specs.declared.Mates.{Mates}
 
 -- the number of the object whose Create stands in place p: how many Creates stand before it
 abbrev pub numberAt : List ℕ → ℕ → ℕ
@@ -116,10 +115,6 @@ pub record Holds (c : Counters) (rs : List ℕ) : Type 0 where
   pub held : Counted (c .held) (editsOf rs (c .records))
   pub objects : c .objects ≡ numberAt rs (c .records)
   pub few-sets : (s : Site) (q : Seq) → length (setsOn s q (editsOf rs (c .records))) ≤ mostSets
-
--- of the Sets ms of an object, those that conflict with e by document 01's rule, and whether one is limited
-abbrev pub matesOf : Edit → List Edit → Mates
-matesOf e ms = record { plain = plainMarks e ms; limited = any isLimited ms }
 
 -- ---- a Set that arrives
 

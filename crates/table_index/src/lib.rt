@@ -10,7 +10,6 @@ use edit_record::AT_TARGET;
 use edit_record::AT_TARGET_SEQ;
 use edit_record::CREATE;
 use edit_record::PLACE;
-use edit_record::RECORD;
 use edit_record::Seq;
 use edit_record::Site;
 use table_drawing::Counters;
@@ -22,23 +21,14 @@ ghost use lib.ListN.{length, getD, set, replicate};
 ghost use Rattle.math_lists.specs.SortedLists.{any};
 ghost use Rattle.edit_record.specs.Layout.{mostSites, keys, recordLength, placeLength};
 ghost use Rattle.edit_record.specs.RecordBytes.{decodeOf};
-ghost use Rattle.edit_causal.specs.Conflict.{doConflict};
-ghost use Rattle.edit_causal.specs.ConflictForms.{plainMarks};
-ghost use Rattle.edit_history.specs.EditsHeld.{mostRecords, recordAt, editsOf, isTarget};
+ghost use Rattle.edit_history.specs.EditsHeld.{mostRecords, editsOf, isTarget};
 ghost use Rattle.edit_history.specs.Answers2to5.{isTorn};
 ghost use Rattle.edit_history.specs.SurveyForms.{surveyOf, SurveyedOf};
 ghost use Rattle.edit_walk.specs.WalkForms.{placesLength, Spaced, SameStarts, countIn, Indexed, inTurnAgainst};
 ghost use Rattle.group_step.specs.GroupRows.{mostObjects, mostSets};
-ghost use Rattle.group_sight.specs.SightForms.{setsIn};
 ghost use Rattle.table_drawing.specs.declared.Counters.{Counters};
-ghost use Rattle.table_index.specs.IndexForms.{numberAt, chainsLength, IndexOf, Holds, matesOf};
+ghost use Rattle.table_index.specs.IndexForms.{numberAt, chainsLength, IndexOf, Holds};
 ghost use Rattle.table_index.specs.IndexForms.{linkedIn};
-
-// Of the Sets of an object, those that conflict with an edit by document 01's rule, and whether one is limited.
-pub struct Mates {
-    pub plain: u64,
-    pub limited: bool,
-}
 
 // Whether 4 is given to an edit, and whether its target is held and was seen.
 pub struct Aim {
@@ -145,48 +135,6 @@ pub fn build(
         m = add(recs, i, m, places, numbers, counts, chains);
         i += 1;
     }
-}
-
-// Whether the edit in place p conflicts with that of rec, a record that is there whole. Where the other is there whole
-// too, both are read where they stand.
-fn is_conflict_with(recs: &[u8], p: u16, rec: &[u8]) -> bool
-    requires { ⌜ recordLength ≤ length (now rec) ⌝ }
-    ensures { λ r. ⌜ r ≡ doConflict (recordAt (now (recs .entry)) p) (decodeOf (now (rec .entry))) ⌝ }
-{
-    let at = p as usize * PLACE;
-    if at + RECORD <= recs.len() {
-        return edit_causal::is_conflict_in(&recs[at..], rec);
-    }
-    let a = edit_history::decode_at(recs, p as usize);
-    let e = edit_record::decode(rec);
-    edit_causal::is_conflict(a, e)
-}
-
-// Which of the edits in the k first places conflict with that of rec by document 01's rule, bit i for the i-th.
-fn marks_with(recs: &[u8], places: &[u16], k: usize, rec: &[u8]) -> u64
-    requires { ⌜ (k ≤ length (now places)) × (k ≤ mostSets) × (recordLength ≤ length (now rec)) ⌝ }
-    ensures { λ r. ⌜ r
-        ≡ plainMarks (decodeOf (now (rec .entry))) (setsIn (now (recs .entry)) (now (places .entry)) k) ⌝ }
-{
-    let mut marks: u64 = 0;
-    let mut i: usize = 0;
-    while i < k {
-        let b = is_conflict_with(recs, places[i], rec);
-        marks = edit_history::marked_if(b, marks, i);
-        i += 1;
-    }
-    marks
-}
-
-// The same, and whether one of those edits is limited.
-pub fn mates_in(recs: &[u8], places: &[u16], k: usize, rec: &[u8]) -> Mates
-    requires { ⌜ (k ≤ length (now places)) × (k ≤ mostSets) × (recordLength ≤ length (now rec)) ⌝ }
-    ensures { λ r. ⌜ r
-        ≡ matesOf (decodeOf (now (rec .entry))) (setsIn (now (recs .entry)) (now (places .entry)) k) ⌝ }
-{
-    let plain = marks_with(recs, places, k, rec);
-    let limited = group_limited::is_any_limited(recs, places, k);
-    Mates { plain, limited }
 }
 
 // All that an arriving edit asks of the records held, where its target is held.

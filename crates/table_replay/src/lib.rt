@@ -1,5 +1,7 @@
 // Records taken one after another from an empty drawing.
+use edit_form::OLD;
 use edit_history::RECORDS;
+use edit_record::RECORD;
 use edit_record::SITES;
 use edit_walk::PLACES;
 use group_kept::ROWS;
@@ -83,13 +85,17 @@ fn take_records(
     let mut held = [0u16; SITES];
     let mut m: u16 = 0;
     let mut sum: u32 = 0;
+    // written for old records alone: what was just written is read slowly
+    let mut wide = [0u8; RECORD];
     let mut at: usize = 0;
     let mut i: usize = 0;
     while i < n {
         let rest = &recs[at..];
         let used = edit_form::length_from(rest, form);
         at = at + used;
-        let wide = edit_form::widened_if(rest, form);
+        if form == OLD {
+            wide = edit_form::widened_from(rest);
+        }
         let rec = edit_form::long_in(rest, form, used, &wide);
         let t = table_next::short::take_short(
             sites,

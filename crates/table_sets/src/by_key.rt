@@ -3,7 +3,6 @@
 use edit_causal::shown;
 use edit_record::AT_SEQ;
 use edit_record::AT_SITE;
-use edit_record::AT_VALUE;
 use edit_record::KEYS;
 use edit_record::VALUES;
 ghost use mathlib.Core.Path.{_≡_};
@@ -24,23 +23,27 @@ const SITE_NUMBERS: u64 = edit_record::SITE_NUMBERS as u64;
 
 // What a later Set is told of the one with these bytes, whose key is known, as one number.
 pub fn told_of(rec: &[u8], key: u8) -> u64
+    requires { ⌜ recordLength ≤ length (now rec) ⌝ }
     ensures { λ r. ⌜ ((e : Edit) → HasFields (now (rec .entry)) e → key ≡ e .key → ToldAs r e) ⌝ }
 {
     let site = edit_record::byte_at(rec, AT_SITE);
-    let seq = edit_record::two_at(rec, AT_SEQ);
-    let sent = edit_record::four_at(rec, AT_VALUE);
+    let seq = edit_record::pair_at(rec, AT_SEQ);
+    let sent = edit_record::value_of(rec);
     let value = shown(key, sent);
     (site as u64 * SEQ_NUMBERS + seq as u64) * VALUES + value as u64
 }
 
 // Whether the author of the Set with these bytes, told as y, had not seen the one told as x, and it is shown
-// differently.
+// differently. That is asked first, since no byte is read for it.
 pub fn is_unlike(x: u64, y: u64, rec: &[u8]) -> bool
     requires { ⌜ recordLength ≤ length (now rec) ⌝ }
     ensures { λ r. ⌜ ((a b : Edit) → ToldAs x a → ToldAs y b → HasFields (now (rec .entry)) b → r ≡ unlike a b) ⌝ }
 {
+    if x % VALUES == y % VALUES {
+        return false;
+    }
     let site = (x / (SEQ_NUMBERS * VALUES) % SITE_NUMBERS) as u8;
     let seq = (x / VALUES % SEQ_NUMBERS) as u16;
     let seen = edit_record::own_entry(rec, site);
-    !(seq <= seen) & (x % VALUES != y % VALUES)
+    !(seq <= seen)
 }

@@ -92,7 +92,7 @@ fn mark_bytes(
     m
 }
 
-// The same, and its bytes are read where they stand, if all of them are there.
+// The same, and its bytes are copied out of the table first.
 pub fn mark_set(sets: &mut [u64], tolds: &mut [u64], recs: &[u8], places: &[u16], i: usize) -> u64
     requires { ⌜ (i < mostSets)
         × (i < length (now places))
@@ -104,14 +104,28 @@ pub fn mark_set(sets: &mut [u64], tolds: &mut [u64], recs: &[u8], places: &[u16]
         (setsIn (now (recs .entry)) (now (places .entry)) i))
         × MaskedTo (now (recs .entry)) (now (places .entry)) (i + 1) (now (sets .exit)) (now (tolds .exit)) ⌝ }
 {
-    let p = places[i];
-    let at = p as usize * PLACE;
+    let rec = copy_at(recs, places[i]);
+    mark_bytes(sets, tolds, recs, places, i, &rec)
+}
+
+// The same, and its bytes are read where they stand, if all of them are there.
+fn mark_in_place(sets: &mut [u64], tolds: &mut [u64], recs: &[u8], places: &[u16], i: usize) -> u64
+    requires { ⌜ (i < mostSets)
+        × (i < length (now places))
+        × (keys ≤ length (now sets))
+        × (i < length (now tolds))
+        × MaskedTo (now recs) (now places) i (now sets) (now tolds)
+        × ((j : ℕ) → j < i → Tells (setAt (now recs) (now places) j) (setAt (now recs) (now places) i)) ⌝ }
+    ensures { λ r. ⌜ (r ≡ plainMarks (setAt (now (recs .entry)) (now (places .entry)) i)
+        (setsIn (now (recs .entry)) (now (places .entry)) i))
+        × MaskedTo (now (recs .entry)) (now (places .entry)) (i + 1) (now (sets .exit)) (now (tolds .exit)) ⌝ }
+{
+    let at = places[i] as usize * PLACE;
     let end = at + RECORD;
     if end <= recs.len() {
         return mark_bytes(sets, tolds, recs, places, i, &recs[at..end]);
     }
-    let rec = copy_at(recs, p);
-    mark_bytes(sets, tolds, recs, places, i, &rec)
+    mark_set(sets, tolds, recs, places, i)
 }
 
 // Which of the t Sets are in dispute, bit i for the i-th; `tolds` is work space.
@@ -127,7 +141,7 @@ pub fn disputed_in(tolds: &mut [u64], recs: &[u8], places: &[u16], t: usize) -> 
     let mut all: u64 = 0;
     let mut i: usize = 0;
     while i < t {
-        let m = mark_set(&mut sets, tolds, recs, places, i);
+        let m = mark_in_place(&mut sets, tolds, recs, places, i);
         if m != 0 {
             all = all | m | (1 << i);
         }

@@ -1,6 +1,6 @@
--- The test that every entry of l from k on is zero, as loops make it: from k on, from the end down, and by two halves.
--- Assumes nothing.
-use mathlib.Core.Path.{_≡_, refl, sym}
+-- The test that every entry of l from k on is zero, as loops make it: from k on, from the end down, and by four
+-- parts. Assumes nothing.
+use mathlib.Core.Path.{_≡_, refl, sym, ap, _∙_}
 use mathlib.Core.Logic.{inl, inr}
 use mathlib.Core.Bool.{Bool, true, _&&_, _||_, and-assoc}
 use mathlib.Core.List.{List}
@@ -80,43 +80,93 @@ module _ (l : List ℕ) where
       (zero-each (i + 1) (λ j m p. zero-here i h j (omega arith) p))
       (zero-here i h i (omega arith) o))
 
-  -- ---- by halves that cover it: so many from k on, and as many up to the end
+  -- ---- by four parts that stand one behind another, the first of them from k on
 
-  abbrev pub zeroBoth : ℕ → ℕ → ℕ → Bool
-  zeroBoth k other i = eqb (getD l (k + i) 0) 0 && eqb (getD l (other + i) 0) 0
+  abbrev pub zeroFour : ℕ → ℕ → ℕ → Bool
+  zeroFour k part i =
+      eqb (getD l (k + i) 0) 0
+      && (eqb (getD l (k + part + i) 0) 0
+      && (eqb (getD l (k + part + part + i) 0) 0 && eqb (getD l (k + part + part + part + i) 0) 0))
 
-  pub both-more :
-      (k other i : ℕ) →
-      (all i (zeroBoth k other) && eqb (getD l (k + i) 0) 0 && eqb (getD l (other + i) 0) 0)
-      ≡ all (i + 1) (zeroBoth k other)
+  pub four-more :
+      (k part i : ℕ) →
+      (all i (zeroFour k part) && eqb (getD l (k + i) 0) 0 && eqb (getD l (k + part + i) 0) 0
+      && eqb (getD l (k + part + part + i) 0) 0 && eqb (getD l (k + part + part + part + i) 0) 0)
+      ≡ all (i + 1) (zeroFour k part)
   unfolding all
-  both-more k other i =
-      rw add-one (and-assoc (all i (zeroBoth k other)) (eqb (getD l (k + i) 0) 0) (eqb (getD l (other + i) 0) 0))
+  four-more k part i =
+      let a = all i (zeroFour k part) in
+      let x = eqb (getD l (k + i) 0) 0 in
+      let y = eqb (getD l (k + part + i) 0) 0 in
+      let z = eqb (getD l (k + part + part + i) 0) 0 in
+      let w = eqb (getD l (k + part + part + part + i) 0) 0 in
+      rw add-one (and-assoc (a && x && y) z w ∙ and-assoc (a && x) y (z && w) ∙ and-assoc a x (y && (z && w)))
 
-  pub both-end :
-      (k half other : ℕ) → k ≤ other → other ≤ k + half → other + half ≡ length l →
-      all half (zeroBoth k other) ≡ zeroFrom l k
-  both-end k half other low near end =
-      same-test (all half (zeroBoth k other)) (zeroFrom l k)
-      (λ h. zero-each k (λ j m p. at h j m p (decLt j (k + half))))
-      (λ h. all-on half (zeroBoth k other) (λ i m.
-      and-on (eqb (getD l (k + i) 0) 0) (eqb (getD l (other + i) 0) 0)
-      (zero-here k h (k + i) (omega arith) (omega arith))
-      (zero-here k h (other + i) (omega arith) (omega arith))))
+  abbrev EachOfFour : ℕ → ℕ → ℕ → Type 0
+  EachOfFour k part i =
+      (eqb (getD l (k + i) 0) 0 ≡ true)
+      × (eqb (getD l (k + part + i) 0) 0 ≡ true)
+      × (eqb (getD l (k + part + part + i) 0) 0 ≡ true)
+      × (eqb (getD l (k + part + part + part + i) 0) 0 ≡ true)
+
+  four-at : (k part i : ℕ) → zeroFour k part i ≡ true → EachOfFour k part i
+  four-at k part i h =
+      let y = eqb (getD l (k + part + i) 0) 0 in
+      let z = eqb (getD l (k + part + part + i) 0) 0 in
+      let w = eqb (getD l (k + part + part + part + i) 0) 0 in
+      let (first, more) = both (eqb (getD l (k + i) 0) 0) (y && (z && w)) h in
+      let (second, rest) = both y (z && w) more in
+      let (third, fourth) = both z w rest in
+      (first, second, third, fourth)
+
+  pub four-end :
+      (k part : ℕ) → all part (zeroFour k part) ≡ all (k + part + part + part + part) (zeroAt l k)
+  four-end k part =
+      let end = k + part + part + part + part in
+      same-test (all part (zeroFour k part)) (all end (zeroAt l k))
+      (λ h. all-on end (zeroAt l k) (λ j m. elim (decLt j k) [
+        | yes o ↦ or-left (ltb j k) (eqb (getD l j 0) 0) (lt-ltb j k o)
+        | no o ↦ or-right (ltb j k) (eqb (getD l j 0) 0) (at h j (omega arith) m)
+      ]))
+      (λ h. all-on part (zeroFour k part) (λ i m.
+      and-on (eqb (getD l (k + i) 0) 0) _ (zero-below h (k + i) (omega arith) (omega arith))
+      (and-on (eqb (getD l (k + part + i) 0) 0) _ (zero-below h (k + part + i) (omega arith) (omega arith))
+      (and-on (eqb (getD l (k + part + part + i) 0) 0) _
+      (zero-below h (k + part + part + i) (omega arith) (omega arith))
+      (zero-below h (k + part + part + part + i) (omega arith) (omega arith))))))
     where
-      pair : all half (zeroBoth k other) ≡ true → (i : ℕ) → i < half →
-          (eqb (getD l (k + i) 0) 0 ≡ true) × (eqb (getD l (other + i) 0) 0 ≡ true)
-      pair h i m =
-          both (eqb (getD l (k + i) 0) 0) (eqb (getD l (other + i) 0) 0) (all-at half (zeroBoth k other) h i m)
+      zero-below : all (k + part + part + part + part) (zeroAt l k) ≡ true → (i : ℕ) → k ≤ i →
+          i < k + part + part + part + part → eqb (getD l i 0) 0 ≡ true
+      zero-below h i m o =
+          elim (either (ltb i k) (eqb (getD l i 0) 0)
+          (all-at (k + part + part + part + part) (zeroAt l k) h i o)) [
+            | inl a ↦ absurd (let c = ltb-true i k a in omega arith)
+            | inr a ↦ a
+          ]
 
-      at : all half (zeroBoth k other) ≡ true → (j : ℕ) → k ≤ j → j < length l → Dec (j < k + half) →
+      each : all part (zeroFour k part) ≡ true → (i : ℕ) → i < part → EachOfFour k part i
+      each h i m = four-at k part i (all-at part (zeroFour k part) h i m)
+
+      at : all part (zeroFour k part) ≡ true → (j : ℕ) → k ≤ j → j < k + part + part + part + part →
           eqb (getD l j 0) 0 ≡ true
-      at h j m p (yes y) =
-          let e : k + (j - k) ≡ j = omega arith in
-          rw e at (pair h (j - k) (omega arith) .0)
-      at h j m p (no d) =
-          let e : other + (j - other) ≡ j = omega arith in
-          rw e at (pair h (j - other) (omega arith) .1)
+      at h j m p = elim (decLt j (k + part)) [
+        | yes a ↦
+            let e : k + (j - k) ≡ j = omega arith in
+            rw e at (each h (j - k) (omega arith) .0)
+        | no a ↦ elim (decLt j (k + part + part)) [
+          | yes b ↦
+              let e : k + part + (j - (k + part)) ≡ j = omega arith in
+              rw e at (each h (j - (k + part)) (omega arith) .1)
+          | no b ↦ elim (decLt j (k + part + part + part)) [
+            | yes c ↦
+                let e : k + part + part + (j - (k + part + part)) ≡ j = omega arith in
+                rw e at (each h (j - (k + part + part)) (omega arith) .2)
+            | no c ↦
+                let e : k + part + part + part + (j - (k + part + part + part)) ≡ j = omega arith in
+                rw e at (each h (j - (k + part + part + part)) (omega arith) .3)
+          ]
+        ]
+      ]
 
 -- ---- by the bits of all together
 
@@ -135,3 +185,26 @@ no-bit a b =
     let low′ = and-le-l b a in
     let turned = and-comm a b in
     and-on (eqb a 0) (eqb b 0) (eq-eqb a 0 (omega arith)) (eq-eqb b 0 (omega arith)))
+
+-- one entry more, and one more of each of four parts
+
+pub bits-more :
+    (l : List ℕ) (k i bits : ℕ) → k ≤ i → eqb bits 0 ≡ all i (zeroAt l k) →
+    eqb (bitOr bits (getD l i 0)) 0 ≡ all (i + 1) (zeroAt l k)
+bits-more l k i bits m e =
+    sym (no-bit bits (getD l i 0)) ∙ ap (λ (b : Bool). b && eqb (getD l i 0) 0) e ∙ zero-more l k i m
+
+pub four-bits-more :
+    (l : List ℕ) (k part i bits : ℕ) → eqb bits 0 ≡ all i (zeroFour l k part) →
+    eqb (bitOr (bitOr (bitOr (bitOr bits (getD l (k + i) 0)) (getD l (k + part + i) 0))
+    (getD l (k + part + part + i) 0)) (getD l (k + part + part + part + i) 0)) 0
+    ≡ all (i + 1) (zeroFour l k part)
+four-bits-more l k part i bits e =
+    rw (
+      ← no-bit _ (getD l (k + part + part + part + i) 0),
+      ← no-bit _ (getD l (k + part + part + i) 0),
+      ← no-bit _ (getD l (k + part + i) 0),
+      ← no-bit bits _,
+      e,
+    )
+    (four-more l k part i)

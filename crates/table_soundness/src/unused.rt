@@ -11,21 +11,33 @@ ghost use Rattle.edit_record.specs.Layout.{placeLength};
 ghost use Rattle.edit_history.specs.EditsHeld.{mostRecords};
 ghost use Rattle.table_soundness.specs.Sound.{zeroFrom, restZero};
 
-// Whether every byte from k on is zero. Two halves are walked at once, which share the byte in the middle where there
-// is one: twice as much is in a turn of the loop.
+// So many bytes, and so many groups, are brought from memory at a time.
+const LINE: usize = 64;
+
+const LINE_GROUPS: usize = 8;
+
+// Whether every byte from k on is zero. Four parts of whole lines are walked at once, so that four times as much is in
+// a turn of the loop; fewer than four lines are left past them.
 pub fn is_zero_from8(s: &[u8], k: usize) -> bool
     ensures { λ r. ⌜ r ≡ zeroFrom (now (s .entry)) k ⌝ }
 {
     if s.len() <= k {
         return true;
     }
-    let half = (s.len() - k + 1) / 2;
-    let other = s.len() - half;
+    let part = (s.len() - k) / (4 * LINE) * LINE;
+    let second = k + part;
+    let third = second + part;
+    let fourth = third + part;
     let mut bits: u8 = 0;
     let mut i: usize = 0;
-    while i < half {
-        bits = bits | s[k + i] | s[other + i];
+    while i < part {
+        bits = bits | s[k + i] | s[second + i] | s[third + i] | s[fourth + i];
         i += 1;
+    }
+    let mut j = fourth + part;
+    while j < s.len() {
+        bits = bits | s[j];
+        j += 1;
     }
     bits == 0
 }
@@ -43,20 +55,27 @@ pub fn is_zero_from16(s: &[u16], k: usize) -> bool
     zero
 }
 
-// Whether every group from k on is zero, by halves as well.
+// Whether every group from k on is zero, by four parts as well.
 pub fn is_zero_from64(s: &[u64], k: usize) -> bool
     ensures { λ r. ⌜ r ≡ zeroFrom (now (s .entry)) k ⌝ }
 {
     if s.len() <= k {
         return true;
     }
-    let half = (s.len() - k + 1) / 2;
-    let other = s.len() - half;
+    let part = (s.len() - k) / (4 * LINE_GROUPS) * LINE_GROUPS;
+    let second = k + part;
+    let third = second + part;
+    let fourth = third + part;
     let mut bits: u64 = 0;
     let mut i: usize = 0;
-    while i < half {
-        bits = bits | s[k + i] | s[other + i];
+    while i < part {
+        bits = bits | s[k + i] | s[second + i] | s[third + i] | s[fourth + i];
         i += 1;
+    }
+    let mut j = fourth + part;
+    while j < s.len() {
+        bits = bits | s[j];
+        j += 1;
     }
     bits == 0
 }

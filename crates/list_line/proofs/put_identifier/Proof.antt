@@ -25,63 +25,41 @@ put-byte-requires-2 c κs = search needs
 same-length : tie.Need-same-length
 same-length c = search needs
 
-same-length-2 : tie.Need-same-length-2
-same-length-2 c = search needs
-
-same-length-3 : tie.Need-same-length-3
-same-length-3 c = search needs
-
-same-length-4 : tie.Need-same-length-4
-same-length-4 c = search needs
-
 returns : tie.Need-returns
 unfolding identifierText
 returns c =
-    let s = c .before .before .before .before .before .before .before .before .before .before .before .before
-    .before .before .before .before .before .before .before .before .before .before .before .before .before
-    .before .before in
+    let none-put = c .before .before .before .before .before .before .before .before in
+    let members = none-put .before .before .before in
+    let s = members .before .before .before .before .before .before in
     let a = s .args in
-    let all = c .before .before .before .before .before .before .before .before .before .before .before
-    .before .before .before .before .before .before .put-members in
+    let all = members .put-members in
     let ids = identifierBy (take (a .d) (a .disputes .now)) (a .g) in
     let (front, none) = none-marked (all .last .0) (a .out .now) (all .result) (a .n)
     (omega (arith, s .pre .1, s .pre .2, all .ensures .1, all .kept .0)) (omega (arith, s .pre .2)) ids
-    (all .ensures .0)
-    (c .before .before .before .before .before .before .before .before .if1 .taken) in (
-      rw none (two (take (a .n) (a .out .now)) (space ∷ []) (minus ∷ []) (c .before .before .before .before
-          .before .before .put-byte .ensures .0 ∙ rw front)
-          (c .before .before .put-byte2 .ensures .0)),
-      omega arith,
-      all .ensures .2,
+    (all .ensures .0) (none-put .if1 .taken) in
+    let first = c .before .before .before .before .before .before .put-byte .ensures in
+    let second = c .before .before .put-byte2 .ensures in (
+      rw none (two (take (a .n) (a .out .now)) (space ∷ []) (minus ∷ []) (first .0 ∙ rw front) (second .0)),
+      omega (arith, first .1, second .1),
     )
 
 slice-write-out : tie.Need-slice-write-out
 slice-write-out c = search needs
 
-same-length-5 : tie.Need-same-length-5
-same-length-5 c = search needs
-
-same-length-6 : tie.Need-same-length-6
-same-length-6 c = search needs
-
-same-length-7 : tie.Need-same-length-7
-same-length-7 c = search needs
-
-same-length-8 : tie.Need-same-length-8
-same-length-8 c = search needs
+same-length-2 : tie.Need-same-length-2
+same-length-2 c = search needs
 
 returns-2 : tie.Need-returns-2
 returns-2 c =
-    let s = c .before .before .before .before .before .before .before .before .before .before .before .before
-    .before .before .before .before .before .before .before in
+    let members = c .before .before .before in
+    let s = members .before .before .before .before .before .before in
     let a = s .args in
-    let all = c .before .before .before .before .before .before .before .before .before .put-members in
+    let all = members .put-members in
     let ids = identifierBy (take (a .d) (a .disputes .now)) (a .g) in (
       first-mark-spaced (all .last .0) (a .out .now) (all .result) (a .n)
           (omega (arith, s .pre .1, s .pre .2, all .ensures .1, all .kept .0)) (omega (arith, s .pre .2)) ids
           (all .ensures .0) (c .if1 .left) (omega (arith, s .pre .2, all .kept .0)),
       omega (arith, s .pre .1, all .ensures .1),
-      all .ensures .2,
     )
 
 pub put-identifier-spec : {M : Type 1} → statement M
@@ -92,13 +70,7 @@ put-identifier-spec =
     put-byte-requires
     put-byte-requires-2
     same-length
-    same-length-2
-    same-length-3
-    same-length-4
     returns
     slice-write-out
-    same-length-5
-    same-length-6
-    same-length-7
-    same-length-8
+    same-length-2
     returns-2)

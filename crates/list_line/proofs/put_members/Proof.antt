@@ -8,32 +8,26 @@ use lib.ListN.{length, take}
 use Rattle.list_text.specs.Pieces.{plus, dottedLength}
 use Rattle.list_version.specs.VersionForms.{identifierBy}
 use Rattle.list_line.specs.Line.{nameText}
-use Rattle.list_line.specs.LineForms.{Kept}
 use Rattle.list_line.proofs.LineTurns.{no-member, member-more}
+use Rattle.list_line.proofs.KeptPieces.{kept-name-at}
 use borrow.Author.Needs.{needs}
 use Rattle.list_line.proofs.put_members.Statement.{statement}
 use Rattle.list_line.proofs.put_members.Tie as tie
 
 abbrev Inv-loop : tie.InvT-loop
-Inv-loop out₀ n texts₀ lens₀ told₀ disputes d g w₀ i₀ out texts lens told w i =
+Inv-loop out₀ n texts lens disputes d g w₀ i₀ out w i =
     (i ≤ d)
     × (w ≤ n + i * (1 + dottedLength))
     × (length out ≡ length out₀)
-    × Kept texts lens told
     × (take w out ≡ take n out₀ ++ flatMap (λ y. plus ∷ nameText y) (identifierBy (take i disputes) g))
 
 abbrev μ-loop : tie.MeasureT-loop
-μ-loop out₀ n texts₀ lens₀ told₀ disputes d g w₀ i₀ out texts lens told w i = d - i
+μ-loop out₀ n texts lens disputes d g w₀ i₀ out w i = d - i
 
 loop-holds : tie.Need-loop-holds Inv-loop μ-loop
 loop-holds c =
-    let a = c .before .before .before .before .before .args in (
-      omega arith,
-      omega arith,
-      refl,
-      c .before .before .before .before .before .pre .3,
-      no-member (a .disputes .now) (a .g) (take (a .n) (a .out .now)),
-    )
+    let a = c .before .before .before .before .args in
+    (omega arith, omega arith, refl, no-member (a .disputes .now) (a .g) (take (a .n) (a .out .now)))
 
 mul-put-member : tie.Need-mul-put-member Inv-loop μ-loop
 mul-put-member c = search needs
@@ -43,9 +37,16 @@ shared-slice-read-put-member c = search needs
 
 put-member-requires : tie.Need-put-member-requires Inv-loop μ-loop
 put-member-requires c κs =
-    let l = c .before .before .before .before .before .before .loop in
-    let s = c .before .before .before .before .before .before .before .before .before .before .before .before in
-    (omega (arith, s .pre .1), omega (arith, s .pre .2, l .inv .1, l .inv .2), l .inv .3)
+    let looped = c .before .before .before in
+    let l = looped .loop in
+    let s = looped .before .before .before .before .before in
+    let p = s .pre in (
+      omega (arith, p .1),
+      omega (arith, p .2, l .inv .1, l .inv .2),
+      p .3,
+      p .4,
+      kept-name-at (s .args .disputes .now) (s .args .d) (l .i) (p .0) (omega arith) (p .5),
+    )
 
 add-i : tie.Need-add-i Inv-loop μ-loop
 add-i c = search needs
@@ -55,38 +56,27 @@ loop-less c = search needs
 
 loop-again : tie.Need-loop-again Inv-loop μ-loop
 loop-again c =
-    let l = c .before .before .before .before .before .before .before .before .before .before .before .before
-    .before .before .before .loop in
-    let s = c .before .before .before .before .before .before .before .before .before .before .before .before
-    .before .before .before .before .before .before .before .before .before in
+    let looped = c .before .before .before .before .before .before in
+    let l = looped .loop in
+    let s = looped .before .before .before .before .before in
     let a = s .args in
-    let put = c .before .before .before .before .before .before .before .before .put-member in (
+    let put = c .before .before .put-member in (
       omega arith,
       omega (arith, put .ensures .1, l .inv .1),
       put .kept .0 ∙ l .inv .2,
-      put .ensures .2,
       member-more (a .disputes .now) (a .g) (l .i) (take (a .n) (a .out .now)) (take (l .w) (l .out)) _
-          (omega (arith, s .pre .0)) (l .inv .4) (put .ensures .0),
+          (omega (arith, s .pre .0)) (l .inv .3) (put .ensures .0),
     )
 
 same-length : tie.Need-same-length Inv-loop μ-loop
 same-length c = search needs
 
-same-length-2 : tie.Need-same-length-2 Inv-loop μ-loop
-same-length-2 c = search needs
-
-same-length-3 : tie.Need-same-length-3 Inv-loop μ-loop
-same-length-3 c = search needs
-
-same-length-4 : tie.Need-same-length-4 Inv-loop μ-loop
-same-length-4 c = search needs
-
 returns : tie.Need-returns Inv-loop μ-loop
 returns c =
     let l = c .before .loop in
-    let a = c .before .before .before .before .before .before .before .args in
+    let a = c .before .before .before .before .before .before .args in
     let done : l .i ≡ a .d = omega arith in
-    (rw (← done) (l .inv .4), omega (arith, l .inv .1), l .inv .3)
+    (rw (← done) (l .inv .3), omega (arith, l .inv .1))
 
 pub put-members-spec : {M : Type 1} → statement M
 put-members-spec =
@@ -102,7 +92,4 @@ put-members-spec =
     loop-less
     loop-again
     same-length
-    same-length-2
-    same-length-3
-    same-length-4
     returns)

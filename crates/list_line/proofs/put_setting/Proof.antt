@@ -5,7 +5,7 @@ use Prim.Native.Nat.{_<_}
 use native.Mathlib.Omega.{arith}
 use borrow.Author.Tests.{eq-eqb}
 use Rattle.list_line.specs.LineForms.{pieces}
-use Rattle.list_line.proofs.KeptPieces.{stands, setting-text, setting-most}
+use Rattle.list_line.proofs.KeptPieces.{stands}
 use borrow.Author.Needs.{needs}
 use Rattle.list_line.proofs.put_setting.Statement.{statement}
 use Rattle.list_line.proofs.put_setting.Tie as tie
@@ -13,7 +13,7 @@ use Rattle.list_line.proofs.put_setting.Tie as tie
 returns : tie.Need-returns
 returns c =
     let s = c .before .before .before .before .before in
-    (rw (eq-eqb (s .args .s) 0 (c .if1 .taken)) (sym (append-nil _)), omega arith, s .pre .2)
+    (rw (eq-eqb (s .args .s) 0 (c .if1 .taken)) (sym (append-nil _)), omega arith, s .pre .2, λ i x l e. e)
 
 is-kept-requires : tie.Need-is-kept-requires
 is-kept-requires c κs =
@@ -28,7 +28,7 @@ put-piece-requires c κs =
     let s = c .before .before .before .before .before .before .before .before .before .before .before .before in
     let kept = s .pre .2 in
     let low : s .args .key < pieces = omega (arith, s .pre .0) in
-    (low, kept .texts-long, kept .lens-long, kept .few (s .args .key) low, s .pre .1)
+    (low, kept .texts-long, kept .lens-long, omega (arith, kept .few (s .args .key) (s .pre .0)), s .pre .1)
 
 same-length : tie.Need-same-length
 same-length c = search needs
@@ -48,25 +48,21 @@ returns-2 c =
     .before .before .before in
     let a = s .args in
     let kept = s .pre .2 in
-    let low : a .key < pieces = omega (arith, s .pre .0) in
-    let here = stands kept (a .key) (a .s) low (sym (c .before .before .before .before .before .before
+    let here = stands kept (a .key) (a .s) (s .pre .0) (sym (c .before .before .before .before .before .before
     .before .is-kept .ensures) ∙ c .before .before .before .before .before .before .if2 .taken) in
     let put = c .before .before .put-piece in (
-      put .ensures .0 ∙ rw (here, setting-text (a .key) (a .s) (s .pre .0)),
-      omega (arith, put .ensures .1, kept .few (a .key) low, setting-most (a .key) (s .pre .0)),
+      put .ensures .0 ∙ rw here,
+      omega (arith, put .ensures .1, kept .few (a .key) (s .pre .0)),
       kept,
+      λ i x l e. e,
     )
 
 put-anew-requires : tie.Need-put-anew-requires
 put-anew-requires c κs =
     let s = c .before .before .before .before .before .before .before .before .before .before .before .before
     .before in (
-      omega (arith, s .pre .0),
-      λ l. omega (
-        arith,
-        c .before .before .before .before .before .before .before
-            .before .if1 .left,
-      ),
+      s .pre .0,
+      omega (arith, c .before .before .before .before .before .before .before .before .if1 .left),
       s .pre .1,
       s .pre .2,
     )
@@ -84,15 +80,7 @@ same-length-8 : tie.Need-same-length-8
 same-length-8 c = search needs
 
 returns-3 : tie.Need-returns-3
-returns-3 c =
-    let s = c .before .before .before .before .before .before .before .before .before .before .before .before
-    .before .before .before .before .before .before .before .before .before .before in
-    let a = s .args in
-    let put = c .before .before .before .before .before .before .before .before .put-anew in (
-      put .ensures .0 ∙ rw (setting-text (a .key) (a .s) (s .pre .0)),
-      omega (arith, put .ensures .1, setting-most (a .key) (s .pre .0)),
-      put .ensures .2,
-    )
+returns-3 c = c .before .before .before .before .before .before .before .before .put-anew .ensures
 
 pub put-setting-spec : {M : Type 1} → statement M
 put-setting-spec =

@@ -7,7 +7,7 @@ use native.Mathlib.Omega.{arith}
 use lib.ListN.{length, take}
 use Rattle.edit_record.specs.Layout.{keys}
 use Rattle.list_text.specs.Pieces.{equatedLength}
-use Rattle.list_line.specs.LineForms.{settingsBy, Kept}
+use Rattle.list_line.specs.LineForms.{settingsBy, Kept, SameNames}
 use Rattle.list_line.proofs.LineTurns.{no-keys, key-more}
 use borrow.Author.Needs.{needs}
 use Rattle.list_line.proofs.put_settings.Statement.{statement}
@@ -20,6 +20,7 @@ Inv-loop out₀ n texts₀ lens₀ told₀ stamps t keyed peaks g w₀ k₀ out 
     × (length out ≡ length out₀)
     × Kept texts lens told
     × (take w out ≡ take n out₀ ++ settingsBy (take t stamps) g k)
+    × SameNames texts₀ lens₀ texts lens
 
 abbrev μ-loop : tie.MeasureT-loop
 μ-loop out₀ n texts₀ lens₀ told₀ stamps t keyed peaks g w₀ k₀ out texts lens told w k = keys - k
@@ -28,7 +29,7 @@ loop-holds : tie.Need-loop-holds Inv-loop μ-loop
 loop-holds c =
     let start = c .before .before .before .before .before .before in
     let a = start .args in
-    (omega arith, omega arith, refl, start .pre .1, no-keys _ (a .g) (take (a .n) (a .out .now)))
+    (omega arith, omega arith, refl, start .pre .1, no-keys _ (a .g) (take (a .n) (a .out .now)), λ i x l e. e)
 
 last-of-requires : tie.Need-last-of-requires Inv-loop μ-loop
 last-of-requires c κs =
@@ -62,6 +63,7 @@ loop-again c =
       put .ensures .2,
       key-more _ (a .g) (l .k) _ (take (a .n) (a .out .now)) (take (l .w) (l .out)) _ (l .inv .4)
           (found .last-of .ensures) (put .ensures .0),
+      λ i x low e. put .ensures .3 i x low (l .inv .5 i x low e),
     )
 
 same-length : tie.Need-same-length Inv-loop μ-loop
@@ -89,7 +91,7 @@ returns : tie.Need-returns Inv-loop μ-loop
 returns c =
     let l = c .before .loop in
     let done : l .k ≡ keys = omega arith in
-    (rw (← done) (l .inv .4), omega (arith, l .inv .1), l .inv .3)
+    (rw (← done) (l .inv .4), omega (arith, l .inv .1), l .inv .3, l .inv .5)
 
 pub put-settings-spec : {M : Type 1} → statement M
 put-settings-spec =

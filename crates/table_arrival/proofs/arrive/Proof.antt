@@ -14,7 +14,7 @@ use Rattle.edit_record.specs.RecordBytes.{decodeOf}
 use Rattle.edit_walk.specs.WalkForms.{inTurnAgainst}
 use Rattle.edit_record.proofs.RecordSpans.{span-least}
 use Rattle.table_drawing.specs.Tables.{Tables, tablesOf}
-use Rattle.table_soundness.proofs.SoundFacts.{but-at, but-off, named-decides}
+use Rattle.table_soundness.proofs.SoundFacts.{SoundBut, but-at, but-off, named-decides}
 use Rattle.table_index.specs.IndexForms.{Holds}
 use Rattle.table_arrival.specs.Answers6and7.{firstOf, inTurn}
 use Rattle.table_arrival.specs.Arrival.{arrivalOf}
@@ -37,11 +37,12 @@ tables-of s = tablesOf (s .args .c) (now (s .args .records)) (now (s .args .obje
 yes : (c : tie.After-number) → c .before .before .before .before .is-sound-but-named .result ≡ true
 yes c = not-false (c .before .before .before .before .is-sound-but-named .result) (c .before .before .if1 .left)
 
+but : (c : tie.After-number) → SoundBut (tables-of (start-of c))
+but c =
+    but-at (tables-of (start-of c)) (sym (c .before .before .before .before .is-sound-but-named .ensures .0) ∙ yes c)
+
 held : (c : tie.After-number) → Holds (start-of c .args .c) (now (start-of c .args .records))
-held c =
-    let y = c .before .before .before .before .is-sound-but-named in
-    let t = tables-of (start-of c) in
-    but-holds t (but-at t (sym (y .ensures .0) ∙ yes c))
+held c = but-holds (tables-of (start-of c)) (but c)
 
 three : (c : tie.After-number) →
     let a = start-of c .args in
@@ -117,8 +118,14 @@ survey-requires : tie.Need-survey-requires
 survey-requires c κs =
     let n = c .before .before .before in
     let y = n .before .before .before .before .is-sound-but-named in
-    let (long, in-turn) = timely n (c .before .before .if2 .left) in
-    (held n, y .ensures .1 (yes n), long, in-turn, n .before .one-to-three .ensures .1)
+    let (long, in-turn) = timely n (c .before .before .if2 .left) in (
+      held n,
+      omega (arith, but n .records-long),
+      y .ensures .1 (yes n),
+      long,
+      in-turn,
+      n .before .one-to-three .ensures .1,
+    )
 
 slice-aggregate-judge : tie.Need-slice-aggregate-judge
 slice-aggregate-judge c = search needs

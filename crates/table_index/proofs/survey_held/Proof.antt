@@ -1,6 +1,6 @@
 -- `table_index::survey_held` meets its contract. Assumes nothing.
-use mathlib.Core.Path.{_≡_, refl, sym, ap, ap₂, subst, _∙_}
-use mathlib.Core.Bool.{Bool, not, cond}
+use mathlib.Core.Path.{_≡_, refl, sym, ap, subst, _∙_}
+use mathlib.Core.Bool.{not, cond}
 use Prim.Native.Nat.{ℕ}
 use lib.Dec.{eqb}
 use lib.ListN.{getD}
@@ -14,7 +14,6 @@ use Rattle.edit_causal.specs.ConflictForms.{plainMarks}
 use Rattle.edit_history.specs.EditsHeld.{editsOf, setsOn}
 use Rattle.edit_walk.specs.WalkForms.{placeOf}
 use Rattle.table_index.specs.IndexForms.{numberAt, limitAt}
-use Rattle.table_index.specs.declared.Mates.{Mates}
 use Rattle.table_index.proofs.LookByIndex.{told}
 use Rattle.table_index.proofs.SurveyByIndex.{survey-found, Aimed, aimed}
 use Rattle.table_index.proofs.survey_held.Statement.{statement}
@@ -116,12 +115,9 @@ returns c torn =
     = c .byte-at2 .ensures ∙ ap (λ (i : ℕ). getD (now (a .chains)) (limitAt i) 0) o ∙ t .limits in
     let is : q ≡ placeOf (now (a .places)) (e .tsite .0) (e .tseq .0)
     = c5 .place-at .ensures ∙ ap (placeOf (now (a .places)) (e .tsite .0)) (c5 .before .before .pair-at .ensures) in
-    let mates : Mates
-    = record { plain = c1 .marks-for .result; limited = not (eqb (c .byte-at2 .result) 0) } in
     survey-found (a .c) rs (s .pre .0) (now (a .places)) (s .pre .2 .indexed) e (s .pre .5) (a .torn)
-    (c4 .byte-at .result) (c3 .at16 .result) mates torn (o ∙ ap (numberAt rs) is) (k ∙ t .count)
-    (ap₂ (λ (m : ℕ) (b : Bool). record { plain = m; limited = b }) plain
-    (told (any isLimited ms) (c .byte-at2 .result) limit))
+    (not (eqb (c .byte-at2 .result) 0)) (c4 .byte-at .result) (c3 .at16 .result) (c1 .marks-for .result) torn
+    (o ∙ ap (numberAt rs) is) (k ∙ t .count) plain (told (any isLimited ms) (c .byte-at2 .result) limit)
 
 pub survey-held-spec : {M : Type 1} → statement M
 survey-held-spec =

@@ -1,14 +1,19 @@
 -- `table_replay::take_records` meets its contract. Assumes nothing.
 use mathlib.Core.Path.{_≡_, refl, sym, ap, subst, _∙_}
+use mathlib.Core.Logic.{⊎-elim}
 use mathlib.Core.List.{List}
 use Prim.Native.Nat.{_+_, _<_}
 use native.Mathlib.Numerals.{add-one}
 use native.Mathlib.Omega.{arith}
 use lib.ListN.{length}
+use borrow.Author.Tests.{eq-eqb}
 use borrow.Author.Needs.{needs}
+use Rattle.edit_record.specs.Layout.{recordLength}
 use Rattle.edit_record.specs.declared.Edit.{Edit}
 use Rattle.edit_record.specs.RecordBytes.{decodeOf}
-use Rattle.edit_form.specs.OldForm.{startOf}
+use Rattle.edit_form.specs.OldForm.{oldForm, longFrom, startOf}
+use Rattle.edit_form.proofs.CopiedParts.{length-least}
+use Rattle.edit_form.proofs.OldRecords.{long-old}
 use Rattle.edit_form.proofs.Stretches.{next-start, next-inside}
 use Rattle.edit_history.specs.EditsHeld.{mostRecords}
 use Rattle.table_drawing.specs.Tables.{Tables}
@@ -26,7 +31,7 @@ use Rattle.table_replay.proofs.take_records.Proof.InTurn.{counted-in, I
 use Rattle.table_replay.proofs.take_records.Proof.InTurn.{start-of, record-of, round-of, short-of}
 use Rattle.table_replay.proofs.take_records.Proof.InTurn.{call-of, left-of, recs-of}
 use Rattle.table_replay.proofs.take_records.Proof.InTurn.{form-of, given-of, tables-of}
-use Rattle.table_replay.proofs.take_records.Proof.InTurn.{inside, lent-long}
+use Rattle.table_replay.proofs.take_records.Proof.InTurn.{inside, rest-of, lent-long}
 use Rattle.table_replay.proofs.take_records.Proof.InTurn.{started, loop-long, call-long}
 use Rattle.table_replay.proofs.take_records.Proof.InTurn.{wide-at, takes, takes-short}
 use Rattle.table_replay.proofs.take_records.Proof.InTurn.{rec-is, held-now, as-before, held-at}
@@ -39,7 +44,7 @@ loop-holds : tie.Need-loop-holds Inv-loop μ-loop
 unfolding startOf editsIn
 loop-holds c =
     let s = c .before .before .before .before .before .before .before .before .before .before in
-    (omega arith, refl, started s, s .pre .1, s .pre .2, s .pre .6)
+    (omega arith, refl, started s, s .pre .1, s .pre .2, s .pre .6, refl)
 
 sub-rest : tie.Need-sub-rest Inv-loop μ-loop
 sub-rest c = inside c
@@ -64,18 +69,39 @@ add-at c =
     (c .length-from .result) (c .length-from .ensures) in
     omega (arith, next, s .good)
 
-widened-if-requires : tie.Need-widened-if-requires Inv-loop μ-loop
-widened-if-requires c κs = lent-long (c .before .before)
+widened-from-requires : tie.Need-widened-from-requires Inv-loop μ-loop
+widened-from-requires c κs =
+    let r = c .before .before .before in
+    omega (arith, length-least (form-of (r .before)) (rest-of r), lent-long r)
+
+-- where the form is the old one, the record is there as a long one; it has room in any case
+wide-long : (c : tie.Joined1 Inv-loop μ-loop) → length (c .if1 .wide) ≡ recordLength
+wide-long c =
+    ⊎-elim
+    (λ v. rw (v .2) (search (needs, v .1 .ok)))
+    (λ v. rw (v .1) (c .before .before .before .before .loop .inv .6))
+    (c .if1 .came)
+
+widened :
+    (c : tie.Joined1 Inv-loop μ-loop) →
+    (let r = c .before .before .before in
+    form-of (r .before) ≡ oldForm → c .if1 .wide ≡ longFrom (form-of (r .before)) (rest-of r))
+widened c old =
+    let r = c .before .before .before in
+    let form = form-of (r .before) in
+    ⊎-elim
+    (λ v. v .2 ∙ v .1 .ensures ∙ sym (long-old form (rest-of r) (eq-eqb form oldForm old)))
+    (λ v. absurd (v .0 .left old))
+    (c .if1 .came)
 
 slice-aggregate-long-in : tie.Need-slice-aggregate-long-in Inv-loop μ-loop
-slice-aggregate-long-in c = search needs
+slice-aggregate-long-in c = sym (wide-long (c .before))
 
 long-in-requires : tie.Need-long-in-requires Inv-loop μ-loop
 long-in-requires c κs = (
   lent-long (c .before .before .before .before),
   c .before .before .length-from .ensures,
-  c .before .widened-if
-      .ensures,
+  widened (c .before),
 )
 
 slice-aggregate-take-short : tie.Need-slice-aggregate-take-short Inv-loop μ-loop
@@ -115,7 +141,7 @@ loop-again c =
     let l = b .loop in
     let w = q .before .before .before in
     let lv = short-took (s .args .sites) (l .i) (tables-of b) _ _ _ _ _ _ _ _ _ _ _ _ _ _ _ _
-    (p .take-short .ensures .0) (c .if1 .taken) in (
+    (p .take-short .ensures .0) (c .if2 .taken) in (
       omega (arith, r .loop-test .taken),
       rw (add-one (l .i))
           (next-start (form-of b) (recs-of b) (l .i) (l .at) (l .inv .1) (w .length-from .result)
@@ -127,7 +153,8 @@ loop-again c =
           .places-long)
           (l .inv .4),
       kept-after (given-of b) (l .i) _ _ _ _ (held-now b) (ap decodeOf (rec-is q))
-          (rw (c .if1 .taken) at (p .take-short .ensures .1)),
+          (rw (c .if2 .taken) at (p .take-short .ensures .1)),
+      wide-long (q .before .before),
     )
 
 cast-t57 : tie.Need-cast-t57 Inv-loop μ-loop
@@ -149,12 +176,12 @@ take-next-requires c κs =
       rw (rec-is (record-of p))
           (long-takes (s .args .sites) (l .i) (tables-of b) _ _ _ _ _ _ _ _ _ _ _ _ _ _ _ _
           (p .take-short .ensures .0)
-          (i .if1 .left) (given-of b (l .i)) (takes r)),
+          (i .if2 .left) (given-of b (l .i)) (takes r)),
       subst
           (λ (es : List Edit). KeptFor es (p .take-short .last .1 .1 .1 .1 .1 .1 .1 .1 .1 .1 .1 .1 .1 .0)
           (p .take-short .last .1 .1 .1 .1 .1 .1 .1 .1 .1 .1 .1 .1 .0))
-          (held-now b ∙ sym (held-at p (i .if1 .left)))
-          (rw (i .if1 .left) at (p .take-short .ensures .1)),
+          (held-now b ∙ sym (held-at p (i .if2 .left)))
+          (rw (i .if2 .left) at (p .take-short .ensures .1)),
     )
 
 number-requires : tie.Need-number-requires Inv-loop μ-loop
@@ -236,7 +263,7 @@ returns c =
     let l = b .loop in
     going-ends (s .args .sites) (given-of b) (s .pre .3) (l .i) _ (l .inv .2)
     (numberOf (m .take-next .result .answer)) _ (long-outcome m)
-    (λ z. c .if2 .taken (c .before .number .ensures ∙ z))
+    (λ z. c .if3 .taken (c .before .number .ensures ∙ z))
     (s .args .n)
     (r .loop-test .taken)
 
@@ -260,7 +287,7 @@ loop-again-2 c =
     let l = b .loop in
     let q = record-of p in
     let w = q .before .before .before in
-    let z : numberOf (m .take-next .result .answer) ≡ 0 = sym (d .number .ensures) ∙ c .before .if2 .left in
+    let z : numberOf (m .take-next .result .answer) ≡ 0 = sym (d .number .ensures) ∙ c .before .if3 .left in
     let lv = long-left m in
     let ok = rw z at (long-outcome m) in
     let parts = parts-after (tables-of b) _ (given-of b (l .i)) ok in (
@@ -278,6 +305,7 @@ loop-again-2 c =
       spaced-same (counted-in (form-of b) (recs-of b) (s .args .n)) _ _ (lv .starts z) (lv .index z .places-long)
           (l .inv .4),
       kept-after (given-of b) (l .i) _ _ _ _ (held-at p (left-of m)) (ap decodeOf (rec-is q)) (k .ensures .1),
+      wide-long (q .before .before),
     )
 
 cast-t78 : tie.Need-cast-t78 Inv-loop μ-loop
@@ -329,7 +357,7 @@ take-records-spec =
     part-rest-end
     length-from-requires
     add-at
-    widened-if-requires
+    widened-from-requires
     slice-aggregate-long-in
     long-in-requires
     slice-aggregate-take-short

@@ -12,8 +12,13 @@ put-piece-requires : tie.Need-put-piece-requires
 put-piece-requires c κs =
     let s = c .before .before .before .before .before .before .before .before .before .before .before .before
     .before .before .before .before .before in
-    let kept = c .before .before .before .before .before .before .before .before .before .renew .ensures .0 in
-    (s .pre .0, kept .texts-long, kept .lens-long, kept .few (s .args .j) (s .pre .0), s .pre .2)
+    let kept = c .before .before .before .before .before .before .before .before .before .renew .ensures .0 in (
+      omega (arith, s .pre .0),
+      kept .texts-long,
+      kept .lens-long,
+      omega (arith, kept .few (s .args .j) (s .pre .0)),
+      s .pre .2,
+    )
 
 same-length : tie.Need-same-length
 same-length c = search needs
@@ -37,6 +42,7 @@ returns c =
       put .ensures .0 ∙ rw (made .ensures .1),
       omega (arith, put .ensures .1, made .ensures .0 .few (s .args .j) (s .pre .0)),
       made .ensures .0,
+      made .ensures .2,
     )
 
 pub put-anew-spec : {M : Type 1} → statement M

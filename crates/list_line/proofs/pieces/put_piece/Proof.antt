@@ -5,7 +5,7 @@ use Prim.Native.Nat.{_*_}
 use lib.ListN.{getD, drop}
 use lib.Seq.{take-take}
 use Rattle.list_line.specs.LineForms.{pieceLength}
-use Rattle.list_line.proofs.KeptPieces.{piece-short, piece-behind}
+use Rattle.list_line.proofs.KeptPieces.{piece-behind}
 use borrow.Author.Needs.{needs}
 use Rattle.list_line.proofs.pieces.put_piece.Statement.{statement}
 use Rattle.list_line.proofs.pieces.put_piece.Tie as tie
@@ -34,12 +34,12 @@ shared-slice-read-result c = search needs
 cast-result : tie.Need-cast-result
 cast-result c =
     let s = c .before .before .before .before .before .before .before .before .before .before in
-    record { fits = omega (arith, s .pre .3, piece-short (s .args .j)) }
+    record { fits = omega (arith, s .pre .3) }
 
 add-result : tie.Need-add-result
 add-result c =
     let s = c .before .before .before .before .before .before .before .before .before .before in
-    record { fits = omega (arith, s .pre .3, s .pre .4, piece-short (s .args .j)) }
+    record { fits = omega (arith, s .pre .3, s .pre .4) }
 
 same-length : tie.Need-same-length
 same-length c = search needs
@@ -52,7 +52,7 @@ returns c =
     let whole = drop (a .j * pieceLength) (a .texts .now) in
     let copied = c .before .before .before .copy-in in (
       piece-behind (a .out .now) (a .texts .now) (a .n) (a .j) (getD (a .lens .now) (a .j) 0) (omega (arith, s .pre .4))
-          (s .pre .0) (s .pre .1) (omega (arith, s .pre .3, piece-short (a .j)))
+          (s .pre .0) (s .pre .1) (s .pre .3)
           (copied .ensures ∙ rw (place .ensures, take-take pieceLength pieceLength whole (omega arith))),
       refl,
     )

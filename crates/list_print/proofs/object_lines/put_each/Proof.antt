@@ -7,7 +7,7 @@ use native.Mathlib.Omega.{arith}
 use denote.Ref.{now}
 use lib.ListN.{length, take}
 use Rattle.list_line.specs.Line.{lineLength}
-use Rattle.list_line.specs.LineForms.{Kept}
+use Rattle.list_line.specs.LineForms.{Kept, NamesKept}
 use Rattle.list_lines.specs.LinesForms.{lineIn}
 use Rattle.list_print.specs.Printing.{joined}
 use Rattle.list_print.specs.PrintForms.{Behind}
@@ -21,38 +21,51 @@ Inv-loop out₀ line₀ texts₀ lens₀ told₀ n g disputes stamps keyed versi
     × (length out ≡ length out₀)
     × (length line ≡ length line₀)
     × Kept texts lens told
+    × NamesKept texts lens (take (g .disputes) disputes)
     × Behind out₀ n (joined (map (lineIn g disputes stamps) (take v versions))) (v * lineLength) out w
 
 abbrev μ-loop : tie.MeasureT-loop
 μ-loop out₀ line₀ texts₀ lens₀ told₀ n g disputes stamps keyed versions w₀ v₀ out line texts lens told w v =
     g .count - v
 
+put-names-requires : tie.Need-put-names-requires Inv-loop μ-loop
+put-names-requires c κs =
+    let p = c .before .before .before .before .before .before .before .before .before .before .before .pre in
+    let ready = p .0 in
+    (omega (arith, ready .disputed, ready .disputes-long), ready .disputed, p .4 .texts-long, p .4 .lens-long)
+
 loop-holds : tie.Need-loop-holds Inv-loop μ-loop
 loop-holds c =
-    let start = c .before .before .before .before .before .before .before .before .before in
+    let named = c .before .before .before .before in
+    let start = named .before .before .before .before .before .before .before .before .before .before .before .before in
     let a = start .args in
     let text = lineIn (a .g) (now (a .disputes)) (now (a .stamps)) in
-    (omega arith, refl, refl, start .pre .4, no-piece text lineLength (now (a .out)) (now (a .versions)) (a .n))
+    let (kept, names) = named .put-names .ensures (now (a .told)) (start .pre .4) in
+    (omega arith, refl, refl, kept, names, no-piece text lineLength (now (a .out)) (now (a .versions)) (a .n))
 
 put-version-requires : tie.Need-put-version-requires Inv-loop μ-loop
 put-version-requires c κs =
     let here = c .before .before .before .before .before in
-    let l = here .before .before .loop in
-    let s8 = here .before .before .before .before .before .before .before .before in
-    let p = s8 .before .before .before .before .pre in (
+    let looped = here .before .before in
+    let l = looped .loop in
+    let named = looped .before .before .before .before .before in
+    let s6 = named .before .before .before .before .before .before in
+    let p = s6 .before .before .before .before .before .before .pre in (
       p .0,
       omega (arith, here .if1 .taken, p .1),
-      omega (arith, here .if1 .taken, p .1, p .2, l .inv .4 .end, l .inv .4 .few),
+      omega (arith, here .if1 .taken, p .1, p .2, l .inv .5 .end, l .inv .5 .few),
       omega (arith, p .3, l .inv .2),
       l .inv .3,
+      l .inv .4,
     )
 
 add-v : tie.Need-add-v Inv-loop μ-loop
 add-v c =
-    let s8 = c .before .before .before .before .before .before .before .before in
-    let here = s8 .before .before .before .before .before .before .before .before in
-    let t8 = here .before .before .before .before .before .before .before .before in
-    record { fits = omega (arith, here .if1 .taken, t8 .before .before .before .before .pre .1) }
+    let put = c .before .before .before .before .before .before .before .before .before .before in
+    let here = put .before .before .before .before .before .before in
+    let named = here .before .before .before .before .before .before .before in
+    let s6 = named .before .before .before .before .before .before in
+    record { fits = omega (arith, here .if1 .taken, s6 .before .before .before .before .before .before .pre .1) }
 
 loop-less : tie.Need-loop-less Inv-loop μ-loop
 loop-less c = omega arith
@@ -62,7 +75,8 @@ loop-again c =
     let put = c .before .before .before .before .before .before .before .before .before .before in
     let here = put .before .before .before .before .before .before in
     let l = here .before .before .loop in
-    let start = here .before .before .before .before .before .before .before .before .before .before .before .before in
+    let named = here .before .before .before .before .before .before .before in
+    let start = named .before .before .before .before .before .before .before .before .before .before .before .before in
     let a = start .args in
     let p = put .put-version in
     let text = lineIn (a .g) (now (a .disputes)) (now (a .stamps)) in (
@@ -70,8 +84,9 @@ loop-again c =
       p .kept .0 ∙ l .inv .1,
       p .kept .1 .0 ∙ l .inv .2,
       p .ensures .1,
+      p .ensures .2,
       piece-behind text lineLength (now (a .out)) (now (a .versions)) (a .n) (l .v)
-          (omega (arith, here .if1 .taken, start .pre .0 .versions-long, start .pre .1)) (l .inv .4) (p .ensures .0),
+          (omega (arith, here .if1 .taken, start .pre .0 .versions-long, start .pre .1)) (l .inv .5) (p .ensures .0),
     )
 
 same-length : tie.Need-same-length Inv-loop μ-loop
@@ -83,27 +98,32 @@ same-length-2 c = c .before .before .loop .inv .2
 same-length-3 : tie.Need-same-length-3 Inv-loop μ-loop
 same-length-3 c =
     let looped = c .before .before in
-    let start = looped .before .before .before .before .before .before .before .before .before .before in
-    looped .loop .inv .3 .texts-long ∙ sym (start .pre .4 .texts-long)
+    let named = looped .before .before .before .before .before in
+    let s6 = named .before .before .before .before .before .before in
+    looped .loop .inv .3 .texts-long ∙ sym (s6 .before .before .before .before .before .before .pre .4 .texts-long)
 
 same-length-4 : tie.Need-same-length-4 Inv-loop μ-loop
 same-length-4 c =
     let looped = c .before .before in
-    let start = looped .before .before .before .before .before .before .before .before .before .before in
-    looped .loop .inv .3 .lens-long ∙ sym (start .pre .4 .lens-long)
+    let named = looped .before .before .before .before .before in
+    let s6 = named .before .before .before .before .before .before in
+    looped .loop .inv .3 .lens-long ∙ sym (s6 .before .before .before .before .before .before .pre .4 .lens-long)
 
 same-length-5 : tie.Need-same-length-5 Inv-loop μ-loop
 same-length-5 c =
     let looped = c .before .before in
-    let start = looped .before .before .before .before .before .before .before .before .before .before in
-    looped .loop .inv .3 .told-long ∙ sym (start .pre .4 .told-long)
+    let named = looped .before .before .before .before .before in
+    let s6 = named .before .before .before .before .before .before in
+    looped .loop .inv .3 .told-long ∙ sym (s6 .before .before .before .before .before .before .pre .4 .told-long)
 
 returns : tie.Need-returns Inv-loop μ-loop
 returns c =
     let l = c .before .before .loop in
-    let a = c .before .before .before .before .before .before .before .before .before .before .before .before .args in
+    let named = c .before .before .before .before .before .before .before in
+    let s6 = named .before .before .before .before .before .before in
+    let a = s6 .before .before .before .before .before .before .args in
     let e : l .v ≡ a .g .count = omega (arith, c .if1 .left, l .inv .0) in
-    (rw (← e) (l .inv .4), l .inv .3)
+    (rw (← e) (l .inv .5), l .inv .3)
 
 pub put-each-spec : {M : Type 1} → statement M
 put-each-spec =
@@ -111,6 +131,7 @@ put-each-spec =
     (tie.spec
     Inv-loop
     μ-loop
+    put-names-requires
     loop-holds
     put-version-requires
     add-v

@@ -25,6 +25,7 @@ put-line-requires c κs =
       ready .disputed,
       p .3,
       p .4,
+      p .5,
       omega (arith, ready .few, ready .stamps-long),
       ready .few,
       ready .keyed-long,
@@ -61,7 +62,7 @@ returns c =
     let t8 = made .before .before .before .before .before .before .before .before in
     let a = t8 .before .before .before .before .before .before .before .args in
     let p = made .put-line .ensures in
-    (rw (← p .0) (fewer-behind (now (a .out)) (a .n) (p .1) (c .before .before .put-behind .ensures)), p .2)
+    (rw (← p .0) (fewer-behind (now (a .out)) (a .n) (p .1) (c .before .before .put-behind .ensures)), p .2, p .3)
 
 pub put-version-spec : {M : Type 1} → statement M
 put-version-spec =

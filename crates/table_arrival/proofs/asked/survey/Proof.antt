@@ -26,28 +26,19 @@ returns c =
 
 survey-held-requires : tie.Need-survey-held-requires
 survey-held-requires c κs =
-    let a = c .before .before .before .aim-of in
-    let s = c .before .before .before .before .before .before .before in
-    (s .pre .0, s .pre .1, s .pre .2, sym (a .ensures .1) ∙ not-false (a .result .held) (c .before .if1 .left))
+    let a = c .before .before .aim-of in
+    let s = c .before .before .before .before .before .before in (
+      s .pre .0,
+      s .pre .1,
+      s .pre .2,
+      s .pre .3,
+      sym (a .ensures .1) ∙ not-false (a .result .held) (c .if1 .left),
+    )
 
 returns-2 : tie.Need-returns-2
 unfolding surveyOf
 returns-2 c =
-    let a = c .before .before .before .before .aim-of in
-    let v = c .survey-held .ensures (sym (c .before .if2 .taken) ∙ a .ensures .0) in
-    record { torn = rw v; found = rw v; whole = λ y. v }
-
-survey-held-requires-2 : tie.Need-survey-held-requires-2
-survey-held-requires-2 c κs =
-    let a = c .before .before .before .aim-of in
-    let s = c .before .before .before .before .before .before .before in
-    (s .pre .0, s .pre .1, s .pre .2, sym (a .ensures .1) ∙ not-false (a .result .held) (c .before .if1 .left))
-
-returns-3 : tie.Need-returns-3
-unfolding surveyOf
-returns-3 c =
-    let a = c .before .before .before .before .aim-of in
-    let v = c .survey-held2 .ensures (sym (c .before .if2 .left) ∙ a .ensures .0) in
+    let v = c .survey-held .ensures (c .before .before .before .aim-of .ensures .0) in
     record { torn = rw v; found = rw v; whole = λ y. v }
 
 pub survey-spec : {M : Type 1} → statement M
@@ -58,6 +49,4 @@ survey-spec =
     none-found-requires
     returns
     survey-held-requires
-    returns-2
-    survey-held-requires-2
-    returns-3)
+    returns-2)

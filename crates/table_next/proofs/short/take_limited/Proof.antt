@@ -161,14 +161,12 @@ same-length-26 c = search needs
 
 returns-3 : tie.Need-returns-3
 returns-3 c =
-    let t = c .before .before .before .before .before .before .before .before .before .before .before .before
-    .before .before .before .before .before .before .take-judged in
-    let took = not-false (t .result .ok) (c .if2 .left) in (
-      t .ensures,
-      rw took (c .before .before .before .before .before .before .before .before .before .before .before
-          .before .before .before .before .before .before .before .before .before .before .before .before .before .before
-          .before .before .before .before .before .before .before .judge .ensures .1),
-    )
+    let d = c .before .before .before .before .before .before .before .before .before .before .before .before
+    .before .before .before .before .before .before in
+    let j = d .before .before .before .before .before .before .before .before .before .before .before .before
+    .before .before in
+    let took = not-false (d .take-judged .result .ok) (c .if2 .left) in
+    (d .take-judged .ensures, rw took (j .judge .ensures .1))
 
 pub take-limited-spec : {M : Type 1} → statement M
 take-limited-spec =

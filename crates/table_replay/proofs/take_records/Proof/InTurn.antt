@@ -9,7 +9,7 @@ use lib.ListN.{length, take, drop, replicate}
 use denote.Ref.{now}
 use Rattle.table_arrival.proofs.Faithful.{faithful-apart}
 use borrow.Author.Needs.{needs}
-use Rattle.edit_record.specs.Layout.{mostSites}
+use Rattle.edit_record.specs.Layout.{mostSites, recordLength}
 use Rattle.edit_record.specs.RecordBytes.{spanOf}
 use Rattle.edit_form.specs.OldForm.{lengthFrom, longFrom, startOf, storedIn}
 use Rattle.edit_form.proofs.OldRecords.{long-from-whole}
@@ -35,18 +35,19 @@ abbrev pub counted-in : ℕ → List ℕ → ℕ → ℕ → ℕ
 counted-in form recs n s = countFrom s (editsIn (storedIn form recs) n)
 
 abbrev pub Inv-loop : tie.InvT-loop
-Inv-loop sites records₀ objects₀ groups₀ places₀ numbers₀ counts₀ chains₀ rows₀ names₀ recs form n held₀ m₀ sum₀ at₀
-    i₀ records objects groups places numbers counts chains rows names held m sum at i =
+Inv-loop sites records₀ objects₀ groups₀ places₀ numbers₀ counts₀ chains₀ rows₀ names₀ recs form n held₀ m₀ sum₀ wide₀
+    at₀ i₀ records objects groups places numbers counts chains rows names held m sum wide at i =
     (i ≤ n)
     × (at ≡ startOf form recs i)
     × Going sites (storedIn form recs) i (tablesOf (countersOf sites i m held sum) records objects groups)
     × IndexOf records i places numbers counts chains
     × Spaced (counted-in form recs n) places
     × KeptFor (editsIn (storedIn form recs) i) names rows
+    × (length wide ≡ recordLength)
 
 abbrev pub μ-loop : tie.MeasureT-loop
-μ-loop sites records₀ objects₀ groups₀ places₀ numbers₀ counts₀ chains₀ rows₀ names₀ recs form n held₀ m₀ sum₀ at₀ i₀
-    records objects groups places numbers counts chains rows names held m sum at i =
+μ-loop sites records₀ objects₀ groups₀ places₀ numbers₀ counts₀ chains₀ rows₀ names₀ recs form n held₀ m₀ sum₀ wide₀ at₀
+    i₀ records objects groups places numbers counts chains rows names held m sum wide at i =
     n - i
 
 -- ---- where things stand
@@ -74,7 +75,7 @@ call-of d =
 -- it was left to the long way
 abbrev pub left-of :
     (m : tie.After-take-next Inv-loop μ-loop) → short-of m .take-short .result .ok ≡ false
-left-of m = m .before .before .before .before .before .before .before .before .before .before .if1 .left
+left-of m = m .before .before .before .before .before .before .before .before .before .before .if2 .left
 
 -- the stretch, its form and its records, and the tables at the start and where the loop stands
 abbrev pub recs-of : tie.At-loop Inv-loop μ-loop → List ℕ

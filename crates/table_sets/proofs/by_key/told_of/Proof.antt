@@ -10,11 +10,11 @@ use Rattle.table_sets.proofs.by_key.told_of.Tie as tie
 byte-at-requires : tie.Need-byte-at-requires
 byte-at-requires c κs = search needs
 
-two-at-requires : tie.Need-two-at-requires
-two-at-requires c κs = search needs
+pair-at-requires : tie.Need-pair-at-requires
+pair-at-requires c κs = search needs
 
-four-at-requires : tie.Need-four-at-requires
-four-at-requires c κs = search needs
+value-of-requires : tie.Need-value-of-requires
+value-of-requires c κs = search needs
 
 shown-requires : tie.Need-shown-requires
 shown-requires c κs = search needs
@@ -43,8 +43,8 @@ add-result-2 c = search needs
 returns : tie.Need-returns
 returns c e f same =
     told-is e _ _ _ (c .before .before .before .byte-at .ensures ∙ f .site)
-    (c .before .before .two-at .ensures ∙ f .seq)
-    (c .shown .ensures ∙ ap₂ (λ (k v : ℕ). shownValue k v) same (c .before .four-at .ensures ∙ f .value))
+    (c .before .before .pair-at .ensures ∙ f .seq)
+    (c .shown .ensures ∙ ap₂ (λ (k v : ℕ). shownValue k v) same (c .before .value-of .ensures ∙ f .value))
     (search needs) (search needs) (search needs)
 
 pub told-of-spec : {M : Type 1} → statement M
@@ -52,8 +52,8 @@ told-of-spec =
     tie.close
     (tie.spec
     byte-at-requires
-    two-at-requires
-    four-at-requires
+    pair-at-requires
+    value-of-requires
     shown-requires
     cast-result
     mul-result

@@ -35,11 +35,11 @@ loop-holds c =
       marked-none (a .recs .now) (a .places .now),
     )
 
-slice-aggregate-mark-set : tie.Need-slice-aggregate-mark-set Inv-loop μ-loop
-slice-aggregate-mark-set c = search needs
+slice-aggregate-mark-in-place : tie.Need-slice-aggregate-mark-in-place Inv-loop μ-loop
+slice-aggregate-mark-in-place c = search needs
 
-mark-set-requires : tie.Need-mark-set-requires Inv-loop μ-loop
-mark-set-requires c κs =
+mark-in-place-requires : tie.Need-mark-in-place-requires Inv-loop μ-loop
+mark-in-place-requires c κs =
     let looped = c .before .before .before in
     let p = looped .before .before .before .before .pre in
     let l = looped .loop in (
@@ -68,7 +68,7 @@ loop-again c =
     let a = start .args in
     let p = start .pre in
     let l = looped .loop in
-    let s = taken .mark-set in
+    let s = taken .mark-in-place in
     let rs = a .recs .now in
     let ps = a .places .now in
     let fits : l .i < length ps = omega (arith, p .0) in (
@@ -101,8 +101,8 @@ disputed-in-spec =
     Inv-loop
     μ-loop
     loop-holds
-    slice-aggregate-mark-set
-    mark-set-requires
+    slice-aggregate-mark-in-place
+    mark-in-place-requires
     shl-all
     add-i
     loop-less

@@ -1,0 +1,3 @@
+pub mod LentCounters
+pub mod ThinCalls
+pub mod AnsweredResult

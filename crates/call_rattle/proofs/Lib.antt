@@ -1,0 +1,3 @@
+pub mod LocalLent
+pub mod LocalWalk
+pub mod AnsweredMade
