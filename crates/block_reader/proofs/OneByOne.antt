@@ -14,6 +14,8 @@ use Rattle.edit_record.specs.RecordBytes.{decode_of}
 use Rattle.edit_form.specs.OldForm.{old_form, long_form, length_from, start_of, stored_in}
 use Rattle.edit_form.proofs.CopiedParts.{length-least}
 use Rattle.edit_form.proofs.Stretches.{rest_from, start-next, ends-before}
+use Rattle.edit_history.specs.EditsHeld.{bytes_at, record_at, edits_of}
+use Rattle.edit_history.proofs.FieldsInPlace.{bytes-decoded}
 use Rattle.block_reader.specs.Reader.{record_at_place, end_mark, taken_at}
 
 -- the edits in the first n records of a stretch in a form
@@ -99,3 +101,14 @@ old-as-long s t n k old long h l =
     gives-the-block old_form s n k old l
     ∙ same-edits old_form long_form s t n h
     ∙ sym (gives-the-block long_form t n k long l)
+
+-- the records of a stretch are those of a table that holds them
+pub as-held :
+    (form : ℕ) (s ts : List ℕ) (n : ℕ) → ((p : ℕ) → p < n → bytes_at ts p ≡ stored_in form s p) →
+    stretch_edits form s n ≡ edits_of ts n
+unfolding stretch_edits edits_of
+as-held form s ts zero h = refl
+as-held form s ts (suc n) h =
+    let own : decode_of (stored_in form s n) ≡ record_at ts n =
+    ap decode_of (sym (h n (omega arith))) ∙ bytes-decoded ts n in
+    rw (as-held form s ts n (λ p l. h p (omega arith)), own)

@@ -20,8 +20,9 @@ use base.Logic.{SProp, ent}
 use base.Fml.{Fml, Lft, Share, fsep, feq, fat, flft, fobs, fbor}
 use prog.Wp.{Calls, Loops, WpFn}
 use types.Logic.{Logic}
+use contract.Monad.{fact}
 use types.Kit.{Item, ‵, raw, ◌⊛◌, some, later, mean, ⋆, ◌$◌, ◌∵◌, !, qed, by, move, drop, use1, use2, split}
-use types.Kit.{join, pick, rewrite, fsplit, fsplit3, fjoin, feq_l, await}
+use types.Kit.{pick, rewrite, fsplit, fsplit3, fjoin, feq_l, await}
 use types.Run.{look, look_raw, init, store_raw, forget, stop, hop, fld, from, load, addr, of_opd, and_then}
 use types.Run.{no_more, assigns, land, returns, enter, alloc1, alloc0, params1, pass1, pass0, free1, free0}
 use types.Part.{agg, whole, sub, look_in}
@@ -33,7 +34,7 @@ use denote.Laws.{Is, Typed, shows}
 use denote.Builtin.{u16, u64, u8}
 use denote.Ref.{MutBor, MutRef}
 use denote.Slice.{MutSlice, slice_ty, finally, mut_slice_vals, mut_slice_Lawful}
-use denote.Steps.{only, opens, closes, owned, peeks}
+use denote.Steps.{only, opens, closes, owned, peeks, heard}
 use denote.Struct.Steps.{spelt}
 use denote.Struct.Laws as LL
 use denote.Triple.Call.{calls_from}
@@ -148,14 +149,14 @@ module _ {M : Type 1} {𝓤 : Ura M} (𝓛 : Logic 𝓤) (C : Calls 𝓤 𝓛.H)
       ∷ only (mut_slice_vals x3) ∷ v ∷ []) Q))
       (goes : ent 𝓤 (⋆ 𝓛 (toks ∷ ‵ (owns (T.the_row ∷ others κ1 κ2 κ3 X) (h, xs) (counted h, vs)) ∷ [])) Pre)
       -- the last lists, and what it ensures of them
-      (Z : Type 0) (z1 z2 z3 : Z → List ℕ) (first rest : Z → Fml) (Said : R.Denot → Z → SProp 𝓤)
+      (Z : Type 0) (z1 z2 z3 : Z → List ℕ) (first rest : Z → Fml) (Said : R.Denot → Z → Type 0)
       (gives : (u : Val) → ent 𝓤 (Q u) (mean 𝓛 (later (some (λ (r : R.Denot).
       (toks ⊛ ‵ (R.own r (u ∷ []))) ⊛ some (λ (z : Z).
-      ‵ (last-lists x1 x2 x3 (first z) (z1 z) (z2 z) (z3 z) (rest z)) ⊛ raw (Said r z)))))))
+      ‵ (last-lists x1 x2 x3 (first z) (z1 z) (z2 z) (z3 z) (rest z)) ⊛ raw (fact 𝓤 (Said r z))))))))
       (Post : Val → SProp 𝓤)
-      (exits : (r : R.Denot) (z : Z) → length (z1 z) ≡ length x1.now → length (z2 z) ≡ length x2.now
+      (exits : (r : R.Denot) (z : Z) → Said r z → length (z1 z) ≡ length x1.now → length (z2 z) ≡ length x2.now
       → length (z3 z) ≡ length x3.now → (u : Val) → Is R r (u ∷ [])
-      → ent 𝓤 (⋆ 𝓛 (left_over x1 x2 x3 κ q (raw (Said r z) ⊛ toks) c (counters r) (z1 z) (z2 z) (z3 z) (rest z)))
+      → ent 𝓤 (⋆ 𝓛 (left_over x1 x2 x3 κ q toks c (counters r) (z1 z) (z2 z) (z3 z) (rest z)))
       (Post (answer r))) where
     pub walk : Is (MutSlice (named 1) κ1 u8) x1 (mut_slice_vals x1) → Is (MutSlice (named 2) κ2 u16) x2 (mut_slice_vals x2)
         → Is (MutSlice (named 3) κ3 u64) x3 (mut_slice_vals x3)
@@ -209,11 +210,11 @@ module _ {M : Type 1} {𝓤 : Ura M} (𝓛 : Logic 𝓤) (C : Calls 𝓤 𝓛.H)
         (and_then ! (load ! (from ! (stop !)) (look ! 5 refl))
         (and_then ! (load ! (from ! (stop !)) (look ! 21 refl)) (no_more !)))))) (λ u.
         use1 𝓛 (later (some (λ (r : R.Denot). (toks ⊛ ‵ (R.own r (u ∷ []))) ⊛ some (λ (z : Z).
-        ‵ (last-lists x1 x2 x3 (first z) (z1 z) (z2 z) (z3 z) (rest z)) ⊛ raw (Said r z))))) (gives u) $
+        ‵ (last-lists x1 x2 x3 (first z) (z1 z) (z2 z) (z3 z) (rest z)) ⊛ raw (fact 𝓤 (Said r z)))))) (gives u) $
         await ! tt $ pick ! (λ r. split ! $
-        -- what it ensures, at some last lists, each as long as the list passed, goes beside the other tokens
-        move ! (1 ∷ []) $ pick ! (λ z. split ! $ move ! (2 ∷ []) $ split ! $ move ! (3 ∷ 0 ∷ []) $ join ! $ join ! $
-        move ! (1 ∷ []) $ fsplit ! $ drop ! $
+        -- what it ensures, at some last lists, each as long as the list passed
+        move ! (1 ∷ []) $ pick ! (λ z. split ! $ move ! (1 ∷ []) $
+        heard ! (Said r z) (λ e. fsplit ! $ drop ! $
         fsplit ! $ fsplit ! $ move ! (1 ∷ []) $ feq_l ! (λ n1. move ! (1 ∷ []) $ fsplit ! $ fsplit ! $
         move ! (1 ∷ []) $ feq_l ! (λ n2. move ! (1 ∷ []) $ fsplit ! $ fsplit ! $ move ! (1 ∷ []) $
         feq_l ! (λ n3. move ! (1 ∷ []) $ move ! (1 ∷ 0 ∷ []) $ fjoin ! $ move ! (1 ∷ 0 ∷ []) $ fjoin ! $
@@ -247,4 +248,4 @@ module _ {M : Type 1} {𝓤 : Ura M} (𝓛 : Logic 𝓤) (C : Calls 𝓤 𝓛.H)
         move ! (19 ∷ 20 ∷ []) $ free1 ! $ move ! (17 ∷ 18 ∷ []) $ free1 ! $ move ! (15 ∷ 16 ∷ []) $ free1 ! $
         move ! (13 ∷ 14 ∷ []) $ free1 ! $ move ! (11 ∷ 12 ∷ []) $ free1 ! $ move ! (9 ∷ 10 ∷ []) $ free1 ! $
         move ! (7 ∷ 8 ∷ []) $ free1 ! $ move ! (5 ∷ 6 ∷ []) $ free1 ! $ free0 ! $
-        by ! (exits r z n1 n2 n3 u is))))))))))))))))))))))))
+        by ! (exits r z e n1 n2 n3 u is)))))))))))))))))))))))))

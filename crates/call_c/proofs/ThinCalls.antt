@@ -1,7 +1,7 @@
--- A call to which the counters are lent meets its contract, where the callee, to which they are given, meets its own,
--- and what the callee ensures of the counters that it returns and of the last lists gives what the call ensures of the
--- last values of the counters and the tables. Neither asks for anything. Of the last parameter nothing is kept. What
--- varies is the last parameter, the answer and what the two ensure. Assumes nothing.
+-- A call to which the counters are lent meets its contract, where the callee, to which they are given, meets the same
+-- one: what is said of the last values of the counters and the tables is what the callee says of the counters that it
+-- returns and of the last lists. Of the last parameter nothing is kept. What varies is the last parameter, the answer
+-- and what is said. Assumes nothing.
 use mathlib.Core.Path.{◌≡◌, refl}
 use Prim.Native.Nat.{ℕ, suc}
 use mathlib.Core.List.{[], ◌∷◌, List}
@@ -9,14 +9,14 @@ use lib.ListN.{length}
 use seplogic.Ra.Ura.{Ura}
 use mir.Syntax.{Ty, Sym, Name, Fn, Lifetime, Written, named, imm, w8, ty_int, ty_ref, wrote}
 use mir.Val.{Val, vint}
-use base.Logic.{SProp, ent, emp, sep, via, comm∗, fst∗, id⊢}
+use base.Logic.{SProp, ent, emp, via, fst∗, id⊢}
 use base.Fml.{Fml, ftrue, fsep}
 use base.Stored.{Coded, coded_list}
 use prog.Wp.{Calls, Loops, WpFn, Tables}
 use types.Logic.{Logic}
 use contract.Lifetimes.{Lfts, Shares, AllOutlive, toks}
-use types.Kit.{Item, ‵, raw, ◌⊛◌, ⋆, ◌$◌, ◌∵◌, !, qed, move, use1, split, join, fjoin, fjoin3, feq_i, suffices}
-use types.Kit.{frame, done}
+use contract.Monad.{fact}
+use types.Kit.{Item, ‵, raw, ⋆, ◌$◌, ◌∵◌, !, qed, move, join, fjoin, fjoin3, feq_i, suffices, frame, done}
 use sound.WpLaws.{FmC, fm_of, WpFn-mono}
 use denote.RattleType.{RattleType, owns}
 use denote.Shadow.{shadow}
@@ -28,11 +28,11 @@ use denote.Ref.{Bor, shr_coded, shr_vals, mut_vals, mut_Tells}
 use denote.Slice.{ShrSlice, slice_ty, shr_slice_vals, mut_slice_vals, mut_slice_Tells, shr_slice_Tells}
 use denote.Steps.{only, owned}
 use denote.Signature.{plain, mut_ref_to, mut_slice_of}
-use denote.Triple.Entry.{Args, Res}
+use denote.Triple.Entry.{Args}
 use denote.Triple.Spec.{Meets, triple_of}
 use denote.Triple.Statement.{Contract, Triple}
-use denote.Triple.Clauses.{Ended, Clauses, Lasts, AtExit, at_exit, closing}
-use denote.Triple.Walked.{on_exit, Fit, Stays, stay_ref, gave_slice, stay_dropped, walk_of, AllGo, Goes-ref}
+use denote.Triple.Clauses.{Ended, Clauses, Lasts, closing}
+use denote.Triple.Walked.{says, Stays, stay_ref, gave_slice, stay_dropped, walk_of, AllGo, Goes-ref}
 use denote.Triple.Walked.{Goes-gave_slice, Goes-dropped, Walks, ends_at, walked, walk_Meets}
 use denote.Exit.{yes, unchanged}
 use Rattle.table_drawing.specs.declared.Counters.{Counters}
@@ -91,28 +91,6 @@ some_bytes = record {
   typed = λ ℓ κs x p. ((tt, (tt, (record { fits = p.0.1.0 }, tt))), tt);
 }
 
--- ---- what a contract ensures, of the result and the parameters at exit, and the contract that asks for nothing
-
-abbrev pub Ensured : {M : Type 1} → Ura M → Ended → Type 2
-Ensured 𝓤 T =
-    (κs : Lfts T.signature.lifetimes) → Args T.signature κs → Res T.signature κs → AtExit T κs → SProp 𝓤
-
-abbrev pub asks_nothing : {M : Type 1} (𝓤 : Ura M) (T : Ended) → Ensured 𝓤 T → Clauses 𝓤 T
-asks_nothing 𝓤 T E κs a = record { ghost = Unit {0}; requires = λ g. emp 𝓤; ensures = λ g. E κs a }
-
--- a walk may end with what is ensured in front of what is had at exit
-module _ {M : Type 1} {𝓤 : Ura M} (𝓛 : Logic 𝓤) (T : Ended)
-    (hs : Stays T.signature.params T.kept) (E : Ensured 𝓤 T) where
-  pub ends-ensured : (y : (walk_of 𝓛 T hs (asks_nothing 𝓤 T E)).Ghost) (v : Val) (r : Res T.signature y.0.0)
-      (ws : Lasts T y.0.0 y.0.3) → Fit T hs y.0.0 y.0.3 ws →
-      ent 𝓤 (sep 𝓤 (E y.0.0 y.0.3 r (at_exit T y.0.0 y.0.3 ws))
-      (on_exit 𝓛 T hs y.0.0 y.0.1 y.0.4 v r y.0.3 ws))
-      ((walk_of 𝓛 T hs (asks_nothing 𝓤 T E)).post y v)
-  ends-ensured y v r ws fits =
-      via 𝓤 _ (comm∗ 𝓤 (E y.0.0 y.0.3 r (at_exit T y.0.0 y.0.3 ws))
-      (on_exit 𝓛 T hs y.0.0 y.0.1 y.0.4 v r y.0.3 ws))
-      (ends_at 𝓛 T hs (asks_nothing 𝓤 T E) y v r ws fits)
-
 module _ {m : ℕ} (X : Passed m) where
   -- ---- the two contracts
 
@@ -144,15 +122,33 @@ module _ {m : ℕ} (X : Passed m) where
     kept = (yes, (yes, (yes, (yes, (yes, tt)))));
   }
 
+  -- what is said of the counters, the tables, the last parameter and the answer, and of the counters and tables after
+  abbrev pub Saying : RattleType → Type 1
+  Saying Answer =
+      Counters → List ℕ → List ℕ → List ℕ → X.D → Answer.Denot → Counters → List ℕ → List ℕ → List ℕ → Type 0
+
   module _ (Answer R : RattleType) (answer : R.Denot → Answer.Denot) (counters : R.Denot → Counters)
-      {M : Type 1} {𝓤 : Ura M} (𝓛 : Logic 𝓤) (E : Ensured 𝓤 (lent Answer)) (F : Ensured 𝓤 (given R)) where
+      (S : Saying Answer) {M : Type 1} {𝓤 : Ura M} (𝓛 : Logic 𝓤) where
     open 𝓛 use {H}
 
-    abbrev Core : Contract 𝓤
-    Core = triple_of 𝓛 (given R).signature (closing 𝓛 (given R) (asks_nothing 𝓤 (given R) F))
+    abbrev pub lent-clauses : Clauses 𝓤 (lent Answer)
+    lent-clauses κs a = record {
+      ghost = Unit {0};
+      requires = λ g. emp 𝓤;
+      ensures = λ g r e. fact 𝓤 (S a.0.now a.1.0.now a.1.1.0.now a.1.1.1.0.now
+          a.1.1.1.1.0 r e.0.now e.1.0.now e.1.1.0.now e.1.1.1.0.now);
+    }
 
-    abbrev own : Clauses 𝓤 (lent Answer)
-    own = asks_nothing 𝓤 (lent Answer) E
+    abbrev pub given-clauses : Clauses 𝓤 (given R)
+    given-clauses κs a = record {
+      ghost = Unit {0};
+      requires = λ g. emp 𝓤;
+      ensures = λ g r e. fact 𝓤 (S a.0 a.1.0.now a.1.1.0.now a.1.1.1.0.now
+          a.1.1.1.1.0 (answer r) (counters r) e.1.0.now e.1.1.0.now e.1.1.1.0.now);
+    }
+
+    abbrev Core : Contract 𝓤
+    Core = triple_of 𝓛 (given R).signature (closing 𝓛 (given R) given-clauses)
 
     -- what is had of each parameter at exit
     abbrev stayed : Stays (lent Answer).signature.params (lent Answer).kept
@@ -172,16 +168,7 @@ module _ {m : ℕ} (X : Passed m) where
 
     -- ---- the call meets its own
 
-    -- what the callee ensures gives what is ensured of the counters that it returns
-    abbrev Says : Type 1
-    Says =
-        (κs : Lfts (suc (suc (suc (suc m))))) (a : Args (lent Answer).signature κs) (r : R.Denot)
-        (zs : Lasts (given R) κs.1 (a.0.now, a.1)) →
-        ent 𝓤 (F κs.1 (a.0.now, a.1) r (at_exit (given R) κs.1 (a.0.now, a.1) zs))
-        (E κs a (answer r) (at_exit (lent Answer) κs a (counters r, zs.1)))
-
-    module _ (same : Says) (ν : Sym) (τ : Ty) (val : Answer.Denot → Val)
-        (made : Makes 𝓛 Answer (Is Answer))
+    module _ (ν : Sym) (τ : Ty) (val : Answer.Denot → Val) (made : Makes 𝓛 Answer (Is Answer))
         (returned : (r : R.Denot) (u : Val) → Is R r (u ∷ []) →
         Returned ν τ (val (answer r)) (counters r) u × Is Answer (answer r) (val (answer r) ∷ [])) where
       module _ (κs : Lfts (suc (suc (suc (suc m))))) (qs : Shares (suc (suc (suc (suc m)))))
@@ -193,7 +180,7 @@ module _ {m : ℕ} (X : Passed m) where
         tail = (shr_slice_vals a.1.0, (shr_slice_vals a.1.1.0, (shr_slice_vals a.1.1.1.0, (v ∷ [], tt))))
 
         abbrev Post : Val → SProp 𝓤
-        Post = (walk_of 𝓛 (lent Answer) stayed own).post ((κs, qs, bounds, a, (shr_vals a.0, tail)), tt)
+        Post = (walk_of 𝓛 (lent Answer) stayed lent-clauses).post ((κs, qs, bounds, a, (shr_vals a.0, tail)), tt)
 
         -- what the callee is passed, and what its triple binds outside
         abbrev passed : Args (given R).signature κs.1
@@ -215,25 +202,24 @@ module _ {m : ℕ} (X : Passed m) where
         goes = qed 𝓛 passes ∵ join ! $ frame ! $ done !
 
         -- what the callee ensures, of its result r and the last lists
-        abbrev Said : R.Denot → Lasts (given R) κs.1 passed → SProp 𝓤
-        Said r zs = F κs.1 passed r (at_exit (given R) κs.1 passed zs)
+        abbrev Said : R.Denot → Lasts (given R) κs.1 passed → Type 0
+        Said r zs = S a.0.now a.1.0.now a.1.1.0.now a.1.1.1.0.now a.1.1.1.1.0
+            (answer r) (counters r) zs.1.0 zs.1.1.0 zs.1.1.1.0
 
         abbrev ends : R.Denot → Lasts (given R) κs.1 passed → List (Item 𝓤)
-        ends r zs = left_over a.1.0 a.1.1.0 a.1.1.1.0 κs.0 qs.0
-            (raw (Said r zs) ⊛ others-alive) a.0 (counters r)
+        ends r zs = left_over a.1.0 a.1.1.0 a.1.1.1.0 κs.0 qs.0 others-alive a.0 (counters r)
             zs.1.0 zs.1.1.0 zs.1.1.1.0 (fsep ftrue ftrue)
 
-        exits : (r : R.Denot) (zs : Lasts (given R) κs.1 passed)
+        exits : (r : R.Denot) (zs : Lasts (given R) κs.1 passed) → Said r zs
             → length zs.1.0 ≡ length a.1.0.now → length zs.1.1.0 ≡ length a.1.1.0.now
             → length zs.1.1.1.0 ≡ length a.1.1.1.0.now → (u : Val) → Is R r (u ∷ [])
             → ent 𝓤 (⋆ 𝓛 (ends r zs)) (Post (val (answer r)))
-        exits r zs n1 n2 n3 u is =
-            let ensured = E κs a (answer r) (at_exit (lent Answer) κs a (counters r, zs.1)) in
+        exits r zs e n1 n2 n3 u is =
             qed 𝓛 (ends r zs) ∵
-            suffices ! _ (ends-ensured 𝓛 (lent Answer) stayed E ((κs, qs, bounds, a, (shr_vals a.0, tail)), tt)
-            (val (answer r)) (answer r) (counters r, zs.1) (tt, (n1, (n2, (n3, (tt, tt)))))) $
-            move ! (3 ∷ []) $ split ! $ use1 𝓛 (raw ensured) (same κs a r zs) $ frame ! $
-            move ! (3 ∷ 0 ∷ []) $ join ! $ frame ! $
+            suffices ! _ (ends_at 𝓛 (lent Answer) stayed lent-clauses
+            ((κs, qs, bounds, a, (shr_vals a.0, tail)), tt) (val (answer r)) (answer r) (counters r, zs.1)
+            (tt, (n1, (n2, (n3, (tt, tt)))))) $ says ! e $
+            move ! (2 ∷ 3 ∷ []) $ join ! $ frame ! $
             feq_i ! (List Val) (shr_vals a.0) (shr_vals a.0) refl $ fjoin3 ! $ fjoin ! $
             owned ! Answer (Is Answer) made (answer r) _ (returned r u is).1 $ move ! (1 ∷ 0 ∷ []) $ done !
 
@@ -242,8 +228,8 @@ module _ {m : ℕ} (X : Passed m) where
         function = lends (suc (suc (suc (suc m)))) callee ν τ (X.mir (named 4))
 
         walks : (C : Calls 𝓤 H) (Λ : Loops 𝓤 H) → FmC 𝓤 H 𝓛.laws C → Triple 𝓤 (C callee) Core
-            → Walks 𝓛 (lent Answer) stayed (WpFn 𝓤 H C Λ function) own
-        walks C Λ fm known = walked 𝓛 (lent Answer) stayed own (WpFn 𝓤 H C Λ function)
+            → Walks 𝓛 (lent Answer) stayed (WpFn 𝓤 H C Λ function) lent-clauses
+        walks C Λ fm known = walked 𝓛 (lent Answer) stayed lent-clauses (WpFn 𝓤 H C Λ function)
             (λ κs. (mut_vals, (mut_slice_vals, (mut_slice_vals, (mut_slice_vals, ((λ x. X.val x ∷ []), tt))))))
             (λ κs. (
               mut_Tells (named 0) κs.0 T.the_row,
@@ -288,7 +274,7 @@ module _ {m : ℕ} (X : Passed m) where
 
         pub thin-meets : (𝓣 : Tables 𝓤 H) → Triple 𝓤 (𝓣.C callee) Core
             → Meets 𝓛 (lent Answer).signature (WpFn 𝓤 H 𝓣.C 𝓣.Λ function)
-            (closing 𝓛 (lent Answer) own)
-        thin-meets 𝓣 known = walk_Meets 𝓛 (lent Answer) stayed goes-all own
+            (closing 𝓛 (lent Answer) lent-clauses)
+        thin-meets 𝓣 known = walk_Meets 𝓛 (lent Answer) stayed goes-all lent-clauses
             (WpFn 𝓤 H 𝓣.C 𝓣.Λ function) (WpFn-mono 𝓤 H 𝓛.laws 𝓣 function)
             (walks 𝓣.C 𝓣.Λ (fm_of 𝓤 H 𝓛.laws 𝓣) known)

@@ -52,7 +52,8 @@ pub extern "C" fn spireslate_arrive(
 ) -> u8
     ensures { outcome_of result
         (tables_of c.new records.new objects.new groups.new)
-        ≡ arrival_of (tables_of c.old records.old objects.old groups.old)
+        ≡ arrival_of
+        (tables_of c.old records.old objects.old groups.old)
         rec.now }
 {
     let arrived = call_by_value::arrive_by_value(*c, records, objects, groups, rec);
@@ -71,7 +72,8 @@ pub extern "C" fn spireslate_read(
 ) -> FileAnswer
     ensures { replayed result.number result.index
         (tables_of c.new records.new objects.new groups.new)
-        ≡ reading_of (tables_of c.old records.old objects.old groups.old)
+        ≡ reading_of
+        (tables_of c.old records.old objects.old groups.old)
         file.now }
 {
     let read = call_by_value::read_by_value(*c, records, objects, groups, file);

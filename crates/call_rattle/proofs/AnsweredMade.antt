@@ -15,11 +15,13 @@ use Rattle.call_rattle.proofs.LocalLent.{Making}
 
 pub answered-made :
     {M : Type 1} {𝓤 : Ura M} (𝓛 : Logic 𝓤) →
-    Making 𝓛 (R.the_type).name (ty_int w8) u8 R.the_row (λ n c. record { number = n; counters = c })
+    Making 𝓛 (R.the_type).name (ty_int w8) u8 R.the_row (λ r. r.number) (λ r. r.counters)
 answered-made 𝓛 = record {
   val = vint w8;
   tells = λ n u is. ap only is.0;
   typed = λ n u is. (uint_Lawful 𝓛 w8).typed n _ is;
+  made = λ n c. record { number = n; counters = c };
+  parts = λ n c P x. x;
   is_made = λ n c is was. LL.owes R.the_type R'.the_laws (record { number = n; counters = c }) (is, (was, tt));
   made-typed = λ n c is.
       (LL.lawful R.the_type R'.the_laws 𝓛).typed (record { number = n; counters = c }) _ is;

@@ -52,10 +52,14 @@ both_of v c = vstruct (vcons v (vcons (only (counted c)) vnil))
 
 -- what is known of an answer, which has the machine value val n, and of the result that is made of it and the counters
 pub record Making {M : Type 1} {𝓤 : Ura M} (𝓛 : Logic 𝓤) (ν : Sym) (τ : Ty) (Answer R : RattleType)
-    (made : Answer.Denot → Counters → R.Denot) : Type 2 where
+    (answer : R.Denot → Answer.Denot) (counters : R.Denot → Counters) : Type 2 where
   pub val : Answer.Denot → Val
   pub tells : (n : Answer.Denot) (u : Val) → Is Answer n (u ∷ []) → u ≡ val n
   pub typed : (n : Answer.Denot) (u : Val) → Is Answer n (u ∷ []) → Typed (τ ∷ []) (u ∷ [])
+  pub made : Answer.Denot → Counters → R.Denot
+  pub parts :
+      (n : Answer.Denot) (c : Counters) (P : Answer.Denot → Counters → Type 0) → P n c →
+      P (answer (made n c)) (counters (made n c))
   pub is_made :
       (n : Answer.Denot) (c : Counters) → Is Answer n (val n ∷ []) → Is T.the_row c (counted c) →
       Is R (made n c) (both_of (val n) c ∷ [])

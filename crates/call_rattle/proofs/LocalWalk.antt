@@ -1,8 +1,8 @@
 -- Every function of this crate meets its contract, by one walk. The counters are copied into a local, which is lent as
 -- `&mut` to the call of the interface for a lifetime made for the call, and come back at the last value that it says.
--- The slices are passed on, and given up for good. All that is known of that call is that it meets its contract, and
--- that what it ensures gives what this one ensures of the result. A comment in brackets is the context at that line.
--- Assumes nothing.
+-- The slices are passed on, and given up for good. All that is known of that call is that it meets its contract, which
+-- is this one's (`call_c/proofs/ThinCalls.antt` has both). A comment in brackets is the context at that line. Assumes
+-- nothing.
 use mathlib.Core.Path.{◌≡◌, refl, subst}
 use Prim.Native.Nat.{ℕ, suc}
 use mathlib.Core.List.{[], ◌∷◌, List}
@@ -16,6 +16,7 @@ use base.Fml.{Fml, ftrue, fsep, fat, flft, flent, GName}
 use prog.Wp.{Calls, Loops, WpFn, Tables}
 use types.Logic.{Logic}
 use contract.Lifetimes.{Lfts, Shares, toks}
+use contract.Monad.{fact}
 use types.Kit.{Item, ‵, raw, ◌⊛◌, some, later, ⋆, ◌$◌, ◌∵◌, !, qed, by, move, drop, use1, use2, use3}
 use types.Kit.{split, join, pick, rewrite, fsplit, fjoin, feq_l, suffices, frame, await, done}
 use types.Run.{look, init, forget, stop, hop, fld, from, load, addr, of_opd, and_then, no_more, assigns, land}
@@ -30,42 +31,37 @@ use denote.Laws.{Is, shows}
 use denote.Builtin.{u16, u64, u8}
 use denote.Ref.{MutRef}
 use denote.Slice.{MutSlice, finally, mut_slice_vals, mut_slice_Tells, mut_slice_Lawful}
-use denote.Steps.{only, owned, peeks, nothing}
+use denote.Steps.{only, owned, peeks, heard, nothing}
 use denote.Struct.Laws as LL
 use denote.Triple.Entry.{Args}
 use denote.Triple.Spec.{Meets, triple_of}
 use denote.Triple.Statement.{Contract, Triple}
 use denote.Triple.Call.{calls_at}
-use denote.Triple.Clauses.{Clauses, Lasts, at_exit, lasts, closing}
-use denote.Triple.Walked.{walk_of, Walks, walked, walk_Meets}
+use denote.Triple.Clauses.{Clauses, Lasts, lasts, closing}
+use denote.Triple.Walked.{says, walk_of, Walks, ends_at, walked, walk_Meets}
 use denote.Lend.{lends_ref, ref_back}
 use Rattle.math_lists.proofs.LentLocal.{lies_in, lies_out}
 use Rattle.table_drawing.specs.declared.Counters.{Counters}
 use Rattle.table_drawing.specs.contracts.Counters as T
 use Rattle.table_drawing.proofs.Counters.TheLaws as T'
 use Rattle.call_c.proofs.LentCounters.{counted}
-use Rattle.call_c.proofs.ThinCalls.{Passed, row, lent, given, Ensured, asks_nothing, ends-ensured}
+use Rattle.call_c.proofs.ThinCalls.{Passed, row, lent, given, Saying, lent-clauses, given-clauses}
 use Rattle.call_rattle.proofs.LocalLent.{lends_local, both_of, Making, stayed, goes-all}
 
-module _ {m : ℕ} (X : Passed m) (Answer R : RattleType) (made : Answer.Denot → Counters → R.Denot) {M : Type 1}
-    {𝓤 : Ura M} (𝓛 : Logic 𝓤) (E : Ensured 𝓤 (given X R)) (F : Ensured 𝓤 (lent X Answer)) where
+module _ {m : ℕ} (X : Passed m) (Answer R : RattleType) (answer : R.Denot → Answer.Denot)
+    (counters : R.Denot → Counters) (S : Saying X Answer) {M : Type 1} {𝓤 : Ura M} (𝓛 : Logic 𝓤) where
   open 𝓛 use {H}
 
   abbrev on : Clauses 𝓤 (given X R)
-  on = asks_nothing 𝓤 (given X R) E
+  on = given-clauses X Answer R answer counters S 𝓛
 
   -- the contract of the call
   abbrev Thin : Contract 𝓤
-  Thin = triple_of 𝓛 (lent X Answer).signature (closing 𝓛 (lent X Answer) (asks_nothing 𝓤 (lent X Answer) F))
+  Thin =
+      triple_of 𝓛 (lent X Answer).signature
+      (closing 𝓛 (lent X Answer) (lent-clauses X Answer R answer counters S 𝓛))
 
-  -- what the call ensures gives what is ensured of the result that is made of its answer and the last counters
-  abbrev Says : Type 1
-  Says =
-      (κs : Lfts (suc (suc (suc (suc m))))) (a : Args (lent X Answer).signature κs) (n : Answer.Denot)
-      (zs : Lasts (lent X Answer) κs a) → ent 𝓤 (F κs a n (at_exit (lent X Answer) κs a zs))
-      (E κs.1 (a.0.now, a.1) (made n zs.0) (at_exit (given X R) κs.1 (a.0.now, a.1) (tt, zs.1)))
-
-  module _ (same : Says) (ν : Sym) (τ : Ty) (making : Making 𝓛 ν τ Answer R made) where
+  module _ (ν : Sym) (τ : Ty) (making : Making 𝓛 ν τ Answer R answer counters) where
     module _ (κs : Lfts (suc (suc (suc m)))) (qs : Shares (suc (suc (suc m))))
         (a : Args (given X R).signature κs) where
       -- the counters passed, and the machine values of the parameters
@@ -107,26 +103,28 @@ module _ {m : ℕ} (X : Passed m) (Answer R : RattleType) (made : Answer.Denot �
         goes = qed 𝓛 passes ∵ join ! $ frame ! $ done !
 
         -- what the callee ensures, of its answer and the last values
-        abbrev Said : Answer.Denot → Lasts (lent X Answer) κs₂ passed → SProp 𝓤
-        Said n zs = F κs₂ passed n (at_exit (lent X Answer) κs₂ passed zs)
+        abbrev Said : Answer.Denot → Lasts (lent X Answer) κs₂ passed → Type 0
+        Said n zs = S h a.1.0.now a.1.1.0.now a.1.1.1.0.now a.1.1.1.1.0 n zs.0 zs.1.0
+            zs.1.1.0 zs.1.1.1.0
 
         -- what says the last lists
         abbrev fins : Lasts (lent X Answer) κs₂ passed → Fml
         fins zs = fsep (finally u8 a.1.0.name zs.1.0) (fsep (finally u16 a.1.1.0.name zs.1.1.0)
             (fsep (finally u64 a.1.1.1.0.name zs.1.1.1.0) (fsep ftrue ftrue)))
 
-        exits : (n : Answer.Denot) (zs : Lasts (lent X Answer) κs₂ passed)
+        exits : (n : Answer.Denot) (zs : Lasts (lent X Answer) κs₂ passed) → Said n zs
             → length zs.1.0 ≡ length a.1.0.now → length zs.1.1.0 ≡ length a.1.1.0.now
             → length zs.1.1.1.0 ≡ length a.1.1.1.0.now → Is Answer n (making.val n ∷ [])
             → Is T.the_row zs.0 (counted zs.0)
-            → ent 𝓤 (⋆ 𝓛 ((raw (Said n zs) ⊛ alive) ∷ ‵ (fins zs) ∷ [])) (Post (both_of (making.val n) zs.0))
-        exits n zs n1 n2 n3 is was =
-            let r = made n zs.0 in
-            let ensured = E κs a r (at_exit (given X R) κs a (tt, zs.1)) in
-            qed 𝓛 ((raw (Said n zs) ⊛ alive) ∷ ‵ (fins zs) ∷ []) ∵
-            suffices ! _ (ends-ensured 𝓛 (given X R) (stayed X R) E ((κs, qs, tt, a, (counted h, tail)), tt)
-            (both_of (making.val n) zs.0) r (tt, zs.1) (tt, (n1, (n2, (n3, (tt, tt)))))) $
-            split ! $ use1 𝓛 (raw ensured) (same κs₂ passed n zs) $ frame ! $ frame ! $ nothing ! $ fjoin ! $
+            → ent 𝓤 (⋆ 𝓛 (alive ∷ ‵ (fins zs) ∷ [])) (Post (both_of (making.val n) zs.0))
+        exits n zs e n1 n2 n3 is was =
+            let r = making.made n zs.0 in
+            let said = making.parts n zs.0 (λ n' c'. S h a.1.0.now a.1.1.0.now a.1.1.1.0.now
+            a.1.1.1.1.0 n' c' zs.1.0 zs.1.1.0 zs.1.1.1.0) e in
+            qed 𝓛 (alive ∷ ‵ (fins zs) ∷ []) ∵
+            suffices ! _ (ends_at 𝓛 (given X R) (stayed X R) on ((κs, qs, tt, a, (counted h, tail)), tt)
+            (both_of (making.val n) zs.0) r (tt, zs.1) (tt, (n1, (n2, (n3, (tt, tt)))))) $ says ! said $
+            frame ! $ nothing ! $ fjoin ! $
             owned ! R (Is R) making.makes r _ (making.is_made n zs.0 is was) $ move ! (1 ∷ 0 ∷ []) $ done !
 
     module _ (callee : Name) where
@@ -204,11 +202,9 @@ module _ {m : ℕ} (X : Passed m) (Answer R : RattleType) (made : Answer.Denot �
             ((‵ (flft (ι ∷ []) full_share) ⊛ alive κs qs a) ⊛ ‵ (Answer.own n (u ∷ []))) ⊛ some
             (λ (zs : Lasts (lent X Answer) (κs₂ κs qs a l6 ι γ) (passed κs qs a l6 ι γ)).
             ‵ (lasts (lent X Answer) (κs₂ κs qs a l6 ι γ) (passed κs qs a l6 ι γ) zs)
-            ⊛ raw (Said κs qs a l6 ι γ n zs))))) (id⊢ 𝓤 _) $
+            ⊛ raw (fact 𝓤 (Said κs qs a l6 ι γ n zs)))))) (id⊢ 𝓤 _) $
             await ! tt $ pick ! (λ n. split ! $ move ! (1 ∷ []) $
-            -- what it ensures goes beside the other tokens
-            pick ! (λ zs. split ! $ move ! (2 ∷ []) $ split ! $ split ! $ move ! (4 ∷ 1 ∷ []) $ join ! $
-            move ! (1 ∷ 0 ∷ []) $ join ! $ join ! $ move ! (1 ∷ []) $
+            pick ! (λ zs. split ! $ move ! (1 ∷ []) $ heard ! (Said κs qs a l6 ι γ n zs) (λ e.
             fsplit ! $ move ! (1 ∷ []) $ fsplit ! $ fsplit ! $ move ! (1 ∷ []) $
             feq_l ! (λ n1. move ! (1 ∷ []) $ fsplit ! $ fsplit ! $
             move ! (1 ∷ []) $ feq_l ! (λ n2. move ! (1 ∷ []) $ fsplit ! $ fsplit ! $ move ! (1 ∷ []) $
@@ -250,7 +246,7 @@ module _ {m : ℕ} (X : Passed m) (Answer R : RattleType) (made : Answer.Denot �
             move ! (14 ∷ 15 ∷ []) $ free1 ! $ move ! (12 ∷ 13 ∷ []) $ free1 ! $ move ! (10 ∷ 11 ∷ []) $ free1 ! $
             move ! (8 ∷ 9 ∷ []) $ free1 ! $ move ! (6 ∷ 7 ∷ []) $ free1 ! $ move ! (4 ∷ 5 ∷ []) $ free1 ! $
             move ! (2 ∷ 3 ∷ []) $ free1 ! $ free0 ! $
-            by ! (exits κs qs a l6 ι γ n zs n1 n2 n3 its_own was)))))))))))))))))))))))))))
+            by ! (exits κs qs a l6 ι γ n zs e n1 n2 n3 its_own was))))))))))))))))))))))))))))
 
       walks : (C : Calls 𝓤 H) (Λ : Loops 𝓤 H) → FmC 𝓤 H 𝓛.laws C → Triple 𝓤 (C callee) Thin
           → Walks 𝓛 (given X R) (stayed X R) (WpFn 𝓤 H C Λ function) on

@@ -1,5 +1,5 @@
 -- Words added up: one word more, one record more, words behind others, and words that are zero. Assumes nothing.
-use Rattle.std.proofs.Common.{◌≡◌, ℕ, zero, suc, ◌+◌, ◌*◌, ◌<◌, List, ◌++◌, length, get_or, drop, replicate, sym, refl, ap, ◌∙◌, ap₂, add_assoc, add-suc, zero-add, arith, drop_at}
+use Rattle.std.proofs.Common.{◌≡◌, ℕ, zero, suc, ◌+◌, ◌*◌, ◌^◌, ◌<◌, List, ◌++◌, length, get_or, drop, replicate, sym, refl, ap, ◌∙◌, ap₂, add_assoc, add-suc, zero-add, arith, drop_at}
 use native.Mathlib.Nat.{mod-add-mod, add-mod-mod, add-mod}
 use lib.ListN.{length-replicate, get_or-append}
 use Rattle.math_lists.specs.NumbersBelow.{sum}
@@ -14,10 +14,10 @@ use Rattle.edit_sum.specs.WordSum.{word_length, record_words, word_at, wrapped, 
 
 -- a number may be wrapped before another is added
 pub wrapped-early : (a b : ℕ) → wrapped (wrapped a + b) ≡ wrapped (a + b)
-wrapped-early a b = mod-add-mod a _ b
+wrapped-early a b = mod-add-mod a (2 ^ 32) b
 
 pub both-early : (a b : ℕ) → wrapped (a + b) ≡ wrapped (wrapped a + wrapped b)
-both-early a b = add-mod a b _
+both-early a b = add-mod a b (2 ^ 32)
 
 -- ---- one word more
 
@@ -114,5 +114,5 @@ zeros-add-nothing n k m a b h =
     (sums-behind k m (replicate (k * word_length) 0) b (length-replicate {A = ℕ} (k * word_length) 0)
     ∙ ap (λ (x : ℕ). wrapped (x + sum_of m b)) (zeros-sum k (k * word_length))
     ∙ ap wrapped (zero-add (sum_of m b)))
-    ∙ add-mod-mod (sum_of n a) (sum_of m b) _
+    ∙ add-mod-mod (sum_of n a) (sum_of m b) (2 ^ 32)
     ∙ sym (sums-behind n m a b h)

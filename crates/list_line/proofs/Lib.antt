@@ -2,5 +2,3 @@ pub mod LineFromMembers
 pub mod LineTurns
 pub mod KeptPieces
 pub mod LineByStamps
-pub mod Stretches
-pub mod NamesOfMembers

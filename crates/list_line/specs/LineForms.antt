@@ -1,17 +1,12 @@
 -- The line of a version from the Sets in dispute and the stamps, as the code makes it. No one need believe it:
 -- `line-by` of proofs/LineByStamps.antt ties it to `Line`. Assumes nothing.
-use Rattle.std.specs.Prelude.{◌≡◌, cond, ℕ, zero, suc, ◌+◌, ◌-◌, ◌*◌, ◌%◌, ◌≤◌, ◌<◌, eqb, length, get_or, take, drop}
-use mathlib.Core.List.{List, [], ◌∷◌, ◌++◌, map, flat_map}
-use Rattle.std.specs.Int.Bits.{bit_and}
-use Rattle.math_lists.specs.NumbersBelow.{keep}
-use Rattle.math_lists.specs.SortedLists.{filter}
-use Rattle.math_maximal.specs.Groups.{bit}
+use Rattle.std.specs.Prelude.{◌≡◌, cond, List, [], ◌∷◌, ◌++◌, ℕ, zero, suc, ◌+◌, ◌-◌, ◌*◌, ◌%◌, ◌≤◌, ◌<◌, eqb, length, get_or, take, drop}
 use Rattle.edit_record.specs.Layout.{keys}
 use Rattle.edit_causal.specs.ShownValue.{shown_value}
 use Rattle.group_step.specs.GroupRows.{most_sets}
 use Rattle.list_text.specs.Pieces.{space, plus, newline, dotted, equated, dotted_length, equated_length}
 use Rattle.list_line.specs.Line.{name_text, identifier_text}
-use Rattle.list_version.specs.VersionForms.{name_by, number_by, is_in, identifier_by, largest_by, values}
+use Rattle.list_version.specs.VersionForms.{name_by, identifier_by, largest_by, values}
 
 -- ` key=value` by a stamp
 abbrev pub stamp_text : ℕ → ℕ → List ℕ
@@ -53,22 +48,9 @@ pub record NameIn (texts lens : List ℕ) (i x : ℕ) : Type 0 where
   pub few : get_or lens (keys + i) 0 ≤ 1 + dotted_length
   pub name : piece_at texts lens (keys + i) ≡ plus ∷ name_text (name_by x)
 
--- the names of Sets in dispute by their numbers, as they stand in their places
-abbrev pub names_at : List ℕ → List ℕ → List ℕ → List ℕ
-names_at texts lens ns = flat_map (λ i. piece_at texts lens (keys + i)) ns
-
--- the members of m, ascending; and those of g in each of the numbers ms, one number after another
-abbrev pub members_of : ℕ → List ℕ
-members_of m = keep most_sets (bit m)
-
-abbrev pub members_by : List ℕ → ℕ → List ℕ
-members_by ms g = flat_map (λ m. members_of (bit_and g m)) ms
-
--- the name of each of the Sets in dispute xs stands in the place of its number; and the stretches ms have these numbers
--- in such a way that the members of a group come in the order of their names
-pub record NamesKept (texts lens xs ms : List ℕ) : Type 0 where
-  pub names : (i : ℕ) → i < length xs → NameIn texts lens (number_by (get_or xs i 0)) (get_or xs i 0)
-  pub order : (g : ℕ) → members_by ms g ≡ map number_by (filter (is_in g) xs)
+-- so do the names of all the Sets in dispute xs
+abbrev pub NamesKept : List ℕ → List ℕ → List ℕ → Type 0
+NamesKept texts lens xs = (i : ℕ) → i < length xs → NameIn texts lens i (get_or xs i 0)
 
 -- every name that stood before stands in texts₁ as well
 abbrev pub SameNames : List ℕ → List ℕ → List ℕ → List ℕ → Type 0

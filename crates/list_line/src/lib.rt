@@ -3,22 +3,21 @@
 pub mod alone;
 pub mod pieces;
 
-ghost use Rattle.std.specs.Prelude.{◌≡◌, true, List, ◌∷◌, ◌++◌, ℕ, ◌+◌, ◌*◌, ◌≤◌, ◌<◌, length, get_or, take};
-ghost use Rattle.math_lists.specs.SortedLists.{elem};
-ghost use Rattle.math_maximal.specs.Groups.{bit};
+ghost use Rattle.std.specs.Prelude.{◌≡◌, cond, ◌+◌, ◌*◌, ◌≤◌, ◌<◌, length, take};
+ghost use mathlib.Core.List.{[], ◌∷◌, ◌++◌, flat_map};
 ghost use Rattle.edit_record.specs.Layout.{keys};
 ghost use Rattle.group_step.specs.GroupRows.{most_sets};
-ghost use Rattle.list_text.specs.Pieces.{space, dotted_length, equated_length};
-ghost use Rattle.list_line.specs.Line.{identifier_text};
+ghost use Rattle.list_text.specs.Pieces.{space, plus, dotted_length, equated_length};
+ghost use Rattle.list_line.specs.Line.{name_text, identifier_text};
 ghost use Rattle.list_line.specs.Line.{identifier_length, settings_length, line_length};
-ghost use Rattle.list_version.specs.VersionForms.{identifier_by, KeyedBy};
+ghost use Rattle.list_version.specs.VersionForms.{name_by, is_in, identifier_by, KeyedBy};
 ghost use Rattle.list_line.specs.LineForms.{stamp_text, settings_by, line_by, piece_length, pieces, Kept};
-ghost use Rattle.list_line.specs.LineForms.{members_of, members_by, names_at, NamesKept, SameNames};
+ghost use Rattle.list_line.specs.LineForms.{NameIn, NamesKept, SameNames};
 
-use group_context::but_first;
 use group_step::SETS;
 use list_text::{DOTTED, EQUATED, MINUS, NEWLINE, SPACE, put_byte, put_dotted};
 use list_version::ALL_KEYS;
+use list_version::sets::{NUMBERS, is_member};
 use list_version::values::last_of;
 use pieces::{PIECE, is_kept, put_anew, put_piece};
 
@@ -29,79 +28,85 @@ pub const LINE: usize = DOTTED + (1 + DOTTED) * SETS + (1 + EQUATED) * ALL_KEYS 
 // The bytes of a buffer that a line is formed in: a piece is copied with what stands behind it.
 pub const BUFFER: usize = LINE + PIECE;
 
-// Puts `+` and the name of each of the Sets in dispute with the numbers m, ascending.
-fn put_run(out: &mut [u8], n: usize, texts: &[u8], lens: &[u8], m: u64) -> usize
-    requires { (n + length (members_of m) * (1 + dotted_length) + piece_length ≤ length out.old)
+// Puts `+` and the name of the i-th Set in dispute, x, if that is a member of g.
+fn put_member(
+    out: &mut [u8],
+    n: usize,
+    texts: &[u8],
+    lens: &[u8],
+    i: usize,
+    x: u64,
+    g: u64,
+) -> usize
+    requires { (i < most_sets)
+        × (n + piece_length ≤ length out.old)
         × (length texts.now ≡ pieces * piece_length)
         × (length lens.now ≡ pieces)
-        × ((i : ℕ) → bit m i ≡ true → get_or lens.now (keys + i) 0 ≤ 1 + dotted_length) }
+        × NameIn texts.now lens.now i x }
     ensures { (take result out.new
-        ≡ take n out.old ++ names_at texts.now lens.now (members_of m))
-        × (result ≤ n + length (members_of m) * (1 + dotted_length)) }
+        ≡ take n out.old ++ cond (is_in g x) (plus ∷ name_text (name_by x)) [])
+        × (result ≤ n + (1 + dotted_length)) }
 {
-    let mut w = n;
-    let mut left = m;
-    while left != 0 {
-        let i = u64::trailing_zeros(left) as usize;
-        w = put_piece(out, w, texts, lens, ALL_KEYS + i);
-        left = but_first(left);
+    if !is_member(g, (x % NUMBERS) as usize) {
+        return n;
     }
-    w
+    put_piece(out, n, texts, lens, ALL_KEYS + i)
 }
 
-// Puts `+` and the name of each Set in dispute that is a member of g, by the k stretches in which their numbers ascend:
-// so none but the members is gone through.
+// Puts `+` and the name of each of the d Sets in dispute that is a member of g.
 fn put_members(
     out: &mut [u8],
     n: usize,
     texts: &[u8],
     lens: &[u8],
-    runs: &[u64],
-    k: usize,
+    disputes: &[u64],
+    d: usize,
     g: u64,
 ) -> usize
-    requires { (k ≤ length runs.now)
-        × (n + length (members_by (take k runs.now) g) * (1 + dotted_length) + piece_length ≤ length out.old)
+    requires { (d ≤ length disputes.now)
+        × (d ≤ most_sets)
+        × (n + d * (1 + dotted_length) + piece_length ≤ length out.old)
         × (length texts.now ≡ pieces * piece_length)
         × (length lens.now ≡ pieces)
-        × ((i : ℕ) → elem i (members_by (take k runs.now) g) ≡ true →
-        get_or lens.now (keys + i) 0 ≤ 1 + dotted_length) }
+        × NamesKept texts.now lens.now (take d disputes.now) }
     ensures { (take result out.new ≡ take n out.old
-        ++ names_at texts.now lens.now (members_by (take k runs.now) g))
-        × (result ≤ n + length (members_by (take k runs.now) g) * (1 + dotted_length)) }
+        ++ flat_map (λ y. plus ∷ name_text y) (identifier_by (take d disputes.now) g))
+        × (result ≤ n + d * (1 + dotted_length)) }
 {
     let mut w = n;
     let mut i: usize = 0;
-    while i < k {
-        w = put_run(out, w, texts, lens, g & runs[i]);
+    while i < d {
+        w = put_member(out, w, texts, lens, i, disputes[i], g);
         i += 1;
     }
     w
 }
 
-// Puts a space and the identifier of the group g: the names with a space in the place of the first `+`.
+// Puts a space and the identifier of the group g, by the d Sets in dispute: the names with a space in the place of the
+// first `+`.
 fn put_identifier(
     out: &mut [u8],
     n: usize,
     texts: &[u8],
     lens: &[u8],
-    runs: &[u64],
-    k: usize,
+    disputes: &[u64],
+    d: usize,
     g: u64,
 ) -> usize
-    requires { (k ≤ length runs.now)
+    requires { (d ≤ length disputes.now)
+        × (d ≤ most_sets)
         × (n + identifier_length + piece_length ≤ length out.old)
         × (length texts.now ≡ pieces * piece_length)
         × (length lens.now ≡ pieces)
-        × ((xs : List ℕ) × (length xs ≤ most_sets) × NamesKept texts.now lens.now xs (take k runs.now)) }
-    ensures { ((xs : List ℕ) → NamesKept texts.now lens.now xs (take k runs.now) →
-        take result out.new ≡ take n out.old ++ (space ∷ identifier_text (identifier_by xs g)))
+        × NamesKept texts.now lens.now (take d disputes.now) }
+    ensures { (take result out.new ≡ take n out.old
+        ++ (space ∷ identifier_text (identifier_by (take d disputes.now) g)))
         × (result ≤ n + identifier_length) }
 {
-    let w = put_members(out, n, texts, lens, runs, k, g);
+    let w = put_members(out, n, texts, lens, disputes, d, g);
     if w == n {
-        let a = put_byte(out, n, SPACE);
-        return put_byte(out, a, MINUS);
+        let k = put_byte(out, n, SPACE);
+        return put_byte(out, k, MINUS);
     }
     out[n] = SPACE;
     w
@@ -170,9 +175,9 @@ fn put_settings(
     w
 }
 
-// Puts at the front the line of the version g of the object whose Create is site.seq, by the k stretches of its Sets in
-// dispute, the stamps of the t Sets and what is noted of their keys; says how many bytes it has. The names of the Sets
-// in dispute are put in their places before.
+// Puts at the front the line of the version g of the object whose Create is site.seq, by the d Sets in dispute, the
+// stamps of the t Sets and what is noted of their keys; says how many bytes it has. The names of the Sets in dispute
+// are put in their places before.
 pub fn put_line(
     out: &mut [u8],
     texts: &mut [u8],
@@ -180,30 +185,31 @@ pub fn put_line(
     told: &mut [u64],
     site: u8,
     seq: u16,
-    runs: &[u64],
-    k: usize,
+    disputes: &[u64],
+    d: usize,
     stamps: &[u64],
     t: usize,
     keyed: &[u64],
     peaks: u64,
     g: u64,
 ) -> usize
-    requires { (k ≤ length runs.now)
+    requires { (d ≤ length disputes.now)
+        × (d ≤ most_sets)
         × (line_length + piece_length ≤ length out.old)
         × Kept texts.old lens.old told.old
-        × ((xs : List ℕ) × (length xs ≤ most_sets) × NamesKept texts.old lens.old xs (take k runs.now))
+        × NamesKept texts.old lens.old (take d disputes.now)
         × (t ≤ length stamps.now)
         × (t ≤ most_sets)
         × (keys ≤ length keyed.now)
         × KeyedBy stamps.now keyed.now peaks t }
-    ensures { ((xs : List ℕ) → NamesKept texts.old lens.old xs (take k runs.now) →
-        (take result out.new ≡ line_by site seq xs (take t stamps.now) g)
-        × NamesKept texts.new lens.new xs (take k runs.now))
+    ensures { (take result out.new
+        ≡ line_by site seq (take d disputes.now) (take t stamps.now) g)
         × (result ≤ line_length)
-        × Kept texts.new lens.new told.new }
+        × Kept texts.new lens.new told.new
+        × NamesKept texts.new lens.new (take d disputes.now) }
 {
     let a = put_dotted(out, 0, site, seq);
-    let b = put_identifier(out, a, texts, lens, runs, k, g);
+    let b = put_identifier(out, a, texts, lens, disputes, d, g);
     let w = put_settings(out, b, texts, lens, told, stamps, t, keyed, peaks, g);
     put_byte(out, w, NEWLINE)
 }

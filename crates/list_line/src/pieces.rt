@@ -2,19 +2,18 @@
 // of each key, and the names of the Sets in dispute. The names are formed once for all lines of the object; a setting
 // is formed anew only where the last one in its place was told by another number. A piece is copied whole, with what
 // stands behind it: that is written over next.
-ghost use Rattle.std.specs.Prelude.{◌≡◌, not, ◌&&◌, cond, List, [], ◌∷◌, ◌++◌, ℕ, ◌+◌, ◌*◌, ◌≤◌, ◌<◌, eqb, length, take, drop, get_or};
-ghost use Rattle.math_maximal.specs.Groups.{bit};
+ghost use Rattle.std.specs.Prelude.{◌≡◌, not, ◌&&◌, List, ◌∷◌, ◌++◌, ℕ, ◌+◌, ◌*◌, ◌≤◌, ◌<◌, eqb, length, take, drop, get_or};
 ghost use Rattle.edit_record.specs.Layout.{keys};
 ghost use Rattle.group_step.specs.GroupRows.{most_sets};
 ghost use Rattle.list_text.specs.Pieces.{plus, dotted_length, equated_length};
 ghost use Rattle.list_line.specs.Line.{name_text};
-ghost use Rattle.list_version.specs.VersionForms.{name_by, NumbersTell};
+ghost use Rattle.list_version.specs.VersionForms.{name_by};
 ghost use Rattle.list_line.specs.LineForms.{piece_length, pieces, stamp_text, piece_at, Kept};
-ghost use Rattle.list_line.specs.LineForms.{NamesKept, NameMore, SameNames, members_by};
+ghost use Rattle.list_line.specs.LineForms.{NamesKept, NameMore, SameNames};
 
 use edit_causal::shown;
 use edit_record::VALUES;
-use group_step::{SETS, only};
+use group_step::SETS;
 use list_text::{PLUS, SPACE, put_byte, put_dotted, put_equated};
 use list_version::sets::NUMBERS;
 use list_version::{ALL_KEYS, SEQ_NUMBERS, SITE_NUMBERS};
@@ -73,7 +72,7 @@ fn renew(texts: &mut [u8], lens: &mut [u8], told: &mut [u64], j: usize, v: u64)
     told[j] = v;
 }
 
-// Forms the name of the Set in dispute x, whose number is i, in its place.
+// Forms the name of the i-th Set in dispute, x, in its place.
 fn put_name(texts: &mut [u8], lens: &mut [u8], i: usize, x: u64)
     requires { (i < most_sets)
         × (length texts.old ≡ pieces * piece_length)
@@ -87,54 +86,21 @@ fn put_name(texts: &mut [u8], lens: &mut [u8], i: usize, x: u64)
     lens[j] = n as u8;
 }
 
-// Puts the number b into stretch k or, where that has one as large, into a new stretch behind it; says into which.
-fn put_number(runs: &mut [u64], k: usize, b: usize) -> usize
-    requires { (b < most_sets) × (k + 1 < length runs.old) }
-    ensures { ((g : ℕ) → members_by (take (result + 1) runs.new) g
-        ≡ members_by (take (k + 1) runs.old) g ++ cond (bit g b) (b ∷ []) [])
-        × (result ≤ k + 1) }
-{
-    let own = only(b);
-    let run = runs[k];
-    if run < own {
-        runs[k] = run | own;
-        return k;
-    }
-    runs[k + 1] = own;
-    k + 1
-}
-
-// Forms the names of the d Sets in dispute, each in the place of its number, and puts their numbers into stretches in
-// which they ascend; says how many those are. Most often there is one for each site.
-pub fn put_names(
-    texts: &mut [u8],
-    lens: &mut [u8],
-    runs: &mut [u64],
-    disputes: &[u64],
-    d: usize,
-) -> usize
+// Forms the names of the d Sets in dispute, each in its place.
+pub fn put_names(texts: &mut [u8], lens: &mut [u8], disputes: &[u64], d: usize)
     requires { (d ≤ length disputes.now)
         × (d ≤ most_sets)
         × (length texts.old ≡ pieces * piece_length)
-        × (length lens.old ≡ pieces)
-        × (most_sets < length runs.old)
-        × NumbersTell (take d disputes.now) }
-    ensures { ((told : List ℕ) → Kept texts.old lens.old told →
-        Kept texts.new lens.new told)
-        × NamesKept texts.new lens.new (take d disputes.now) (take result runs.new)
-        × (result ≤ length runs.new) }
+        × (length lens.old ≡ pieces) }
+    ensures { (told : List ℕ) → Kept texts.old lens.old told →
+        Kept texts.new lens.new told
+        × NamesKept texts.new lens.new (take d disputes.now) }
 {
-    runs[0] = 0;
-    let mut k: usize = 0;
     let mut i: usize = 0;
     while i < d {
-        let x = disputes[i];
-        let b = (x % NUMBERS) as usize;
-        put_name(texts, lens, b, x);
-        k = put_number(runs, k, b);
+        put_name(texts, lens, i, disputes[i]);
         i += 1;
     }
-    k + 1
 }
 
 // The bytes of place j.

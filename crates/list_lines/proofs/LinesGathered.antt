@@ -2,7 +2,7 @@
 use mathlib.Core.Path.{◌≡◌, refl, sym, ap, ◌∙◌, fun_ext}
 use mathlib.Core.Bool.{Bool, true, false}
 use mathlib.Core.List.{List, [], ◌∷◌, map}
-use Prim.Native.Nat.{ℕ, zero, suc, ◌≤◌, ◌<◌}
+use Prim.Native.Nat.{ℕ, zero, suc, ◌-◌, ◌≤◌, ◌<◌}
 use native.Mathlib.Numerals.{add-one}
 use native.Mathlib.Omega.{arith}
 use native.Mathlib.Decide.{dec_lt}
@@ -23,7 +23,6 @@ use Rattle.table_drawing.specs.Tables.{Tables}
 use Rattle.table_soundness.proofs.SoundFacts.{Sound}
 use Rattle.table_arrival.specs.Answers6and7.{row_of}
 use Rattle.list_version.specs.VersionOrder.{versions_of}
-use Rattle.list_version.proofs.IdentifiersByDisputes.{numbers-tell}
 use Rattle.list_line.specs.Line.{version_line, object_lines}
 use Rattle.math_lists.proofs.ByPlaces.{map-place}
 use Rattle.list_line.proofs.LineByStamps.{line-by}
@@ -46,9 +45,6 @@ module _ (t : Tables) (s : Sound t) (o : ℕ) (low : o < t.counters.objects) (g 
         few = f.few-sets;
         disputed = f.few-disputes;
         disputes-long = disputes-long;
-        numbers =
-            rw f.disputes
-            (numbers-tell (sets_for t o) (names-differ t s o low) (omega (arith, f.sets, f.few-sets)));
         stamps-long = stamps-long;
         keyed-long = keyed-long;
         keyed = f.keyed;

@@ -8,7 +8,7 @@ use Rattle.table_drawing.specs.declared.Counters.{Counters}
 use Rattle.table_drawing.specs.Tables.{Tables, groups_at}
 use Rattle.edit_record.specs.Layout.{keys}
 use Rattle.list_text.specs.HeadAndRefusal.{head_line}
-use Rattle.list_version.specs.VersionForms.{NumbersTell, KeyedBy}
+use Rattle.list_version.specs.VersionForms.{KeyedBy}
 use Rattle.list_line.specs.Line.{line_length}
 use Rattle.list_line.specs.LineForms.{line_by}
 use Rattle.list_objects.specs.declared.Gathered.{Gathered}
@@ -19,13 +19,11 @@ use Rattle.list_lines.specs.List.{lines_for}
 
 -- ---- the lines of what is gathered
 
--- the arrays are as long as they must be: the Sets in dispute, one to a number, the stamps, the Sets of each key, and
--- the versions
+-- the arrays are as long as they must be: the Sets in dispute, the stamps, the Sets of each key, and the versions
 pub record LongEnough (g : Gathered) (ds ss ks vs : List ℕ) : Type 0 where
   pub few : g.sets ≤ most_sets
   pub disputed : g.disputes ≤ most_sets
   pub disputes-long : most_sets ≤ length ds
-  pub numbers : NumbersTell (take g.disputes ds)
   pub stamps-long : most_sets ≤ length ss
   pub keyed-long : keys ≤ length ks
   pub keyed : KeyedBy ss ks g.peaks g.sets

@@ -18,8 +18,8 @@ use Rattle.edit_causal.proofs.CausalLaws.{same-reflexive}
 use Rattle.edit_history.specs.EditsHeld.{creates}
 use Rattle.math_lists.specs.Rearranged.{Mem}
 use Rattle.group_true.specs.Identities.{Differ, AllDiffer}
-use Rattle.math_lists.proofs.Rearranged.{same-members}
-use Rattle.math_lists.proofs.ListMembers.{chosen_at}
+use Rattle.math_lists.proofs.Rearranged.{turned, same-members}
+use Rattle.math_lists.proofs.ListMembers.{chosen_at, chosen_on}
 use Rattle.math_lists.proofs.PairsInList.{pairs-two, pairs-chosen, pairs-weaken}
 use Rattle.list_version.proofs.RanksStrict.{ranks-through}
 use Rattle.list_order.specs.Layers.{is_on, in_order, last_on, deciding}
@@ -49,6 +49,10 @@ module _ (counts : Edit → Bool) (es : List Edit) where
   pub counted-at : (e : Edit) → Mem e (in_order (filter counts es)) → Mem e es × (counts e ≡ true)
   unfolding in_order
   counted-at e m = chosen_at counts e es (same-members (gathered-rearranged ranks_before (filter counts es)) e m)
+
+  pub counted-on : (e : Edit) → Mem e es → counts e ≡ true → Mem e (in_order (filter counts es))
+  unfolding in_order
+  counted-on e m h = same-members (turned (gathered-rearranged ranks_before (filter counts es))) e (chosen_on counts m h)
 
 -- ---- the last edit on an object
 

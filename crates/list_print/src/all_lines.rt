@@ -1,6 +1,6 @@
 // All lines, put at the front of the output one behind another where they have room.
 ghost use Rattle.std.specs.Prelude.{◌≡◌, true, ◌+◌, ◌*◌, ◌≤◌, ◌<◌, length};
-ghost use Rattle.group_step.specs.GroupRows.{most_objects, most_groups};
+ghost use Rattle.group_step.specs.GroupRows.{most_objects, most_sets, most_groups};
 ghost use Rattle.table_drawing.specs.Tables.{tables_of};
 ghost use Rattle.edit_walk.specs.WalkForms.{Indexed};
 ghost use Rattle.table_soundness.specs.Sound.{sound};
@@ -10,7 +10,7 @@ ghost use Rattle.list_line.specs.LineForms.{piece_length, Kept};
 ghost use Rattle.list_lines.specs.List.{lines_for};
 ghost use Rattle.list_print.specs.Printing.{joined, list_of, list_length};
 ghost use Rattle.list_lines.specs.LinesForms.{head_of};
-ghost use Rattle.list_print.specs.PrintForms.{all_lines, Behind, Roomy};
+ghost use Rattle.list_print.specs.PrintForms.{all_lines, Behind};
 
 use super::object_lines::{put_behind, put_versions};
 use edit_history::RECORDS;
@@ -19,10 +19,11 @@ use group_step::{GROUPS, OBJECTS, SETS};
 use list_line::BUFFER;
 use list_line::pieces::{PIECE, PIECES};
 use list_lines::head;
-use list_objects::gather_chained;
 use list_objects::order::sort_objects;
+use list_objects::{gather, put_chained};
 use list_version::ALL_KEYS;
 use table_drawing::Counters;
+use table_index::chain::CHAINS;
 
 // Puts line 0 at the front; says where it ends. The line is formed in a buffer of its own.
 fn put_head(out: &mut [u8], line: &mut [u8], c: Counters, objects: &[u16]) -> usize
@@ -56,16 +57,22 @@ fn put_object(
         × Chained records.now c.records chain.now
         × (o < c.objects)
         × (n + most_groups * line_length ≤ list_length)
+        × (line_length + piece_length ≤ length line.old)
         × Kept texts.old lens.old told.old
-        × Roomy line.old disputes.old stamps.old versions.old }
+        × (most_sets ≤ length disputes.old)
+        × (most_sets ≤ length stamps.old)
+        × (most_groups ≤ length versions.old) }
     ensures { Behind out.old n
         (joined (lines_for (tables_of c records.now objects.now groups.now) o))
         (most_groups * line_length) out.new result
         × Kept texts.new lens.new told.new }
 {
+    // what work space holds at first does not matter; zeros would be set by memset (docs/DECISIONS.md, 24)
+    let mut places = [1u16; SETS];
+    put_chained(&mut places, c, records, objects, groups, chain, o);
     let mut keyed = [0u64; ALL_KEYS];
-    let g = gather_chained(
-        disputes, stamps, &mut keyed, versions, c, records, objects, groups, chain, o,
+    let g = gather(
+        disputes, stamps, &mut keyed, versions, c, records, objects, groups, &places, o,
     );
     put_versions(
         out, line, texts, lens, told, n, g, disputes, stamps, &keyed, versions,
@@ -170,6 +177,17 @@ pub fn put_list(
 {
     // what work space holds at first does not matter; zeros would be set by memset (docs/DECISIONS.md, 24)
     let mut places = [1u16; PLACES];
-    table_index::build(records, c.records as usize, &mut places);
+    let mut numbers = [1u8; RECORDS];
+    let mut counts = [0u16; OBJECTS];
+    let mut chains = [0u8; CHAINS];
+    let k = c.records as usize;
+    table_index::build(
+        records,
+        k,
+        &mut places,
+        &mut numbers,
+        &mut counts,
+        &mut chains,
+    );
     put_list_by(out, c, records, objects, groups, &places)
 }

@@ -7,7 +7,6 @@ ghost use Rattle.list_print.specs.Printing.{joined, list_length};
 ghost use Rattle.list_lines.specs.LinesForms.{LongEnough, line_in};
 ghost use Rattle.list_print.specs.PrintForms.{Behind};
 
-use group_step::SETS;
 use list_line::alone::put_lone_line;
 use list_line::pieces::put_names;
 use list_line::put_line;
@@ -27,8 +26,8 @@ pub fn put_behind(out: &mut [u8], n: usize, line: &[u8], k: usize) -> usize
     n + k
 }
 
-// Puts the line of the v-th version of the object gathered behind the first n bytes, by the k stretches of its Sets in
-// dispute. The line is formed in a buffer of its own, so that no other byte of out changes.
+// Puts the line of the v-th version of the object gathered behind the first n bytes. The line is formed in a buffer of
+// its own, so that no other byte of out changes.
 fn put_version(
     out: &mut [u8],
     line: &mut [u8],
@@ -37,8 +36,6 @@ fn put_version(
     told: &mut [u64],
     n: usize,
     g: Gathered,
-    runs: &[u64],
-    k: usize,
     disputes: &[u64],
     stamps: &[u64],
     keyed: &[u64],
@@ -50,31 +47,29 @@ fn put_version(
         × (n + line_length ≤ list_length)
         × (line_length + piece_length ≤ length line.old)
         × Kept texts.old lens.old told.old
-        × (k ≤ length runs.now)
-        × NamesKept texts.old lens.old (take g.disputes disputes.now) (take k runs.now) }
+        × NamesKept texts.old lens.old (take g.disputes disputes.now) }
     ensures { Behind out.old n
         (line_in g disputes.now stamps.now (get_or versions.now v 0)) line_length
         out.new result
         × Kept texts.new lens.new told.new
-        × NamesKept texts.new lens.new (take g.disputes disputes.now)
-        (take k runs.now) }
+        × NamesKept texts.new lens.new (take g.disputes disputes.now) }
 {
-    let w = put_line(
+    let k = put_line(
         line,
         texts,
         lens,
         told,
         g.site,
         g.seq,
-        runs,
-        k,
+        disputes,
+        g.disputes,
         stamps,
         g.sets,
         keyed,
         g.peaks,
         versions[v],
     );
-    put_behind(out, n, line, w)
+    put_behind(out, n, line, k)
 }
 
 // Puts the lines of all versions behind the first n bytes, one after another. The names of the Sets in dispute are
@@ -102,14 +97,12 @@ fn put_each(
         (take g.count versions.now))) (g.count * line_length) out.new result
         × Kept texts.new lens.new told.new }
 {
-    // what work space holds at first does not matter; zeros would be set by memset (docs/DECISIONS.md, 24)
-    let mut runs = [1u64; SETS + 1];
-    let k = put_names(texts, lens, &mut runs, disputes, g.disputes);
+    put_names(texts, lens, disputes, g.disputes);
     let mut w = n;
     let mut v: usize = 0;
     while v < g.count {
         w = put_version(
-            out, line, texts, lens, told, w, g, &runs, k, disputes, stamps, keyed, versions, v,
+            out, line, texts, lens, told, w, g, disputes, stamps, keyed, versions, v,
         );
         v += 1;
     }

@@ -18,7 +18,6 @@ use Rattle.math_lists.specs.SortedLists.{elem, filter, Ascending, insert, gather
 use Rattle.math_lists.proofs.Booleans.{both, and-on}
 use Rattle.math_lists.proofs.NumbersBelow.{keep_at, keep-on}
 use Rattle.math_lists.proofs.Elements.{any_at, any-on, any-map, elem→mem, mem→elem, filter-at, filter-on}
-use Rattle.math_lists.proofs.ListMembers.{mem-place}
 use Rattle.math_lists.proofs.SortedLists.{ascending-unique, any-ascending, is-ascending}
 use Rattle.math_lists.proofs.GrownAtEnd.{filter-snoc}
 use Rattle.math_lists.proofs.PutInOrder.{gathered-same}
@@ -31,7 +30,7 @@ use Rattle.group_true.specs.Disputed.{is_disputed, disputed_of}
 use Rattle.list_version.specs.Identifier.{identifier_of}
 use Rattle.list_version.specs.VersionOrder.{is_ahead, versions_of}
 use Rattle.list_version.specs.VersionForms.{named_at, disputes_below, disputes_in, name_by}
-use Rattle.list_version.specs.VersionForms.{is_in, NumbersTell, NamesAscend, identifier_by}
+use Rattle.list_version.specs.VersionForms.{is_in, NamesAscend, identifier_by}
 use Rattle.list_version.specs.VersionForms.{is_ahead_by, versions_by}
 use Rattle.list_version.proofs.MembersByTest.{one_more_lem, none_more}
 use Rattle.list_version.proofs.IdentifiersGrow.{name_at, NamesDiffer, name-on, name-at}
@@ -133,14 +132,6 @@ module _ (ms : List Edit) (differ : NamesDiffer ms) (few : length ms ≤ most_se
       ∙ any-map (eqb (named_at ms i)) (named_at ms) (keep n disputed)
       ∙ any-on (λ j. eqb (named_at ms i) (named_at ms j)) (keep n disputed) i (keep-on n disputed i l p)
       (eq-eqb (named_at ms i) (named_at ms i) refl)
-
-  pub numbers-tell : NumbersTell (disputes_in ms)
-  numbers-tell i j l k e =
-      let xs = disputes_in ms in
-      let (a, low, _, is-a) = dispute-at (get_or xs i 0) (mem→elem (mem-place 0 xs i l)) in
-      let (b, few-b, _, is_b) = dispute-at (get_or xs j 0) (mem→elem (mem-place 0 xs j k)) in
-      let same : a ≡ b = omega arith in
-      is-a ∙ ap (named_at ms) same ∙ sym is_b
 
   pub disputes-named : NamesAscend (disputes_in ms)
   disputes-named =

@@ -53,21 +53,12 @@ BySites rs ps m own =
 abbrev pub disputes_in : List Edit → List ℕ
 disputes_in ms = disputes_below ms (length ms)
 
--- the two numbers in such a number: the name, and the Set's own; and whether the Set is a member of g
+-- the two numbers in such a number: the name, and whether the Set is a member of g
 abbrev pub name_by : ℕ → ℕ
 name_by x = x / most_sets
 
-abbrev pub number_by : ℕ → ℕ
-number_by x = x % most_sets
-
 abbrev pub is_in : ℕ → ℕ → Bool
-is_in g x = bit g (number_by x)
-
--- of those in xs, one number is one Set's
-abbrev pub NumbersTell : List ℕ → Type 0
-NumbersTell xs =
-    (i j : ℕ) → i < length xs → j < length xs → number_by (get_or xs i 0) ≡ number_by (get_or xs j 0) →
-    get_or xs i 0 ≡ get_or xs j 0
+is_in g x = bit g (x % most_sets)
 
 -- the names ascend
 abbrev pub NamesAscend : List ℕ → Type 0

@@ -1,6 +1,6 @@
--- The order of arrival does not matter: the same Sets under other numbers have the same contexts and the same
--- conflicts, and the same of them name a version. Assumes nothing beyond `SameSets`.
-use mathlib.Core.Path.{◌≡◌, sym, ◌∙◌, ap}
+-- The order of arrival does not matter: the same Sets under other numbers have the same contexts, the same conflicts
+-- and the same disputed ones, and the same of them name a version. Assumes nothing beyond `SameSets`.
+use mathlib.Core.Path.{◌≡◌, refl, sym, ◌∙◌, ap}
 use mathlib.Core.Logic.{◌⊎◌, inl, inr}
 use mathlib.Core.Bool.{true, ◌&&◌}
 use Prim.Native.Nat.{ℕ, zero, suc, ◌<◌}
@@ -10,17 +10,18 @@ use borrow.Author.Tests.{eqb-true, eq-eqb}
 use Rattle.math_lists.proofs.Booleans.{same_test, both, and-on}
 use Rattle.math_lists.proofs.LastBelow.{last}
 use Rattle.math_maximal.specs.MaximalSets.{◌∈◌, with}
-use Rattle.math_maximal.specs.Groups.{bit}
+use Rattle.math_maximal.specs.Groups.{bit, below, every}
 use Rattle.math_maximal.proofs.MaximalSets.{Onto, carried}
-use Rattle.math_maximal.proofs.Groups.{below_at}
-use Rattle.math_contexts.specs.Box.{Box, seen_by, disputed_by}
+use Rattle.math_maximal.proofs.Groups.{below_at, below_on}
+use Rattle.math_maximal.proofs.Renumbered.{Renumbered}
+use Rattle.math_contexts.specs.Box.{Box, seen_by, disputed, disputed_by}
 use Rattle.math_contexts.specs.Contexts.{context, reach, conflicts}
 use Rattle.math_contexts.specs.Versions.{names_version, Valid, Names}
 use Rattle.math_contexts.specs.SameSets.{SameSets}
 use Rattle.math_contexts.proofs.ContextMembers.{disputed-at, in-context, context-seen, reach-below}
 use Rattle.math_contexts.proofs.ConflictByReach.{conflicts-at, conflicts-on}
 use Rattle.math_contexts.proofs.NamesTest.{names_at, names-on}
-use Rattle.math_contexts.proofs.SameSetsTurned.{turned, seen-there, seen_back, disputed-there}
+use Rattle.math_contexts.proofs.SameSetsTurned.{turned, seen-there, seen_back, disputed-there, all_there}
 
 -- ---- one context, where the reach of j is known to be carried over
 
@@ -104,6 +105,25 @@ module _ {b : Box} {n : ℕ} {b' : Box} {m : ℕ} {f q : ℕ → ℕ} (r : SameS
   conflicts-any-order i j l k =
       same_test (conflicts b' i j) (conflicts b (f i) (f j)) (conflicts-there r i j l k)
       (λ h. rw (r.again i l, r.again j k) at (conflicts-there (turned r) (f i) (f j) (r.into i l) (r.into j k) h))
+
+  -- so the groups are the same: `as_many` and `same_keys` of `math_maximal` take this
+  pub renumbered : Renumbered (conflicts b) n every (conflicts b') m every f q
+  renumbered = record {
+    into = λ i s. below_on n every (f i) (r.into i (low m i s)) refl;
+    back = λ j s. below_on m every (q j) (r.back j (low n j s)) refl;
+    there = λ j s. r.there j (low n j s);
+    again = λ i s. r.again i (low m i s);
+    agree = λ i j s t. conflicts-any-order i j (low m i s) (low m j t);
+  }
+    where
+      low : (k i : ℕ) → i ∈ below k every → i < k
+      low k i s = (below_at k every i s).0
+
+  -- the disputed ones, of which identifiers are made
+  pub disputed-any-order : (i : ℕ) → i < m → disputed b' m every i ≡ disputed b n every (f i)
+  disputed-any-order i l =
+      same_test (disputed b' m every i) (disputed b n every (f i)) (all_there r i)
+      (λ d. rw (r.again i l) at (all_there (turned r) (f i) d))
 
 -- ---- answer 16
 

@@ -1,13 +1,14 @@
 -- The same Sets under other numbers: the other way round, when both orders are causal, and what is carried over of
 -- what a Set has seen and of the disputed ones. Assumes nothing beyond `SameSets`.
-use mathlib.Core.Path.{◌≡◌, sym, ◌∙◌}
+use mathlib.Core.Path.{◌≡◌, refl, sym, ◌∙◌}
 use mathlib.Core.Logic.{◌↔◌}
 use mathlib.Core.Bool.{true}
 use Prim.Native.Nat.{ℕ, ◌<◌}
 use native.Mathlib.Omega.{arith}
 use Rattle.math_maximal.specs.MaximalSets.{◌∈◌}
+use Rattle.math_maximal.specs.Groups.{every}
 use Rattle.math_maximal.proofs.Groups.{below_at, below_on}
-use Rattle.math_contexts.specs.Box.{Box, seen_by, disputed_by, CausalBox}
+use Rattle.math_contexts.specs.Box.{Box, seen_by, disputed, disputed_by, CausalBox}
 use Rattle.math_contexts.specs.SameSets.{SameSets}
 use Rattle.math_contexts.proofs.ContextMembers.{disputed-at, disputed-on}
 
@@ -82,3 +83,12 @@ module _ {b : Box} {n : ℕ} {b' : Box} {m : ℕ} {f q : ℕ → ℕ} (r : SameS
       let (y, _) = below_at i (b'.seen i) k t in
       disputed-on b (f i) (b.seen (f i)) (f j) (seen-there i j l s) (f k) (seen-there i k l t)
       (sym (r.plains j k (omega arith) (omega arith)) ∙ e)
+
+  -- of all Sets
+  pub all_there : (j : ℕ) → j ∈ disputed b' m every → f j ∈ disputed b n every
+  all_there j d =
+      let (s, k, t, e) = disputed-at b' m every j d in
+      let (x, _) = below_at m every j s in
+      let (y, _) = below_at m every k t in
+      disputed-on b n every (f j) (below_on n every (f j) (r.into j x) refl) (f k)
+      (below_on n every (f k) (r.into k y) refl) (sym (r.plains j k x y) ∙ e)

@@ -2,7 +2,7 @@
 use mathlib.Core.Path.{◌≡◌, refl, sym, ◌∙◌}
 use mathlib.Core.Logic.{◌⊎◌, inl, inr}
 use mathlib.Core.Bool.{Bool, true, false, ◌||◌, cond}
-use mathlib.Core.List.{[], ◌∷◌, ◌++◌, append-nil}
+use mathlib.Core.List.{[], ◌∷◌}
 use Prim.Native.Nat.{ℕ, zero, suc, ◌+◌, ◌*◌, ◌^◌, ◌≤◌, ◌<◌}
 use native.Mathlib.Omega.{arith}
 use native.Mathlib.Decide.{dec_lt, ℕ_discrete}
@@ -153,24 +153,6 @@ pub keep_same : (n : ℕ) (f g : ℕ → Bool) → ((i : ℕ) → i < n → f i 
 unfolding keep
 keep_same zero f g h = refl
 keep_same (suc n) f g h = rw (keep_same n f g (λ i l. h i (omega arith)), h n (omega arith))
-
-pub keep-none : (n : ℕ) (f : ℕ → Bool) → ((i : ℕ) → f i ≡ false) → keep n f ≡ []
-unfolding keep
-keep-none zero f h = refl
-keep-none (suc n) f h = rw (keep-none n f h, h n)
-
--- b is the last that passes, if it does, and the others are those that h passes
-pub keep-last :
-    (n b : ℕ) (f h : ℕ → Bool) → b < n → ((i : ℕ) → i < b → f i ≡ h i) → ((i : ℕ) → b < i → f i ≡ false) →
-    ((i : ℕ) → b ≤ i → h i ≡ false) → keep n f ≡ keep n h ++ cond (f b) (b ∷ []) []
-unfolding keep
-keep-last zero b f h l same none low = absurd (omega arith)
-keep-last (suc n) b f h l same none low = elim (ℕ_discrete b n) [
-  | yes e ↦ rw (keep_same n f h (λ i k. same i (omega arith)), low n (omega arith), append-nil (keep n h), e)
-  | no d ↦
-      rw (none n (omega (arith, d)), low n (omega (arith, d)), append-nil (keep n f), append-nil (keep n h))
-      (keep-last n b f h (omega (arith, d)) same none low)
-]
 
 pub keep-more : (f : ℕ → Bool) (n : ℕ) → length (keep (suc n) f) ≡ length (keep n f) + cond (f n) 1 0
 unfolding keep

@@ -20,3 +20,4 @@ pub mod VersionValues
 pub mod CodeOutcomes
 pub mod SetReady
 pub mod CodeInHand
+pub mod PlainTaken

@@ -3,7 +3,7 @@
 -- nothing.
 use mathlib.Core.Path.{◌≡◌, refl, sym, ap, ◌∙◌}
 use mathlib.Core.Logic.{inl, inr}
-use mathlib.Core.Bool.{Bool, true, false, ◌||◌, cond}
+use mathlib.Core.Bool.{Bool, true, false, ◌||◌, cond, and-false}
 use mathlib.Core.List.{List, [], ◌∷◌, map, map-append}
 use Prim.Native.Nat.{ℕ, zero, suc, ◌+◌, ◌^◌, ◌<◌}
 use native.Mathlib.Omega.{arith}
@@ -15,7 +15,7 @@ use Rattle.math_lists.specs.SortedLists.{any}
 use Rattle.math_lists.proofs.Booleans.{clash, decide, both, and-on}
 use Rattle.math_lists.proofs.GrownAtEnd.{any_snoc}
 use Rattle.edit_record.specs.declared.Edit.{Edit}
-use Rattle.edit_record.specs.Answer1.{is_limited}
+use Rattle.edit_record.specs.Answer1.{is_set, is_limited}
 use Rattle.edit_causal.specs.Conflict.{do_conflict}
 use Rattle.edit_causal.specs.ConflictForms.{plain_marks}
 use Rattle.edit_causal.proofs.PlainMarks.{none-marked, one-more-marked}
@@ -88,7 +88,7 @@ module _ (rs : List ℕ) (q : ℕ) where
         (λ (k : ℕ). marks_on rs n q e + cond (do_conflict (record_at rs n) e) (2 ^ k) 0)
         (length-map (places_on rs n q) (record_at rs))
 
-    -- an edit that is in conflict with none has no marks
+    -- an edit that is in conflict with none has no marks: one that is no Set is such a one
     pub marks-apart : (n : ℕ) → ((p : ℕ) → p < n → do_conflict (record_at rs p) e ≡ false) → marks_on rs n q e ≡ 0
     unfolding places_on keep
     marks-apart zero h = none-marked e
@@ -98,6 +98,9 @@ module _ (rs : List ℕ) (q : ℕ) where
           ap (λ (l : List ℕ). plain_marks e (map (record_at rs) l)) (places-stay rs q n none)
           ∙ marks-apart n (λ p l. h p (omega arith))
     ]
+
+    pub marks-unset : (n : ℕ) → is_set e ≡ false → marks_on rs n q e ≡ 0
+    marks-unset n h = marks-apart n (λ p l. rw (h, and-false (is_set (record_at rs p))))
 
     -- a Set of another key, and what is no Set on the Create, marks nothing
     marks_stay : (n : ℕ) → is_keyed rs q e.key n ≡ false → marks_on rs (suc n) q e ≡ marks_on rs n q e

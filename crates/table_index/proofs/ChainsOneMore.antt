@@ -18,51 +18,27 @@ use Rattle.edit_record.specs.Answer1.{is_create}
 use Rattle.edit_history.specs.EditsHeld.{most_records, record_at}
 use Rattle.group_step.specs.GroupRows.{most_objects}
 use Rattle.table_index.specs.IndexForms.{number_at, is_on, places_on, latest_on, limited_on}
-use Rattle.table_index.specs.IndexForms.{head_at, link_at, limit_at, rank_at, ranked_in, headed, linked_in, ChainsOf}
+use Rattle.table_index.specs.IndexForms.{head_at, link_at, limit_at, headed, linked_in, ChainsOf}
 use Rattle.table_index.proofs.ChainsOfSets.{latest-here, latest-before, latest-stays, latest-none}
 use Rattle.table_index.proofs.ChainsOfSets.{limited-added, limited-stays, limited-none}
 
--- the rank of a record to come is asked by none
-pub chains-ranked :
-    (rs : List ℕ) (n : ℕ) (hs : List ℕ) → ChainsOf rs n hs → n < most_records →
-    ((p : ℕ) → p < n → is_create (record_at rs p) ≡ true → number_at rs p < most_objects) → (k : ℕ) →
-    ChainsOf rs n (ranked_in hs n k)
-chains-ranked rs n hs x low few k =
-    record {
-      chains-long = simp length-set x.chains-long;
-      latest = λ q m cq y l.
-          same (head_at (number_at rs q) y) (λ e. absurd (omega (arith, few q m cq, l))) ∙ x.latest q m cq y l;
-      linked = λ q p m cq j on. same (link_at p) (λ e. absurd (omega (arith, low))) ∙ x.linked q p m cq j on;
-      ranked = λ q p m cq j on. same (rank_at p) (λ e. absurd (omega arith)) ∙ x.ranked q p m cq j on;
-      numbered = λ p m cp. same (rank_at p) (λ e. absurd (omega arith)) ∙ x.numbered p m cp;
-      limited = λ q m cq.
-          same (limit_at (number_at rs q)) (λ e. absurd (omega (arith, few q m cq))) ∙ x.limited q m cq;
-      no-heads = λ o y l m j. same (head_at o y) (λ e. absurd (omega arith)) ∙ x.no-heads o y l m j;
-      no-limits = λ o l m. same (limit_at o) (λ e. absurd (omega arith)) ∙ x.no-limits o l m;
-    }
-  where
-    same : (i : ℕ) → (i ≡ rank_at n → ⊥) → get_or (ranked_in hs n k) i 0 ≡ get_or hs i 0
-    same i d = get_or-set_other hs (rank_at n) i k 0 d
-
-module _ (rs : List ℕ) (n : ℕ) (hs : List ℕ) (x : ChainsOf rs n hs) (grow : number_at rs n ≤ number_at rs (suc n))
+module _ (rs : List ℕ) (n : ℕ) (ns hs : List ℕ) (x : ChainsOf rs n ns hs) (grow : number_at rs n ≤ number_at rs (suc n))
   where
     -- ---- no Set
 
-    -- it may be a Create, which has its number for its rank
+    -- it may be a Create, whose number is then put among ns
     pub chains-stay :
-        ((p : ℕ) → is_on rs p n ≡ false) →
+        (ms : List ℕ) → ((p : ℕ) → p < n → get_or ms p 0 ≡ get_or ns p 0) → ((p : ℕ) → is_on rs p n ≡ false) →
         (is_create (record_at rs n) ≡ true →
-        ((p : ℕ) → p < suc n → is_on rs n p ≡ false)
-        × (number_at rs n < most_objects)
-        × (get_or hs (rank_at n) 0 ≡ number_at rs n)) →
-        ChainsOf rs (suc n) hs
-    chains-stay none create =
+        ((p : ℕ) → p < suc n → is_on rs n p ≡ false) × (number_at rs n < most_objects)) →
+        ChainsOf rs (suc n) ms hs
+    chains-stay ms same none create =
         record {
           chains-long = x.chains-long;
           latest = λ q k cq y l. elim (last k) [
             | inl m ↦ x.latest q m cq y l ∙ sym (latest-stays rs q y n (none q))
             | inr e ↦
-                (let (free, low, _) = create (rw e at cq) in
+                (let (free, low) = create (rw e at cq) in
                 rw e (x.no-heads (number_at rs n) y (omega arith) low l ∙ sym (latest-none rs n y (suc n) free)))
           ];
           linked = λ q p k cq j on. elim (last j) [
@@ -70,17 +46,13 @@ module _ (rs : List ℕ) (n : ℕ) (hs : List ℕ) (x : ChainsOf rs n hs) (grow 
             | inr e ↦ clash (rw e at on) (none q)
           ];
           ranked = λ q p k cq j on. elim (last j) [
-            | inl m ↦ x.ranked q p (before q p k m cq on) cq m on
+            | inl m ↦ same p m ∙ x.ranked q p (before q p k m cq on) cq m on
             | inr e ↦ clash (rw e at on) (none q)
-          ];
-          numbered = λ p k cp. elim (last k) [
-            | inl m ↦ x.numbered p m cp
-            | inr e ↦ rw e (create (rw e at cp)).2
           ];
           limited = λ q k cq. elim (last k) [
             | inl m ↦ x.limited q m cq ∙ ap (λ (b : Bool). cond b 1 0) (sym (limited-stays rs q n (none q)))
             | inr e ↦
-                (let (free, low, _) = create (rw e at cq) in
+                (let (free, low) = create (rw e at cq) in
                 rw e
                 (x.no-limits (number_at rs n) (omega arith) low
                 ∙ ap (λ (b : Bool). cond b 1 0) (sym (limited-none rs n (suc n) free))))
@@ -109,7 +81,7 @@ module _ (rs : List ℕ) (n : ℕ) (hs : List ℕ) (x : ChainsOf rs n hs) (grow 
         (is_on rs p n ≡ false) × (number_at rs p ≡ number_at rs q → ⊥))
         (key : (record_at rs n).key < keys)
         (low : n < most_records)
-        (rank : get_or hs (rank_at n) 0 ≡ length (places_on rs n q)) where
+        (room : n < length ns) where
       abbrev o : ℕ
       o = number_at rs q
 
@@ -211,13 +183,8 @@ module _ (rs : List ℕ) (n : ℕ) (hs : List ℕ) (x : ChainsOf rs n hs) (grow 
           ∙ x.limited p j cp
           ∙ ap (λ (b : Bool). cond b 1 0) (sym (limited-stays rs p n off))
 
-      -- the ranks are not touched
-      same_rank : (p : ℕ) → get_or (linked_in hs n o kind y) (rank_at p) 0 ≡ get_or hs (rank_at p) 0
-      same_rank p =
-          elsewhere (rank_at p) (λ e. absurd (omega (arith, low)))
-          (λ e. absurd (omega (arith, (few q m create).0, key))) (λ e. absurd (omega (arith, (few q m create).0)))
-
-      pub chains-linked : ChainsOf rs (suc n) (linked_in hs n o kind y)
+      pub chains-linked :
+          ChainsOf rs (suc n) (set ns n (length (places_on rs n q))) (linked_in hs n o kind y)
       chains-linked =
           record {
             chains-long = simp length-set x.chains-long;
@@ -232,12 +199,13 @@ module _ (rs : List ℕ) (n : ℕ) (hs : List ℕ) (x : ChainsOf rs n hs) (grow 
                   rw (e, same) (link-is ∙ x.latest q m create y key))
             ];
             ranked = λ p r j cp k is. elim (last k) [
-              | inl i ↦ same_rank r ∙ x.ranked p r (older j cp) cp i is
+              | inl i ↦
+                  get_or-set_other ns n r (length (places_on rs n q)) 0 (λ e. absurd (omega arith))
+                  ∙ x.ranked p r (older j cp) cp i is
               | inr e ↦
                   (let same = own p (older j cp) cp (rw e at is) in
-                  rw (e, same) (same_rank n ∙ rank))
+                  rw (e, same) (get_or-set_same ns n (length (places_on rs n q)) 0 room))
             ];
-            numbered = λ p j cp. same_rank p ∙ x.numbered p (older j cp) cp;
             limited = λ p j cp. limited-at p (older j cp) cp (ℕ_discrete p q);
             no-heads = λ p z k l i.
                 elsewhere (head_at p z) (λ e. absurd (omega arith))

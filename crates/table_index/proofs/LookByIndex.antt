@@ -6,25 +6,24 @@ use mathlib.Core.List.{List}
 use Prim.Native.Nat.{ℕ, ◌<◌}
 use lib.Dec.{eqb, ltb}
 use lib.ListN.{get_or}
-use borrow.Author.Tests.{ltb-true, lt-ltb, not-true, not-false}
+use borrow.Author.Tests.{ltb-true, not-true, not-false}
 use Rattle.math_lists.specs.SortedLists.{any}
-use Rattle.math_lists.proofs.Booleans.{clash, neither, then-off}
+use Rattle.math_lists.proofs.Booleans.{neither, then-off}
 use Rattle.edit_record.specs.declared.Edit.{Edit}
 use Rattle.edit_record.specs.Layout.{create_kind}
 use Rattle.edit_record.specs.Answer1.{is_create, is_set, is_limited, is_aimed, unfit}
 use Rattle.edit_record.proofs.WellFormed.{set-aimed}
 use Rattle.edit_causal.specs.ConflictForms.{plain_marks}
-use Rattle.edit_history.specs.EditsHeld.{edits_of, sets_on, is_target, object_of}
+use Rattle.edit_history.specs.EditsHeld.{edits_of, sets_on, is_target}
 use Rattle.edit_history.specs.Answers2to5.{is_repeated, is_early, is_torn, is_astray, passes}
 use Rattle.edit_history.specs.SurveyForms.{repeated_against, early_against}
 use Rattle.edit_walk.specs.WalkForms.{place_of, torn_by_news, target_held, in_turn_against, passes_against}
 use Rattle.group_step.specs.GroupRows.{most_objects, most_sets}
 use Rattle.table_drawing.specs.declared.Counters.{Counters}
-use Rattle.table_drawing.specs.Tables.{sets_at}
-use Rattle.table_index.specs.IndexForms.{limit_at, rank_at, marks_on, IndexOf, Holds, CountedIn}
-use Rattle.table_index.specs.IndexForms.{MetOf}
+use Rattle.table_index.specs.IndexForms.{number_at, limit_at, marks_on, IndexOf, Holds, MetOf}
+use Rattle.table_index.specs.IndexForms.{PassedOf, FitOf}
 use Rattle.table_index.specs.declared.Looked.{Looked}
-use Rattle.table_index.proofs.SurveyByIndex.{Aimed, aimed}
+use Rattle.table_index.proofs.SurveyByIndex.{object-is, Aimed, aimed}
 
 -- ---- what passing says
 
@@ -57,13 +56,6 @@ pub create-room-of :
     m < most_objects
 create-room-of e m h k = ltb-true m most_objects (rw k at h)
 
-pub no-room-of :
-    (e : Edit) (m : ℕ) → (not (eqb e.kind create_kind) || ltb m most_objects) ≡ false →
-    (is_create e ≡ true → m < most_objects) → ⊥
-no-room-of e m h room =
-    let (create, full) = neither (not (eqb e.kind create_kind)) (ltb m most_objects) h in
-    clash (lt-ltb m most_objects (room (not-false (eqb e.kind create_kind) create))) full
-
 -- ---- what a Set finds
 
 -- an entry that is 0 or 1, by the test for 0
@@ -77,34 +69,58 @@ module _
     (h : Holds c rs)
     (n : ℕ)
     (count : c.records ≡ n)
-    (ps hs : List ℕ)
-    (x : IndexOf rs n ps hs)
+    (ps ns cs hs : List ℕ)
+    (x : IndexOf rs n ps ns cs hs)
     (e : Edit)
     (held : any (is_target e) (edits_of rs n) ≡ true) where
   abbrev q : ℕ
   q = place_of ps e.tsite.0 e.tseq.0
 
-  abbrev own : IndexOf rs c.records ps hs
-  own = subst (λ (k : ℕ). IndexOf rs k ps hs) (sym count) x
+  abbrev own : IndexOf rs c.records ps ns cs hs
+  own = subst (λ (k : ℕ). IndexOf rs k ps ns cs hs) (sym count) x
 
-  pub target : Aimed c rs h ps hs own e q
-  target = aimed c rs h ps hs own e (rw count held)
+  pub target : Aimed c rs h ps ns cs hs own e q
+  target = aimed c rs h ps ns cs hs own e (rw count held)
 
   pub met_of :
-      (os : List ℕ) → CountedIn os rs n e → (r : Looked) → r.object ≡ get_or hs (rank_at q) 0 →
-      r.sets ≡ sets_at os r.object → r.ok ≡ ltb r.sets most_sets →
+      (r : Looked) → r.object ≡ get_or ns q 0 → r.sets ≡ get_or cs r.object 0 →
       r.limited ≡ not (eqb (get_or hs (limit_at r.object) 0) 0) → r.conflicts ≡ marks_on rs n q e →
-      MetOf rs n e r
-  met_of os counted r o k room limits marks =
+      r.sets < most_sets → MetOf rs n ps ns cs e r
+  met_of r o k limits marks few =
       let t = target in
-      let is : r.object ≡ object_of e (edits_of rs n) = o ∙ rw count at t.object in
+      let is : r.object ≡ number_at rs q = o ∙ t.number in
       record {
-        object = is;
-        sets = k ∙ ap (λ (i : ℕ). sets_at os i) is ∙ counted held;
-        room = room;
+        object = is ∙ sym (rw count at (object-is c rs h e q t.low t.target));
+        number = o;
+        count = k;
+        sets = k ∙ ap (λ (i : ℕ). get_or cs i 0) is ∙ rw count at t.count;
+        room = few;
         conflicts = marks ∙ ap (plain_marks e) (rw count at t.sets);
         limited =
             limits
             ∙ told (any is_limited (sets_on e.tsite e.tseq (edits_of rs n))) (get_or hs (limit_at r.object) 0)
-            (ap (λ (i : ℕ). get_or hs (limit_at i) 0) (o ∙ t.number) ∙ rw count at t.limits);
+            (ap (λ (i : ℕ). get_or hs (limit_at i) 0) is ∙ rw count at t.limits);
       }
+
+-- ---- a record that is not limited, nor another Set of its object
+
+pub fit_of :
+    (sites n m : ℕ) (rs ps ns cs : List ℕ) (e : Edit) (r : Looked) → PassedOf sites n m rs ps ns cs e r →
+    is_limited e ≡ false → r.limited ≡ false → FitOf sites n m rs ps ns cs e r
+fit_of sites n m rs ps ns cs e r p plain none =
+    record {
+      plain = plain;
+      pass = p.pass;
+      create-room = p.create-room;
+      set =
+          λ k. let x = p.set k in
+          record {
+            object = x.object;
+            number = x.number;
+            count = x.count;
+            sets = x.sets;
+            room = x.room;
+            conflicts = x.conflicts;
+            unlimited = sym x.limited ∙ none;
+          };
+    }

@@ -27,7 +27,7 @@ module _ (rs ts : List ℕ) (n : ℕ) (same : (p : ℕ) → p < n → record_at 
   on_same : (p q : ℕ) → p < n → q < n → is_on rs p q ≡ is_on ts p q
   on_same p q l k = ap₂ (λ (a e : Edit). is_set_on a.site a.seq e) (same p l) (same q k)
 
-  pub places-before : (p m : ℕ) → p < n → m ≤ n → places_on rs m p ≡ places_on ts m p
+  places-before : (p m : ℕ) → p < n → m ≤ n → places_on rs m p ≡ places_on ts m p
   unfolding places_on
   places-before p m l k = keep_same m (is_on rs p) (is_on ts p) (λ q j. on_same p q l (omega arith))
 
@@ -46,12 +46,20 @@ module _ (rs ts : List ℕ) (n : ℕ) (same : (p : ℕ) → p < n → record_at 
       ∙ ap₂ (λ (a : Edit) (es : List Edit). sets_on a.site a.seq es) (same p l) (edits-same rs ts n same)
       ∙ sym (places-sets ts p n))
 
-  pub index_same : (ps hs : List ℕ) → IndexOf rs n ps hs → IndexOf ts n ps hs
-  index_same ps hs x =
+  pub index_same : (ps ns cs hs : List ℕ) → IndexOf rs n ps ns cs hs → IndexOf ts n ps ns cs hs
+  index_same ps ns cs hs x =
       let z = x.chained in
       record {
         places-long = x.places-long;
+        numbers-long = x.numbers-long;
+        counts-long = x.counts-long;
         indexed = λ p l. ap (λ (e : Edit). place_of ps e.site.0 e.seq.0) (sym (same p l)) ∙ x.indexed p l;
+        numbered = λ p l c. x.numbered p l (was p l c) ∙ number_same p (omega arith);
+        counted = λ p l c.
+            ap (λ (o : ℕ). get_or cs o 0) (sym (number_same p (omega arith)))
+            ∙ x.counted p l (was p l c)
+            ∙ ap length (places-before p n l (omega arith));
+        fresh = λ o l. x.fresh o (omega (arith, number_same n (omega arith)));
         chained = record {
           chains-long = z.chains-long;
           latest = λ p l c y k.
@@ -65,7 +73,6 @@ module _ (rs ts : List ℕ) (n : ℕ) (same : (p : ℕ) → p < n → record_at 
           ranked = λ p q l c k on.
               z.ranked p q l (was p l c) k (on_same p q l k ∙ on)
               ∙ ap length (places-before p q l (omega arith));
-          numbered = λ p l c. z.numbered p l (was p l c) ∙ number_same p (omega arith);
           limited = λ p l c.
               ap (λ (o : ℕ). get_or hs (limit_at o) 0) (sym (number_same p (omega arith)))
               ∙ z.limited p l (was p l c)

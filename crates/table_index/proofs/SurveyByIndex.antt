@@ -26,8 +26,8 @@ use Rattle.edit_history.proofs.RecordsPassed.{InTurn, one_place}
 use Rattle.edit_walk.proofs.LatestDecides.{target-same}
 use Rattle.edit_walk.proofs.NewsDecide.{turn-against}
 use Rattle.table_drawing.specs.declared.Counters.{Counters}
-use Rattle.table_index.specs.IndexForms.{number_at, places_on, limit_at, rank_at, limited_on, IndexOf, Holds}
-use Rattle.table_index.proofs.PlacesOfSets.{places-sets}
+use Rattle.table_index.specs.IndexForms.{number_at, places_on, limit_at, limited_on, IndexOf, Holds}
+use Rattle.table_index.proofs.PlacesOfSets.{places-sets, places-length}
 
 module _ (c : Counters) (rs : List ℕ) (h : Holds c rs) where
   abbrev n : ℕ
@@ -151,8 +151,8 @@ module _
     (c : Counters)
     (rs : List ℕ)
     (h : Holds c rs)
-    (ps hs : List ℕ)
-    (x : IndexOf rs c.records ps hs) where
+    (ps ns cs hs : List ℕ)
+    (x : IndexOf rs c.records ps ns cs hs) where
   abbrev edits : List Edit
   edits = edits_of rs c.records
 
@@ -160,8 +160,8 @@ module _
   pub record Aimed (e : Edit) (q : ℕ) : Type 0 where
     pub low : q < c.records
     pub target : is_target e (record_at rs q) ≡ true
-    pub number : get_or hs (rank_at q) 0 ≡ number_at rs q
-    pub object : get_or hs (rank_at q) 0 ≡ object_of e edits
+    pub number : get_or ns q 0 ≡ number_at rs q
+    pub count : get_or cs (number_at rs q) 0 ≡ length (sets_on e.tsite e.tseq edits)
     pub sets : map (record_at rs) (places_on rs c.records q) ≡ sets_on e.tsite e.tseq edits
     pub limits :
         get_or hs (limit_at (number_at rs q)) 0 ≡ cond (any is_limited (sets_on e.tsite e.tseq edits)) 1 0
@@ -176,12 +176,11 @@ module _
         (same-seq (record_at rs q).seq e.tseq parts.seq) in
         let all : map (record_at rs) (places_on rs c.records q) ≡ sets_on e.tsite e.tseq edits
         = places-sets rs q c.records ∙ same in
-        let number = x.chained.numbered q l parts.create in
         record {
           low = l;
           target = t;
-          number = number;
-          object = number ∙ sym (object-is c rs h e q l t);
+          number = x.numbered q l parts.create;
+          count = x.counted q l parts.create ∙ places-length rs q c.records ∙ ap length same;
           sets = all;
           limits =
               x.chained.limited q l parts.create

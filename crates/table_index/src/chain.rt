@@ -1,29 +1,27 @@
 // The chains of an object's Sets, one for each key, from the latest Set back: how a Set comes into its chain, and which
 // Sets of a chain are in conflict with one that arrives.
-ghost use Rattle.std.specs.Prelude.{◌≡◌, true, cond, ◌+◌, ◌*◌, ◌^◌, ◌≤◌, ◌<◌, eqb, length};
+ghost use Rattle.std.specs.Prelude.{◌≡◌, true, cond, ◌+◌, ◌*◌, ◌^◌, ◌≤◌, ◌<◌, eqb, length, get_or};
 ghost use Rattle.edit_record.specs.Layout.{keys, limited_kind, record_length, place_length};
 ghost use Rattle.edit_record.specs.RecordBytes.{decode_of};
 ghost use Rattle.edit_record.specs.Answer1.{is_set};
 ghost use Rattle.edit_history.specs.EditsHeld.{most_records, record_at};
-ghost use Rattle.group_step.specs.GroupRows.{most_objects, most_sets};
+ghost use Rattle.group_step.specs.GroupRows.{most_objects};
 ghost use Rattle.table_drawing.specs.declared.Counters.{Counters};
-ghost use Rattle.table_index.specs.IndexForms.{chains_length, ChainsOf, Holds};
-ghost use Rattle.table_index.specs.IndexForms.{ranked_in, linked_in, Arriving, unseen_other, marks_on};
+ghost use Rattle.table_index.specs.IndexForms.{number_at, chains_length, ChainsOf, Holds};
+ghost use Rattle.table_index.specs.IndexForms.{linked_in, Arriving, unseen_other, marks_on};
 
 use edit_history::RECORDS;
-use edit_record::{AT_KEY, AT_SEQ, AT_SITE, KEYS, LIMITED, PLACE};
+use edit_record::{AT_KEY, AT_KIND, AT_SEQ, AT_SITE, KEYS, LIMITED, PLACE};
 use group_step::OBJECTS;
 
 // The chains have the place of the latest Set of each object and key; then, from here on, for each Set the place of the
-// one before it in its chain; then for each object whether a Set of it is limited; and last the rank of each Create
-// among the Creates, and of each Set among those of its object. 0 is no Set: the first record is a Create.
+// one before it in its chain; and then for each object whether a Set of it is limited. 0 is none: the first record is a
+// Create.
 pub const LINKS: usize = OBJECTS * KEYS as usize;
 
 pub const LIMITS: usize = LINKS + RECORDS;
 
-pub const RANKS: usize = LIMITS + OBJECTS;
-
-pub const CHAINS: usize = RANKS + RECORDS;
+pub const CHAINS: usize = LIMITS + OBJECTS;
 
 // What the chains say of an object's limits after a Set of this kind, where they said so before.
 fn limit_after(kind: u8, before: u8) -> u8
@@ -35,16 +33,14 @@ fn limit_after(kind: u8, before: u8) -> u8
     before
 }
 
-// Puts the Set in place p, the k-th of object o and of this kind and key, at the head of its chain.
-pub fn link_set(p: usize, o: usize, k: usize, kind: u8, key: u8, chains: &mut [u8])
+// Puts the Set in place p, of this kind and key, at the head of its chain of object o.
+pub fn link_set(p: usize, o: usize, kind: u8, key: u8, chains: &mut [u8])
     requires { (p < most_records)
         × (o < most_objects)
-        × (k < most_sets)
         × (key < keys)
         × (length chains.old ≡ chains_length) }
-    ensures { chains.new ≡ linked_in (ranked_in chains.old p k) p o kind key }
+    ensures { chains.new ≡ linked_in chains.old p o kind key }
 {
-    chains[RANKS + p] = k as u8;
     let at = o * KEYS as usize + key as usize;
     chains[LINKS + p] = chains[at];
     chains[at] = p as u8;
@@ -83,24 +79,49 @@ fn is_unseen_at(recs: &[u8], p: usize, rec: &[u8], x: u32) -> bool
 
 // Those of the Sets on the Create in place q, among the first n records, that are in conflict with an arriving Set on
 // it by document 01's rule: they are along the chain of its key.
-pub fn marks_along(recs: &[u8], n: usize, chains: &[u8], q: usize, rec: &[u8]) -> u64
+pub fn marks_along(
+    recs: &[u8],
+    n: usize,
+    numbers: &[u8],
+    chains: &[u8],
+    q: usize,
+    rec: &[u8],
+) -> u64
     requires { ((c : Counters) × Holds c recs.now × (c.records ≡ n) × Arriving c recs.now q (decode_of rec.now))
         × (most_records * place_length ≤ length recs.now)
-        × ChainsOf recs.now n chains.now
+        × ChainsOf recs.now n numbers.now chains.now
+        × (length numbers.now ≡ most_records)
+        × (get_or numbers.now q 0 ≡ number_at recs.now q)
         × (record_length ≤ length rec.now)
         × (is_set (decode_of rec.now) ≡ true) }
     ensures { result ≡ marks_on recs.now n q (decode_of rec.now) }
 {
     let key = edit_record::byte_at(rec, AT_KEY);
     let x = edit_causal::shown(key, edit_record::value_of(rec));
-    let o = edit_record::byte_at(chains, RANKS + q) as usize;
+    let o = edit_record::byte_at(numbers, q) as usize;
     let mut marks: u64 = 0;
     let mut p = edit_record::byte_at(chains, o * KEYS as usize + key as usize) as usize;
     while 0 < p {
         let b = is_unseen_at(recs, p, rec, x);
-        let k = edit_record::byte_at(chains, RANKS + p) as usize;
+        let k = edit_record::byte_at(numbers, p) as usize;
         marks = marked_with(b, marks, k);
         p = edit_record::byte_at(chains, LINKS + p) as usize;
     }
     marks
+}
+
+// The same for an edit on it that may be no Set: that is in conflict with none.
+pub fn marks_for(recs: &[u8], n: usize, numbers: &[u8], chains: &[u8], q: usize, rec: &[u8]) -> u64
+    requires { ((c : Counters) × Holds c recs.now × (c.records ≡ n) × Arriving c recs.now q (decode_of rec.now))
+        × (most_records * place_length ≤ length recs.now)
+        × ChainsOf recs.now n numbers.now chains.now
+        × (length numbers.now ≡ most_records)
+        × (get_or numbers.now q 0 ≡ number_at recs.now q)
+        × (record_length ≤ length rec.now) }
+    ensures { result ≡ marks_on recs.now n q (decode_of rec.now) }
+{
+    if !edit_record::is_set_kind(rec[AT_KIND]) {
+        return 0;
+    }
+    marks_along(recs, n, numbers, chains, q, rec)
 }

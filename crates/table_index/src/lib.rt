@@ -1,20 +1,26 @@
-// The index of a drawing's records: where each edit stands, the number of each Create's object, and for each object a
-// chain of its Sets of each key. By it a record is looked at without being held against every one before it: a Set is
-// held against those of its own key alone, from the latest one back.
+// The index of a drawing's records: where each edit stands, the number of each Create's object, and for each object how
+// many Sets it has and a chain of those of each key. By it an arriving edit is surveyed without being held against
+// every record: a Set is held against those of its own key alone, from the latest one back.
 pub mod chain;
 pub mod plain;
 
-ghost use Rattle.std.specs.Prelude.{◌≡◌, true, ◌≤◌, length};
+ghost use Rattle.std.specs.Prelude.{◌≡◌, true, ◌+◌, ◌*◌, ◌≤◌, ◌<◌, length, get_or, set, replicate};
 ghost use Rattle.math_lists.specs.SortedLists.{any};
-ghost use Rattle.edit_record.specs.Layout.{most_sites, record_length};
+ghost use Rattle.edit_record.specs.Layout.{most_sites, keys, record_length, place_length};
 ghost use Rattle.edit_record.specs.RecordBytes.{decode_of};
-ghost use Rattle.edit_history.specs.EditsHeld.{edits_of, is_target};
+ghost use Rattle.edit_history.specs.EditsHeld.{most_records, edits_of, is_target};
 ghost use Rattle.edit_history.specs.Answers2to5.{is_torn};
-ghost use Rattle.edit_walk.specs.WalkForms.{places_length, Indexed, in_turn_against};
+ghost use Rattle.edit_history.specs.SurveyForms.{survey_of, SurveyedOf};
+ghost use Rattle.edit_walk.specs.WalkForms.{places_length, Spaced, SameStarts, count_in, Indexed, in_turn_against};
+ghost use Rattle.group_step.specs.GroupRows.{most_objects, most_sets};
 ghost use Rattle.table_drawing.specs.declared.Counters.{Counters};
-ghost use Rattle.table_index.specs.IndexForms.{Holds};
+ghost use Rattle.table_index.specs.IndexForms.{number_at, chains_length, IndexOf, Holds};
+ghost use Rattle.table_index.specs.IndexForms.{linked_in};
 
+use edit_history::Surveyed;
+use edit_record::{AT_KEY, AT_TARGET, AT_TARGET_SEQ, CREATE, PLACE, Seq, Site};
 use table_drawing::Counters;
+use table_drawing::entries::at16;
 
 // Whether 4 is given to an edit, and whether its target is held and was seen.
 #[derive(Drop)]
@@ -24,7 +30,8 @@ pub struct Aim {
 }
 
 // Whether none of 1 to 6 is given to a record, as far as it is looked at; and of a Set whether a Set of its object is
-// limited, the number of its object, how many Sets that has, and which of them conflict with it, bit i for the i-th.
+// limited, the number of its object, how many Sets that has, and which of them conflict with it by document 01's rule,
+// bit i for the i-th.
 #[derive(Drop)]
 pub struct Looked {
     pub ok: bool,
@@ -34,17 +41,129 @@ pub struct Looked {
     pub conflicts: u64,
 }
 
-// Makes the index of the places of the first n records.
-pub fn build(recs: &[u8], n: usize, places: &mut [u16])
-    requires { ((c : Counters) × Holds c recs.now × (n ≡ c.records)) × (length places.old ≡ places_length) }
-    ensures { Indexed recs.now n places.new }
+// Puts the Set in place p, of this kind and key, into its chain of object o, and counts it.
+pub fn add_set(
+    p: usize,
+    o: usize,
+    kind: u8,
+    key: u8,
+    numbers: &mut [u8],
+    counts: &mut [u16],
+    chains: &mut [u8],
+)
+    requires { (p < most_records)
+        × (o < most_objects)
+        × (key < keys)
+        × (length numbers.old ≡ most_records)
+        × (length counts.old ≡ most_objects)
+        × (length chains.old ≡ chains_length)
+        × (get_or counts.old o 0 < most_sets) }
+    ensures { (numbers.new ≡ set numbers.old p (get_or counts.old o 0))
+        × (counts.new ≡ set counts.old o (get_or counts.old o 0 + 1))
+        × (chains.new ≡ linked_in chains.old p o kind key) }
+{
+    let k = counts[o];
+    numbers[p] = k as u8;
+    counts[o] = k + 1;
+    chain::link_set(p, o, kind, key, chains);
+}
+
+// Puts the record in place p into the index of those before it, of which m are Creates, and which has room for it; says
+// how many are then. A layer edit has its place alone: it counts for no object.
+pub fn add(
+    recs: &[u8],
+    p: usize,
+    m: u16,
+    places: &mut [u16],
+    numbers: &mut [u8],
+    counts: &mut [u16],
+    chains: &mut [u8],
+) -> u16
+    requires { ((c : Counters) × Holds c recs.now × (p < c.records))
+        × IndexOf recs.now p places.old numbers.old counts.old chains.old
+        × (m ≡ number_at recs.now p)
+        × Spaced (count_in recs.now (p + 1)) places.old }
+    ensures { IndexOf recs.now (p + 1) places.new numbers.new
+        counts.new chains.new
+        × (result ≡ number_at recs.now (p + 1))
+        × SameStarts places.old places.new }
+{
+    let at = edit_walk::spot(recs, places, p);
+    places[at] = p as u16;
+    let kind = edit_history::kind_at(recs, p);
+    if kind == CREATE {
+        numbers[p] = m as u8;
+        return m + 1;
+    }
+    if !edit_record::is_set_kind(kind) {
+        return m;
+    }
+    let q = edit_walk::target_place(recs, places, p);
+    let o = numbers[q as usize];
+    let key = edit_record::byte_at(recs, p * PLACE + AT_KEY);
+    add_set(p, o as usize, kind, key, numbers, counts, chains);
+    m
+}
+
+// Makes the index of the first n records.
+pub fn build(
+    recs: &[u8],
+    n: usize,
+    places: &mut [u16],
+    numbers: &mut [u8],
+    counts: &mut [u16],
+    chains: &mut [u8],
+)
+    requires { ((c : Counters) × Holds c recs.now × (n ≡ c.records))
+        × (length places.old ≡ places_length)
+        × (length numbers.old ≡ most_records)
+        × (counts.old ≡ replicate most_objects 0)
+        × (chains.old ≡ replicate chains_length 0) }
+    ensures { IndexOf recs.now n places.new numbers.new
+        counts.new chains.new }
 {
     edit_walk::start_places(recs, n, places);
+    let mut m: u16 = 0;
     let mut i: usize = 0;
     while i < n {
-        let at = edit_walk::spot(recs, places, i);
-        places[at] = i as u16;
+        m = add(recs, i, m, places, numbers, counts, chains);
         i += 1;
+    }
+}
+
+// All that an arriving edit asks of the records held, where its target is held.
+fn survey_held(
+    c: Counters,
+    recs: &[u8],
+    places: &[u16],
+    numbers: &[u8],
+    counts: &[u16],
+    chains: &[u8],
+    rec: &[u8],
+    torn: bool,
+) -> Surveyed
+    requires { Holds c recs.now
+        × (most_records * place_length ≤ length recs.now)
+        × IndexOf recs.now c.records places.now numbers.now counts.now chains.now
+        × (record_length ≤ length rec.now)
+        × (in_turn_against c.sites c.held (decode_of rec.now) ≡ true)
+        × (any (is_target (decode_of rec.now)) (edits_of recs.now c.records) ≡ true) }
+    ensures { torn ≡ is_torn (edits_of recs.now c.records) (decode_of rec.now) →
+        result ≡ survey_of (edits_of recs.now c.records) (decode_of rec.now) }
+{
+    let seq = edit_record::pair_at(rec, AT_TARGET_SEQ);
+    let q = edit_walk::place_at(places, Site(rec[AT_TARGET]), Seq(seq)) as usize;
+    let object = edit_record::byte_at(numbers, q) as usize;
+    let sets = at16(counts, object) as usize;
+    let plain = chain::marks_for(recs, c.records as usize, numbers, chains, q, rec);
+    let limited = edit_record::byte_at(chains, chain::LIMITS + object) != 0;
+    Surveyed {
+        torn,
+        found: true,
+        object,
+        sets,
+        plain,
+        limited,
     }
 }
 
@@ -63,4 +182,29 @@ pub fn aim_of(c: Counters, recs: &[u8], places: &[u16], rec: &[u8]) -> Aim
     let torn = edit_next::is_torn_next(&counts, recs, places, c.records as usize, rec);
     let held = edit_walk::is_target_held(&counts, recs, places, rec);
     Aim { torn, held }
+}
+
+// All that an arriving edit to which none of 1 to 3 is given asks of the records held, by the index.
+pub fn survey(
+    c: Counters,
+    recs: &[u8],
+    places: &[u16],
+    numbers: &[u8],
+    counts: &[u16],
+    chains: &[u8],
+    rec: &[u8],
+) -> Surveyed
+    requires { Holds c recs.now
+        × (most_records * place_length ≤ length recs.now)
+        × IndexOf recs.now c.records places.now numbers.now counts.now chains.now
+        × (record_length ≤ length rec.now)
+        × (in_turn_against c.sites c.held (decode_of rec.now) ≡ true)
+        × (length c.held ≡ most_sites) }
+    ensures { SurveyedOf (edits_of recs.now c.records) (decode_of rec.now) result }
+{
+    let a = aim_of(c, recs, places, rec);
+    if !a.held {
+        return edit_history::none_found(a.torn);
+    }
+    survey_held(c, recs, places, numbers, counts, chains, rec, a.torn)
 }

@@ -1,6 +1,6 @@
 // What a record is asked, by the index, before it is taken: all of it in one look, where it is to be taken, and else no
 // more than that.
-ghost use Rattle.std.specs.Prelude.{◌≡◌, true, false, ◌*◌, ◌≤◌, length};
+ghost use Rattle.std.specs.Prelude.{◌≡◌, true, false, ◌*◌, ◌≤◌, length, get_or};
 ghost use Rattle.math_lists.specs.SortedLists.{any};
 ghost use Rattle.edit_record.specs.Layout.{most_sites, record_length, place_length};
 ghost use Rattle.edit_record.specs.RecordBytes.{decode_of};
@@ -8,14 +8,13 @@ ghost use Rattle.edit_record.specs.Answer1.{is_set};
 ghost use Rattle.edit_history.specs.EditsHeld.{most_records, edits_of, is_target};
 ghost use Rattle.edit_walk.specs.WalkForms.{in_turn_against, sees_all};
 ghost use Rattle.table_drawing.specs.declared.Counters.{Counters};
-ghost use Rattle.table_index.specs.IndexForms.{ChainsOf, IndexOf, Holds, Arriving, marks_on};
-ghost use Rattle.table_index.specs.IndexForms.{counters_of, CountedIn, MetOf, PassedOf, RefusedOf};
+ghost use Rattle.table_index.specs.IndexForms.{IndexOf, Holds, counters_of, MetOf, PassedOf};
+ghost use Rattle.table_index.specs.IndexForms.{number_at, ChainsOf, Arriving, marks_on};
 
 use super::{Looked, chain};
 use edit_next::whole;
 use edit_record::{AT_KIND, AT_TARGET, AT_TARGET_SEQ, CREATE, Seq, Site, byte_at};
 use group_step::{OBJECTS, SETS};
-use table_drawing::ENTRY;
 use table_drawing::entries::at16;
 
 // What is found of a record that is no Set.
@@ -33,11 +32,21 @@ fn no_set(ok: bool) -> Looked
 
 // Those of the Sets on the Create in place q, among the first n records, that are in conflict with an arriving Set on
 // it by document 01's rule, where it is known of some that they have seen all of these: they are in conflict with none.
-fn marks_unless(all: bool, recs: &[u8], n: usize, chains: &[u8], q: usize, rec: &[u8]) -> u64
+fn marks_unless(
+    all: bool,
+    recs: &[u8],
+    n: usize,
+    numbers: &[u8],
+    chains: &[u8],
+    q: usize,
+    rec: &[u8],
+) -> u64
     requires { ((c : Counters) × Holds c recs.now × (c.records ≡ n) × Arriving c recs.now q (decode_of rec.now)
         × (all ≡ true → sees_all c.held (decode_of rec.now) ≡ true))
         × (most_records * place_length ≤ length recs.now)
-        × ChainsOf recs.now n chains.now
+        × ChainsOf recs.now n numbers.now chains.now
+        × (length numbers.now ≡ most_records)
+        × (get_or numbers.now q 0 ≡ number_at recs.now q)
         × (record_length ≤ length rec.now)
         × (is_set (decode_of rec.now) ≡ true) }
     ensures { result ≡ marks_on recs.now n q (decode_of rec.now) }
@@ -45,16 +54,18 @@ fn marks_unless(all: bool, recs: &[u8], n: usize, chains: &[u8], q: usize, rec: 
     if all {
         return 0;
     }
-    chain::marks_along(recs, n, chains, q, rec)
+    chain::marks_along(recs, n, numbers, chains, q, rec)
 }
 
-// What is found of a Set that passes 1 to 5, where it is known of some that they have seen all of the first n records.
+// What is found of a Set that passes 1 to 5, where it is known of some that they have seen all of
+// the first n records.
 fn look_at_set(
     all: bool,
     recs: &[u8],
-    objects: &[u16],
     n: usize,
     places: &[u16],
+    numbers: &[u8],
+    counts: &[u16],
     chains: &[u8],
     rec: &[u8],
 ) -> Looked
@@ -62,19 +73,19 @@ fn look_at_set(
         × (in_turn_against c.sites c.held (decode_of rec.now) ≡ true)
         × (all ≡ true → sees_all c.held (decode_of rec.now) ≡ true))
         × (most_records * place_length ≤ length recs.now)
-        × IndexOf recs.now n places.now chains.now
-        × CountedIn objects.now recs.now n (decode_of rec.now)
+        × IndexOf recs.now n places.now numbers.now counts.now chains.now
         × (record_length ≤ length rec.now)
         × (is_set (decode_of rec.now) ≡ true)
         × (any (is_target (decode_of rec.now)) (edits_of recs.now n) ≡ true) }
-    ensures { MetOf recs.now n (decode_of rec.now) result }
+    ensures { result.ok ≡ true → MetOf recs.now n places.now numbers.now
+        counts.now (decode_of rec.now) result }
 {
     let seq = edit_record::pair_at(rec, AT_TARGET_SEQ);
     let q = edit_walk::place_at(places, Site(rec[AT_TARGET]), Seq(seq)) as usize;
-    let object = byte_at(chains, chain::RANKS + q) as usize;
-    let sets = at16(objects, object * ENTRY + 1) as usize;
+    let object = byte_at(numbers, q) as usize;
+    let sets = at16(counts, object) as usize;
     let limits = byte_at(chains, chain::LIMITS + object);
-    let conflicts = marks_unless(all, recs, n, chains, q, rec);
+    let conflicts = marks_unless(all, recs, n, numbers, chains, q, rec);
     Looked {
         ok: sets < SETS,
         limited: limits != 0,
@@ -89,21 +100,21 @@ pub fn look(
     sites: u8,
     held: &[u16],
     recs: &[u8],
-    objects: &[u16],
     n: usize,
     m: u16,
     places: &[u16],
+    numbers: &[u8],
+    counts: &[u16],
     chains: &[u8],
     rec: &[u8],
 ) -> Looked
     requires { Holds (counters_of sites n m held.now 0) recs.now
         × (most_records * place_length ≤ length recs.now)
-        × IndexOf recs.now n places.now chains.now
-        × CountedIn objects.now recs.now n (decode_of rec.now)
+        × IndexOf recs.now n places.now numbers.now counts.now chains.now
         × (record_length ≤ length rec.now)
         × (length held.now ≡ most_sites) }
-    ensures { (result.ok ≡ true → PassedOf sites n m recs.now (decode_of rec.now) result)
-        × (result.ok ≡ false → RefusedOf sites n m recs.now (decode_of rec.now)) }
+    ensures { result.ok ≡ true → PassedOf sites n m recs.now places.now numbers.now
+        counts.now (decode_of rec.now) result }
 {
     let kind = rec[AT_KIND];
     let all = whole::is_all_seen(held, recs, n, rec);
@@ -111,7 +122,7 @@ pub fn look(
         return no_set(false);
     }
     if edit_record::is_set_kind(kind) {
-        return look_at_set(all, recs, objects, n, places, chains, rec);
+        return look_at_set(all, recs, n, places, numbers, counts, chains, rec);
     }
     no_set((kind != CREATE) | ((m as usize) < OBJECTS))
 }

@@ -4,8 +4,8 @@
 use mathlib.Core.Path.{◌≡◌, refl, sym, ap, subst, ◌∙◌}
 use mathlib.Core.Logic.{inl, inr}
 use mathlib.Core.Bool.{Bool, true, false, cond}
-use mathlib.Core.List.{List, [], ◌∷◌, map}
-use Prim.Native.Nat.{ℕ, zero, suc, ◌≤◌, ◌<◌}
+use mathlib.Core.List.{List, [], ◌∷◌, ◌++◌, map}
+use Prim.Native.Nat.{ℕ, zero, suc, ◌+◌, ◌≤◌, ◌<◌}
 use native.Mathlib.Omega.{arith}
 use native.Mathlib.Decide.{ℕ_discrete, dec_lt}
 use lib.Dec.{eqb}
@@ -121,8 +121,7 @@ module _ (rs : List ℕ) (q : ℕ) where
           ∙ h.put x l on key (later x w on key from)
     ];
     others = λ x l on key.
-        get_or-set_other ps (number_on rs q p) (number_on rs q x) p 0 (rank-apart x p on d.on (λ z. key (rw z
-        d.key)))
+        get_or-set_other ps (number_on rs q p) (number_on rs q x) p 0 (rank-apart x p on d.on (λ z. key (rw z d.key)))
         ∙ h.others x l on key;
   }
     where
@@ -177,34 +176,35 @@ module _ (rs : List ℕ) (q : ℕ) where
 -- ---- the chains of the box that an edit targets
 
 pub target-chains :
-    (rs : List ℕ) (n : ℕ) (ps hs : List ℕ) → IndexedIn rs n ps hs → (e : Edit) →
+    (rs : List ℕ) (n : ℕ) (ps ns hs : List ℕ) → IndexedIn rs n ps ns hs → (e : Edit) →
     any (is_target e) (edits_of rs n) ≡ true →
     let q = place_of ps e.tsite.0 e.tseq.0 in
-    ChainsOn rs n hs q × (map (record_at rs) (places_on rs n q) ≡ sets_on e.tsite e.tseq (edits_of rs n))
-target-chains rs n ps hs x e held =
+    ChainsOn rs n ns hs q × (map (record_at rs) (places_on rs n q) ≡ sets_on e.tsite e.tseq (edits_of rs n))
+target-chains rs n ps ns hs x e held =
     let c = x.counters in
     let h = x.holds in
     subst
-    (λ (k : ℕ). IndexOf rs k ps hs → any (is_target e) (edits_of rs k) ≡ true →
-    ChainsOn rs k hs (place_of ps e.tsite.0 e.tseq.0)
+    (λ (k : ℕ). IndexOf rs k ps ns x.counts hs → any (is_target e) (edits_of rs k) ≡ true →
+    ChainsOn rs k ns hs (place_of ps e.tsite.0 e.tseq.0)
     × (map (record_at rs) (places_on rs k (place_of ps e.tsite.0 e.tseq.0))
     ≡ sets_on e.tsite e.tseq (edits_of rs k)))
-    x.all (counted-chains rs c h ps hs e) x.index held
+    x.all (counted-chains rs c h ps ns x.counts hs e) x.index held
   where
     counted-chains :
-        (rs : List ℕ) (c : Counters) (h : Holds c rs) (ps hs : List ℕ) (e : Edit) →
-        IndexOf rs c.records ps hs → any (is_target e) (edits_of rs c.records) ≡ true →
-        ChainsOn rs c.records hs (place_of ps e.tsite.0 e.tseq.0)
+        (rs : List ℕ) (c : Counters) (h : Holds c rs) (ps ns cs hs : List ℕ) (e : Edit) →
+        IndexOf rs c.records ps ns cs hs → any (is_target e) (edits_of rs c.records) ≡ true →
+        ChainsOn rs c.records ns hs (place_of ps e.tsite.0 e.tseq.0)
         × (map (record_at rs) (places_on rs c.records (place_of ps e.tsite.0 e.tseq.0))
         ≡ sets_on e.tsite e.tseq (edits_of rs c.records))
-    counted-chains rs c h ps hs e ix held =
+    counted-chains rs c h ps ns cs hs e ix held =
         let q = place_of ps e.tsite.0 e.tseq.0 in
-        let t = aimed c rs h ps hs ix e held in (
+        let t = aimed c rs h ps ns cs hs ix e held in (
           record {
             low = t.low;
             few = h.few-records;
             create = (target-parts e (record_at rs q) t.target).create;
             chained = ix.chained;
+            number = t.number;
             first =
                 off (is_on rs q 0) (λ on. omega (
                   arith,

@@ -49,11 +49,12 @@ fn put_anew(
     names: &mut [u32],
     recs: &[u8],
     n: usize,
+    numbers: &[u8],
     chains: &[u8],
     q: usize,
     k: usize,
 )
-    requires { ChainsOn recs.now n chains.now q
+    requires { ChainsOn recs.now n numbers.now chains.now q
         × (k ≡ length (places_on recs.now n q))
         × (length names.old ≡ kept_length)
         × (length rows.old ≡ rows_length) }
@@ -62,7 +63,7 @@ fn put_anew(
 {
     // what work space holds at first does not matter; zeros would be set by memset (docs/DECISIONS.md, 24)
     let mut spots = [1u16; SETS];
-    chained::put_chains(&mut spots, recs, n, chains, q);
+    chained::put_chains(&mut spots, recs, n, numbers, chains, q);
     put_names(names, recs, &spots, k);
     group_kept::put_rows(rows, recs, &spots, names, k);
 }
@@ -75,11 +76,12 @@ fn make_ready(
     recs: &[u8],
     n: usize,
     places: &[u16],
+    numbers: &[u8],
     chains: &[u8],
     rec: &[u8],
     k: usize,
 )
-    requires { IndexedIn recs.now n places.now chains.now
+    requires { IndexedIn recs.now n places.now numbers.now chains.now
         × (any (is_target (decode_of rec.now)) (edits_of recs.now n) ≡ true)
         × (k ≡ length (sets_on (decode_of rec.now).tsite (decode_of rec.now).tseq (edits_of recs.now n)))
         × KeptFor (edits_of recs.now n) names.old rows.old }
@@ -92,7 +94,7 @@ fn make_ready(
     let q = Seq(edit_record::two_at(rec, AT_TARGET_SEQ));
     if !is_kept(names, s, q, k as u32) {
         let at = edit_walk::place_at(places, s, q) as usize;
-        put_anew(rows, names, recs, n, chains, at, k);
+        put_anew(rows, names, recs, n, numbers, chains, at, k);
     }
 }
 
@@ -133,11 +135,12 @@ fn judge_by_rows(
     recs: &[u8],
     n: usize,
     places: &[u16],
+    numbers: &[u8],
     chains: &[u8],
     rec: &[u8],
     v: Surveyed,
 ) -> Judged
-    requires { IndexedIn recs.now n places.now chains.now
+    requires { IndexedIn recs.now n places.now numbers.now chains.now
         × SurveyedOf (edits_of recs.now n) (decode_of rec.now) v
         × (v.found ≡ true)
         × KeptFor (edits_of recs.now n) names.old rows.old }
@@ -149,7 +152,7 @@ fn judge_by_rows(
         rows.new }
 {
     let k = v.sets;
-    make_ready(rows, names, recs, n, places, chains, rec, k);
+    make_ready(rows, names, recs, n, places, numbers, chains, rec, k);
     let j = group_kept::judge(rows, names, k, rec, v.plain);
     let told = told_after(k, edit_record::byte_at(rec, AT_KIND));
     put_box(names, rec, told);
@@ -165,11 +168,12 @@ pub fn judge(
     recs: &[u8],
     n: usize,
     places: &[u16],
+    numbers: &[u8],
     chains: &[u8],
     rec: &[u8],
     v: Surveyed,
 ) -> Judged
-    requires { IndexedIn recs.now n places.now chains.now
+    requires { IndexedIn recs.now n places.now numbers.now chains.now
         × SurveyedOf (edits_of recs.now n) (decode_of rec.now) v
         × KeptFor (edits_of recs.now n) names.old rows.old }
     ensures { JudgedWhere v.found
@@ -186,5 +190,5 @@ pub fn judge(
             conflicts: v.plain,
         };
     }
-    judge_by_rows(rows, names, recs, n, places, chains, rec, v)
+    judge_by_rows(rows, names, recs, n, places, numbers, chains, rec, v)
 }

@@ -1,1 +1,1 @@
-pub mod ShortWay
+mod LimitedTaken

@@ -2,35 +2,41 @@
 // Set: the short way (`short`), or the long one, which says why it is refused.
 pub mod short;
 
-ghost use Rattle.std.specs.Prelude.{◌≡◌};
+ghost use Rattle.std.specs.Prelude.{[], ◌∷◌, ◌++◌};
+ghost use Rattle.edit_record.specs.RecordBytes.{decode_of};
 ghost use Rattle.edit_history.specs.EditsHeld.{edits_of};
 ghost use Rattle.table_drawing.specs.Tables.{tables_of};
-ghost use Rattle.table_drawing.specs.AnswerNumbers.{outcome_of, number_of};
-ghost use Rattle.table_arrival.specs.Arrival.{acceptance_of};
+ghost use Rattle.table_drawing.specs.AnswerNumbers.{number_of};
 ghost use Rattle.table_kept.specs.BoxForms.{KeptFor};
-ghost use Rattle.table_plain.specs.TakingForms.{Takes};
+ghost use Rattle.table_plain.specs.TakingForms.{Takes, Leaves};
 
 use table_arrival::{Arrived, asked};
 use table_drawing::Counters;
 
-// An arrival at tables that are sound, by the index of their records and by what is kept of a box with a limited Set.
+// Takes one record at tables that are sound, by the index of their records and by what is kept of a box with a limited
+// Set, and puts it into the index if it is taken. The index has room for it.
 pub fn take_next(
     c: Counters,
     records: &mut [u8],
     objects: &mut [u16],
     groups: &mut [u64],
-    places: &[u16],
-    chains: &[u8],
+    places: &mut [u16],
+    numbers: &mut [u8],
+    counts: &mut [u16],
+    chains: &mut [u8],
     rows: &mut [u64],
     names: &mut [u32],
     rec: &[u8],
 ) -> Arrived
-    requires { Takes (tables_of c records.old objects.old groups.old) places.now chains.now rec.now
+    requires { Takes (tables_of c records.old objects.old groups.old) places.old numbers.old counts.old
+        chains.old rec.now
         × KeptFor (edits_of records.old c.records) names.old rows.old }
-    ensures { outcome_of (number_of result.answer)
+    ensures { Leaves (tables_of c records.old objects.old groups.old)
+        rec.now (number_of result.answer)
         (tables_of result.counters records.new objects.new groups.new)
-        ≡ acceptance_of (tables_of c records.old objects.old groups.old)
-        rec.now }
+        places.old places.new numbers.new counts.new chains.new
+        × KeptFor (edits_of records.old c.records ++ (decode_of rec.now ∷ []))
+        names.new rows.new }
 {
     let early = asked::one_to_three(c, rec);
     if table_drawing::number(early) != 0 {
@@ -39,8 +45,30 @@ pub fn take_next(
             counters: c,
         };
     }
-    let v = asked::survey(c, records, places, rec);
-    let n = c.records as usize;
-    let j = table_kept::judge(rows, names, records, n, places, chains, rec, v);
-    table_arrival::accept(c, records, objects, groups, rec, v, j, true)
+    let v = table_index::survey(c, records, places, numbers, counts, chains, rec);
+    let j = table_kept::judge(
+        rows,
+        names,
+        records,
+        c.records as usize,
+        places,
+        numbers,
+        chains,
+        rec,
+        v,
+    );
+    let a = table_arrival::accept(c, records, objects, groups, rec, v, j, true);
+    let answer = a.answer;
+    if table_drawing::number(answer) == 0 {
+        table_index::add(
+            records,
+            c.records as usize,
+            c.objects,
+            places,
+            numbers,
+            counts,
+            chains,
+        );
+    }
+    a
 }

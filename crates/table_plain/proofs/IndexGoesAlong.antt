@@ -16,8 +16,8 @@ use Rattle.table_drawing.specs.Tables.{Tables}
 use Rattle.table_drawing.specs.AnswerNumbers.{Outcome, outcome_of}
 use Rattle.table_soundness.specs.Sound.{sound}
 use Rattle.table_soundness.proofs.SoundFacts.{sound-at, sound-on}
-use Rattle.table_index.specs.IndexForms.{number_at, places_on, IndexOf, Holds}
-use Rattle.table_index.proofs.SameEdits.{number_same, places-before, index_same}
+use Rattle.table_index.specs.IndexForms.{number_at, IndexOf, Holds}
+use Rattle.table_index.proofs.SameEdits.{number_same, index_same}
 use Rattle.table_arrival.specs.Arrival.{put_record, taken, acceptance_of}
 use Rattle.table_arrival.specs.Answers6and7.{answer_to}
 use Rattle.table_arrival.proofs.RecordsOneMore.{Room, put-before, put-edits}
@@ -79,15 +79,9 @@ module _
       holds t' is
 
   pub index_on :
-      (ps hs : List ℕ) → IndexOf t.records t.counters.records ps hs →
-      IndexOf t'.records t.counters.records ps hs
-  index_on ps hs x = index_same t.records t'.records t.counters.records stay ps hs x
-
-  pub places-on :
-      (q : ℕ) → q < t.counters.records →
-      places_on t.records t.counters.records q ≡ places_on t'.records t.counters.records q
-  places-on q l =
-      places-before t.records t'.records t.counters.records stay q t.counters.records l (omega arith)
+      (ps ns cs hs : List ℕ) → IndexOf t.records t.counters.records ps ns cs hs →
+      IndexOf t'.records t.counters.records ps ns cs hs
+  index_on ps ns cs hs x = index_same t.records t'.records t.counters.records stay ps ns cs hs x
 
   pub numbered-on : t.counters.objects ≡ number_at t'.records t.counters.records
   numbered-on =

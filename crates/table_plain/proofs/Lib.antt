@@ -1,3 +1,4 @@
 pub mod IndexGoesAlong
 pub mod IndexAfter
-pub mod FoundGoes
+pub mod PlainGoes
+pub mod JudgedGoes

@@ -1,33 +1,31 @@
 // The short way of a record: what was found of it in one look is all that is asked, and what it changes is written
 // where it stands. A record that it does not take goes the long way, which says why.
-ghost use Rattle.std.specs.Prelude.{◌≡◌, true, false, cond, List, ℕ, ◌-◌, ◌*◌, ◌^◌, ◌≤◌, ◌<◌, length, set, take, drop, replicate};
+ghost use Rattle.std.specs.Prelude.{◌≡◌, true, false, cond, ℕ, ◌+◌, ◌-◌, ◌*◌, ◌^◌, ◌≤◌, ◌<◌, length, set, take, drop, replicate};
 ghost use Rattle.math_lists.specs.SortedLists.{elem, Ascending};
 ghost use Rattle.math_maximal.specs.Step.{step};
 ghost use Rattle.edit_record.specs.Layout.{record_length};
 ghost use Rattle.edit_record.specs.RecordBytes.{decode_of, span_of};
-ghost use Rattle.edit_record.specs.Answer1.{is_create, is_set, is_limited};
+ghost use Rattle.edit_record.specs.Answer1.{is_create};
 ghost use Rattle.edit_history.specs.EditsHeld.{most_records};
 ghost use Rattle.edit_history.specs.SurveyForms.{bump};
+ghost use Rattle.edit_sum.specs.WordSum.{wrapped, record_words, sum_of};
 ghost use Rattle.group_step.specs.GroupRows.{most_objects, most_sets, most_groups, row, put_row, settled};
 ghost use Rattle.group_step.specs.StepForms.{Apart};
 ghost use Rattle.table_drawing.specs.Tables.{tables_of, objects_length};
-ghost use Rattle.table_index.specs.IndexForms.{chains_length, ranked_in};
-ghost use Rattle.table_arrival.specs.Arrival.{counted, put_entry};
-ghost use Rattle.table_plain.specs.TakingForms.{counters_by, TakesShort, LeavesShort, FoundOf, spot_of, Enters};
-ghost use Rattle.table_plain.specs.TakingForms.{Steps, SetStored, StoresBeside, StoredBeside};
+ghost use Rattle.table_index.specs.IndexForms.{counters_of, FitOf};
+ghost use Rattle.table_arrival.specs.Arrival.{put_entry};
+ghost use Rattle.table_plain.specs.TakingForms.{TakesShort, LeavesShort, spot_of, Enters, Steps, SetStored};
+ghost use Rattle.table_plain.specs.TakingForms.{StoresBeside, StoredBeside, JudgedBy};
 
 use edit_record::{AT_KEY, AT_KIND, AT_SEQ, AT_SITE, CREATE, RECORD, SET, Seq, Site};
 use group_step::GROUPS;
 use table_drawing::ENTRY;
 use table_index::Looked;
-use table_index::chain::{RANKS, link_set};
 
-// The counters, but for the counts of each site's edits; and whether the last record was taken.
+// Whether a record was taken, how many objects there are then, and the sum.
 #[derive(Drop)]
-pub struct Tally {
+pub struct Took {
     pub ok: bool,
-    pub sites: u8,
-    pub records: usize,
     pub objects: u16,
     pub sum: u32,
 }
@@ -62,16 +60,16 @@ fn whole_of(rec: &[u8]) -> [u8; RECORD]
 }
 
 // Puts the entry of a new object m, whose Create has place n, and its number into the index.
-fn put_create(n: usize, m: u16, objects: &mut [u16], chains: &mut [u8])
+fn put_create(n: usize, m: u16, objects: &mut [u16], numbers: &mut [u8])
     requires { (n < most_records)
         × (m < most_objects)
         × (length objects.old ≡ objects_length)
-        × (length chains.old ≡ chains_length) }
+        × (length numbers.old ≡ most_records) }
     ensures { (objects.new ≡ put_entry objects.old m n 0 1)
-        × (chains.new ≡ ranked_in chains.old n m) }
+        × (numbers.new ≡ set numbers.old n m) }
 {
     table_arrival::put_object(objects, m as usize, n as u16);
-    chains[RANKS + n] = m as u8;
+    numbers[n] = m as u8;
 }
 
 // The step on the row of object o, in which no group is part of a larger one and 0 stands behind them.
@@ -98,18 +96,22 @@ fn step_in(groups: &mut [u64], o: usize, n: usize, m: u64, k: usize) -> usize
 
 // Puts a Set in place n of which a was found into its object's groups, entry and chain; says whether there is room for
 // the groups. Where there is none, nothing is changed.
-fn store_set(
+pub fn store_set(
     n: usize,
     objects: &mut [u16],
     groups: &mut [u64],
+    numbers: &mut [u8],
+    counts: &mut [u16],
     chains: &mut [u8],
     kind: u8,
     key: u8,
     a: Looked,
 ) -> bool
-    requires { (n < most_records) × Steps objects.old groups.old chains.old key a }
-    ensures { SetStored n kind key a result objects.old groups.old chains.old
-        objects.new groups.new chains.new }
+    requires { (n < most_records)
+        × Steps objects.old groups.old numbers.old counts.old chains.old key a }
+    ensures { SetStored n kind key a result
+        objects.old groups.old numbers.old counts.old chains.old
+        objects.new groups.new numbers.new counts.new chains.new }
 {
     let o = a.object;
     let k = a.sets;
@@ -119,141 +121,160 @@ fn store_set(
         return false;
     }
     table_arrival::put_counts(objects, o, k as u16 + 1, w as u16);
-    link_set(n, o, k, kind, key, chains);
+    table_index::add_set(n, o, kind, key, numbers, counts, chains);
     true
 }
 
-// Puts what a record in place n, which is not limited and of which a was found, changes beside itself: of a Set its
-// object's groups, entry and chain, of a Create the entry and the number of object m. Says whether there is room for
-// the groups; where there is none, nothing is changed.
+// Puts what a record in place n, of which a was found, changes beside itself: of a Set its object's groups, entry and
+// chain, of a Create the entry and the number of object m. Says whether there is room for the groups; where there is
+// none, nothing is changed.
 fn store(
     n: usize,
     m: u16,
     objects: &mut [u16],
     groups: &mut [u64],
+    numbers: &mut [u8],
+    counts: &mut [u16],
     chains: &mut [u8],
     rec: &[u8],
     a: Looked,
 ) -> bool
     requires { (n < most_records)
         × (record_length ≤ length rec.now)
-        × StoresBeside m objects.old groups.old chains.old (decode_of rec.now) a }
+        × StoresBeside m objects.old groups.old numbers.old counts.old chains.old (decode_of rec.now) a }
     ensures { StoredBeside n m (decode_of rec.now) a result
-        objects.old groups.old chains.old
-        objects.new groups.new chains.new }
+        objects.old groups.old numbers.old counts.old chains.old
+        objects.new groups.new numbers.new counts.new chains.new }
 {
     let kind = rec[AT_KIND];
     if kind == SET {
         let key = rec[AT_KEY];
-        return store_set(n, objects, groups, chains, SET, key, a);
+        return store_set(n, objects, groups, numbers, counts, chains, SET, key, a);
     }
     if kind == CREATE {
-        put_create(n, m, objects, chains);
+        put_create(n, m, objects, numbers);
     }
     true
 }
 
-// The tally after a record that is not taken: as it was.
-pub fn not_taken(t: Tally) -> Tally
-    ensures { (result.ok ≡ false) × ((held : List ℕ) → counters_by result held ≡ counters_by t held) }
+// What is said of a record that is not taken: there are as many objects as before, and the sum is as it was.
+pub fn not_taken(m: u16, sum: u32) -> Took
+    ensures { (result.ok ≡ false) × (result.objects ≡ m) × (result.sum ≡ sum) }
 {
-    Tally {
+    Took {
         ok: false,
-        sites: t.sites,
-        records: t.records,
-        objects: t.objects,
-        sum: t.sum,
-    }
-}
-
-// And after one that is.
-fn taken(t: Tally, rec: &[u8]) -> Tally
-    requires { (length rec.now ≡ span_of rec.now)
-        × (t.records < most_records)
-        × (is_create (decode_of rec.now) ≡ true → t.objects < most_objects) }
-    ensures { (result.ok ≡ true)
-        × ((held : List ℕ) → counters_by result (bump held (decode_of rec.now).site)
-        ≡ counted (counters_by t held) (decode_of rec.now).site rec.now
-        (cond (is_create (decode_of rec.now)) 1 0)) }
-{
-    let mut m = t.objects;
-    if rec[AT_KIND] == CREATE {
-        m = m + 1;
-    }
-    Tally {
-        ok: true,
-        sites: t.sites,
-        records: t.records + 1,
         objects: m,
-        sum: edit_sum::added(t.sum, edit_sum::sum_record(rec)),
+        sum,
     }
 }
 
-// Takes a record that is not limited, of which a was found, and to which none of 1 to 6 is given, unless there is no
-// room for the groups of its object: then nothing is changed. The index has room for it. It is read where it stands,
-// and stored from a copy.
+// And of one that is.
+fn taken(m: u16, sum: u32, rec: &[u8]) -> Took
+    requires { (length rec.now ≡ record_length)
+        × (span_of rec.now ≡ record_length)
+        × (is_create (decode_of rec.now) ≡ true → m < most_objects) }
+    ensures { (result.ok ≡ true)
+        × (result.objects ≡ m + cond (is_create (decode_of rec.now)) 1 0)
+        × (result.sum ≡ wrapped (sum + sum_of (record_words rec.now) rec.now)) }
+{
+    let after = edit_sum::added(sum, edit_sum::sum_record(rec));
+    if rec[AT_KIND] == CREATE {
+        return Took {
+            ok: true,
+            objects: m + 1,
+            sum: after,
+        };
+    }
+    Took {
+        ok: true,
+        objects: m,
+        sum: after,
+    }
+}
+
+// Takes a record of which a was found, and which is not limited, nor another Set of its object, unless there is no room
+// for the groups of its object: then nothing is changed. There are n records, m objects and so many edits of each site,
+// and this sum; the index has room for the record. It is read where it stands, and stored from a copy.
 pub fn take_plain(
-    t: Tally,
+    sites: u8,
+    n: usize,
+    m: u16,
+    sum: u32,
     held: &mut [u16],
     records: &mut [u8],
     objects: &mut [u16],
     groups: &mut [u64],
     places: &mut [u16],
+    numbers: &mut [u8],
+    counts: &mut [u16],
     chains: &mut [u8],
     rec: &[u8],
     a: Looked,
-) -> Tally
-    requires { TakesShort (tables_of (counters_by t held.old) records.old objects.old groups.old)
-        places.old chains.old rec.now
-        × FoundOf (tables_of (counters_by t held.old) records.old objects.old groups.old) rec.now a
-        × (is_limited (decode_of rec.now) ≡ false) }
+) -> Took
+    requires { TakesShort
+        (tables_of (counters_of sites n m held.old sum) records.old objects.old groups.old)
+        places.old numbers.old counts.old chains.old rec.now
+        × FitOf sites n m records.old places.old numbers.old counts.old (decode_of rec.now) a }
     ensures { LeavesShort
-        (tables_of (counters_by t held.old) records.old objects.old
+        (tables_of (counters_of sites n m held.old sum) records.old objects.old
         groups.old)
         rec.now result.ok
-        (tables_of (counters_by result held.new) records.new objects.new groups.new)
-        places.old chains.old places.new chains.new }
+        (tables_of (counters_of sites (n + cond result.ok 1 0) result.objects held.new result.sum)
+        records.new objects.new groups.new)
+        places.old numbers.old counts.old chains.old
+        places.new numbers.new counts.new chains.new }
 {
-    let n = t.records;
-    if !store(n, t.objects, objects, groups, chains, rec, a) {
-        return not_taken(t);
+    if !store(n, m, objects, groups, numbers, counts, chains, rec, a) {
+        return not_taken(m, sum);
     }
     enter(held, n, places, rec);
     let whole = whole_of(rec);
     table_arrival::put_plain(records, n, whole);
-    taken(t, rec)
+    taken(m, sum, rec)
 }
 
-// Takes a Set in the same way, which may be limited.
+// Takes a Set of which a was found, with those of its object's Sets that were judged to conflict with it, unless there
+// is no room for the groups of its object: then nothing is changed.
 pub fn take_judged(
-    t: Tally,
+    sites: u8,
+    n: usize,
+    m: u16,
+    sum: u32,
     held: &mut [u16],
     records: &mut [u8],
     objects: &mut [u16],
     groups: &mut [u64],
     places: &mut [u16],
+    numbers: &mut [u8],
+    counts: &mut [u16],
     chains: &mut [u8],
     rec: &[u8],
     a: Looked,
-) -> Tally
-    requires { TakesShort (tables_of (counters_by t held.old) records.old objects.old groups.old)
-        places.old chains.old rec.now
-        × FoundOf (tables_of (counters_by t held.old) records.old objects.old groups.old) rec.now a
-        × (is_set (decode_of rec.now) ≡ true) }
+) -> Took
+    requires { TakesShort
+        (tables_of (counters_of sites n m held.old sum) records.old objects.old groups.old)
+        places.old numbers.old counts.old chains.old rec.now
+        × JudgedBy (tables_of (counters_of sites n m held.old sum) records.old objects.old groups.old)
+        places.old numbers.old counts.old rec.now a }
     ensures { LeavesShort
-        (tables_of (counters_by t held.old) records.old objects.old
+        (tables_of (counters_of sites n m held.old sum) records.old objects.old
         groups.old)
         rec.now result.ok
-        (tables_of (counters_by result held.new) records.new objects.new groups.new)
-        places.old chains.old places.new chains.new }
+        (tables_of (counters_of sites (n + cond result.ok 1 0) result.objects held.new result.sum)
+        records.new objects.new groups.new)
+        places.old numbers.old counts.old chains.old
+        places.new numbers.new counts.new chains.new }
 {
-    let n = t.records;
     let kind = rec[AT_KIND];
     let key = rec[AT_KEY];
-    if !store_set(n, objects, groups, chains, kind, key, a) {
-        return not_taken(t);
+    if !store_set(n, objects, groups, numbers, counts, chains, kind, key, a) {
+        return not_taken(m, sum);
     }
     enter(held, n, places, rec);
     table_arrival::put_record(records, n, rec);
-    taken(t, rec)
+    Took {
+        ok: true,
+        objects: m,
+        sum: edit_sum::added(sum, edit_sum::sum_record(rec)),
+    }
 }

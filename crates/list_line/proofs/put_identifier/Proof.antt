@@ -1,26 +1,20 @@
 -- `list_line::put_identifier` meets its contract: the names with a space in the place of the first mark, or a space and
 -- `-`. Assumes nothing.
-use mathlib.Core.Path.{ap, ◌∙◌}
-use mathlib.Core.List.{List, [], ◌∷◌, ◌++◌}
-use Prim.Native.Nat.{ℕ, ◌≤◌}
+use mathlib.Core.Path.{◌∙◌}
+use mathlib.Core.List.{[], ◌∷◌}
 use native.Mathlib.Omega.{arith}
-use lib.ListN.{length, take}
+use lib.ListN.{take}
 use Rattle.list_text.specs.Pieces.{space, minus}
 use Rattle.list_text.proofs.PiecesBehind.{two}
 use Rattle.list_version.specs.VersionForms.{identifier_by}
 use Rattle.list_line.specs.Line.{identifier_text}
 use Rattle.list_line.proofs.LineTurns.{none-marked, first-mark-spaced}
-use Rattle.list_line.proofs.NamesOfMembers.{members-named, members-room, members-few}
 use borrow.Author.Rules.{rules}
 use Rattle.list_line.proofs.put_identifier.Statement.{statement}
 use Rattle.list_line.proofs.put_identifier.Tie as tie
 
 put-members-requires : tie.Need-put-members-requires
-put-members-requires c κs =
-    let s = c.before.before.before.before.before in
-    let p = s.requires in
-    let (xs, few, kept) = p.4 in
-    (p.0, omega (arith, p.1, few, members-room kept s.args.g), p.2, p.3, members-few kept s.args.g)
+put-members-requires c κs = search rules
 
 put-byte-requires : tie.Need-put-byte-requires
 put-byte-requires c κs = search rules
@@ -38,19 +32,14 @@ returns c =
     let members = none-put.before.before.before in
     let s = members.before.before.before.before.before.before in
     let a = s.args in
-    let (_, few, known) = s.requires.4 in
     let all = members.put-members in
-    let fits : all.result ≤ length all.new.0
-    = omega (arith, s.requires.1, few, members-room known a.g, all.ensures.1, all.auto.0) in
+    let ids = identifier_by (take a.d a.disputes.now) a.g in
+    let (front, none) = none-marked all.new.0 a.out.now all.result a.n
+    (omega (arith, s.requires.1, s.requires.2, all.ensures.1, all.auto.0)) (omega (arith, s.requires.2)) ids
+    all.ensures.0 none-put.if1.true in
     let first = c.before.before.before.before.before.before.put_byte.ensures in
     let second = c.before.before.put-byte2.ensures in (
-      λ xs kept.
-          let ids = identifier_by xs a.g in
-          let (front, none) = none-marked all.new.0 a.out.now all.result a.n fits
-          (omega (arith, s.requires.1)) ids
-          (all.ensures.0 ∙ ap (λ (t : List ℕ). take a.n a.out.now ++ t) (members-named kept a.g))
-          none-put.if1.true in
-          rw none (two (take a.n a.out.now) (space ∷ []) (minus ∷ []) (first.0 ∙ rw front) second.0),
+      rw none (two (take a.n a.out.now) (space ∷ []) (minus ∷ []) (first.0 ∙ rw front) second.0),
       omega (arith, first.1, second.1),
     )
 
@@ -65,16 +54,12 @@ returns-2 c =
     let members = c.before.before.before in
     let s = members.before.before.before.before.before.before in
     let a = s.args in
-    let (_, few, known) = s.requires.4 in
-    let room = members-room known a.g in
-    let all = members.put-members in (
-      λ xs kept.
-          first-mark-spaced all.new.0 a.out.now all.result a.n
-          (omega (arith, s.requires.1, few, room, all.ensures.1, all.auto.0)) (omega (arith, s.requires.1))
-          (identifier_by xs a.g)
-          (all.ensures.0 ∙ ap (λ (t : List ℕ). take a.n a.out.now ++ t) (members-named kept a.g))
-          c.if1.false (omega (arith, s.requires.1, all.auto.0)),
-      omega (arith, few, room, all.ensures.1),
+    let all = members.put-members in
+    let ids = identifier_by (take a.d a.disputes.now) a.g in (
+      first-mark-spaced all.new.0 a.out.now all.result a.n
+          (omega (arith, s.requires.1, s.requires.2, all.ensures.1, all.auto.0)) (omega (arith, s.requires.2)) ids
+          all.ensures.0 c.if1.false (omega (arith, s.requires.2, all.auto.0)),
+      omega (arith, s.requires.1, all.ensures.1),
     )
 
 pub put-identifier-spec : {M : Type 1} → statement M

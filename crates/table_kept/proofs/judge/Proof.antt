@@ -17,7 +17,7 @@ byte-at-requires c κs = search rules
 
 returns : tie.Need-returns
 returns c =
-    let s = c.before.before.before.before.before.before.before.before.before.before in
+    let s = c.before.before.before.before.before.before.before.before.before.before.before in
     let a = s.args in
     let e = decode_of a.rec.now in
     let es = edits_of a.recs.now a.n in (
@@ -27,7 +27,7 @@ returns c =
 
 judge-by-rows-requires : tie.Need-judge-by-rows-requires
 judge-by-rows-requires c κs =
-    let s = c.before.before.before.before.before.before.before.before.before.before.before.before in
+    let s = c.before.before.before.before.before.before.before.before.before.before.before.before.before in
     let v = s.args.v in
     let limited = eqb c.before.before.before.before.before.byte_at.result limited_kind || v.limited in
     let (found, _) = both v.found limited (not-false (v.found && limited) c.before.before.if1.false) in

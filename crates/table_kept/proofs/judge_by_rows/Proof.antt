@@ -16,7 +16,7 @@ use Rattle.table_kept.proofs.judge_by_rows.Tie as tie
 
 make-ready-requires : tie.Need-make-ready-requires
 make-ready-requires c κs =
-    let s = c.before.before.before.before.before.before.before.before in
+    let s = c.before.before.before.before.before.before.before.before.before in
     let a = s.args in
     let sv = s.requires.1 in
     let (sets, _) = surveyed-sets (edits_of a.recs.now a.n) (decode_of a.rec.now) a.v sv s.requires.2 in
@@ -24,7 +24,7 @@ make-ready-requires c κs =
 
 judge-requires : tie.Need-judge-requires
 judge-requires c κs =
-    let s = c.before.before.before.before.before.before.before.before.before.before.before.before.before.before.before in
+    let s = c.before.before.before.before.before.before.before.before.before.before.before.before.before.before.before.before in
     let a = s.args in
     let e = decode_of a.rec.now in
     let es = edits_of a.recs.now a.n in
@@ -44,7 +44,7 @@ told-after-requires c κs = search rules
 
 put-box-requires : tie.Need-put-box-requires
 put-box-requires c κs =
-    let s = c.before.before.before.before.before.before.before.before.before.before.before.before.before.before.before.before.before.before.before.before.before.before.before in
+    let s = c.before.before.before.before.before.before.before.before.before.before.before.before.before.before.before.before.before.before.before.before.before.before.before.before in
     c.before.before.before.before.before.before.before.judge.auto.1.0 ∙ c.before.before.before.before.before.before.before.before.before.before.before.before.before.before.make-ready.auto.1.0 ∙ s.pre.3.names-long
 
 same_length : tie.Need-same-length
@@ -55,7 +55,7 @@ same-length-2 c = search rules
 
 returns : tie.Need-returns
 returns c =
-    let s = c.before.before.before.before.before.before.before.before.before.before.before.before.before.before.before.before.before.before.before.before.before.before.before.before.before.before in
+    let s = c.before.before.before.before.before.before.before.before.before.before.before.before.before.before.before.before.before.before.before.before.before.before.before.before.before.before.before in
     let a = s.args in
     let e = decode_of a.rec.now in
     let es = edits_of a.recs.now a.n in

@@ -21,23 +21,23 @@ use Rattle.table_kept.proofs.make_ready.Tie as tie
 -- the chains of the box, where the code finds it
 chains-at :
     (c : tie.After-place-at) →
-    (let a = c.before.before.before.before.before.before.before.before.before.before.before.before.args in
-    ChainsOn a.recs.now a.n a.chains.now c.place_at.result
+    (let a = c.before.before.before.before.before.before.before.before.before.before.before.before.before.args in
+    ChainsOn a.recs.now a.n a.numbers.now a.chains.now c.place_at.result
     × (map (record_at a.recs.now) (places_on a.recs.now a.n c.place_at.result)
     ≡ sets_on (decode_of a.rec.now).tsite (decode_of a.rec.now).tseq (edits_of a.recs.now a.n)))
 chains-at c =
-    let s = c.before.before.before.before.before.before.before.before.before.before.before.before in
+    let s = c.before.before.before.before.before.before.before.before.before.before.before.before.before in
     let a = s.args in
     let e = decode_of a.rec.now in
     let is : c.place_at.result ≡ place_of a.places.now e.tsite.0 e.tseq.0
     = c.place_at.ensures
     ∙ ap₂ (place_of a.places.now) c.before.before.before.before.before.byte_at.ensures c.before.before.before.before.two_at.ensures in
     subst
-    (λ (q : ℕ). ChainsOn a.recs.now a.n a.chains.now q
+    (λ (q : ℕ). ChainsOn a.recs.now a.n a.numbers.now a.chains.now q
     × (map (record_at a.recs.now) (places_on a.recs.now a.n q)
     ≡ sets_on e.tsite e.tseq (edits_of a.recs.now a.n)))
     (sym is)
-    (target-chains a.recs.now a.n a.places.now a.chains.now s.requires.0 e
+    (target-chains a.recs.now a.n a.places.now a.numbers.now a.chains.now s.requires.0 e
     s.requires.1)
 
 byte-at-requires : tie.Need-byte-at-requires
@@ -48,7 +48,7 @@ two-at-requires c κs = search rules
 
 cast-is-kept : tie.Need-overflow-cast-is-kept
 cast-is-kept c =
-    let s = c.before.before.before.before.before.before.before.before.before in
+    let s = c.before.before.before.before.before.before.before.before.before.before in
     let a = s.args in
     let e = decode_of a.rec.now in
     let few : a.k ≤ most_sets = rw (s.requires.2, ← s.requires.0.all) (s.requires.0.holds.few-sets e.tsite e.tseq) in
@@ -56,7 +56,7 @@ cast-is-kept c =
 
 is-kept-requires : tie.Need-is-kept-requires
 is-kept-requires c κs =
-    let s = c.before.before.before.before.before.before.before.before.before in
+    let s = c.before.before.before.before.before.before.before.before.before.before in
     s.requires.3.names-long
 
 place-at-requires : tie.Need-place-at-requires
@@ -67,7 +67,7 @@ cast-at c = search rules
 
 put-anew-requires : tie.Need-put-anew-requires
 put-anew-requires c κs =
-    let s = c.before.before.before.before.before.before.before.before.before.before.before.before.before.before in
+    let s = c.before.before.before.before.before.before.before.before.before.before.before.before.before.before.before in
     let rs = s.args.recs.now in
     let h = s.pre.3 in
     let (chains, sets) = chains-at c.before.before in (
@@ -95,7 +95,7 @@ same-length-3 c = search rules
 
 returns-2 : tie.Need-returns-2
 returns-2 c =
-    let s = c.before.before.before.before.before.before.before.before.before.before.before in
+    let s = c.before.before.before.before.before.before.before.before.before.before.before.before in
     let a = s.args in
     let same = rw (c.before.before.before.before.byte_at.ensures, c.before.before.before.two_at.ensures) at
     (sym c.before.is-kept.ensures ∙ not-false c.before.is-kept.result c.if1.false) in

@@ -21,7 +21,7 @@ slice-aggregate-put-chains c = search rules
 
 put-chains-requires : tie.Need-put-chains-requires
 put-chains-requires c κs =
-    let s = c.before.before.before.before.before in
+    let s = c.before.before.before.before.before.before in
     (s.requires.0, omega arith)
 
 slice-aggregate-put-names : tie.Need-slice-aggregate-put-names
@@ -29,7 +29,7 @@ slice-aggregate-put-names c = search rules
 
 put-names-requires : tie.Need-put-names-requires
 put-names-requires c κs =
-    let s = c.before.before.before.before.before.before.before.before.before in
+    let s = c.before.before.before.before.before.before.before.before.before.before in
     (omega (arith, few s, s.requires.2), omega (arith, few s))
 
 slice-aggregate-put-rows : tie.Need-slice-aggregate-put-rows
@@ -37,7 +37,7 @@ slice-aggregate-put-rows c = search rules
 
 put-rows-requires : tie.Need-put-rows-requires
 put-rows-requires c κs =
-    let s = c.before.before.before.before.before.before.before.before.before.before.before.before.before.before.before in
+    let s = c.before.before.before.before.before.before.before.before.before.before.before.before.before.before.before.before in
     let m = c.before.before.before.before.before.put-names in (
       few s,
       omega (arith, few s),
@@ -54,7 +54,7 @@ same-length-2 c = search rules
 
 returns : tie.Need-returns
 returns c =
-    let s = c.before.before.before.before.before.before.before.before.before.before.before.before.before.before.before.before.before.before in
+    let s = c.before.before.before.before.before.before.before.before.before.before.before.before.before.before.before.before.before.before.before in
     let a = s.args in
     let rs = a.recs.now in
     let m = c.before.before.before.before.before.before.before.before.put-names in

@@ -31,7 +31,7 @@ returns c =
     let m = c.before.before.before.step_in in (
       m.ensures.1,
       (λ no. clash no refl),
-      λ yes. (rw m.ensures.0 at c.if1.true, refl, refl),
+      λ yes. (rw m.ensures.0 at c.if1.true, refl, refl, refl, refl),
     )
 
 cast-put-counts : tie.Need-overflow-cast-put-counts
@@ -46,8 +46,8 @@ cast-put-counts-2 c = search rules
 put-counts-requires : tie.Need-put-counts-requires
 put-counts-requires c κs = search rules
 
-link-set-requires : tie.Need-link-set-requires
-link-set-requires c κs = search rules
+add-set-requires : tie.Need-add-set-requires
+add-set-requires c κs = search rules
 
 same-length-2 : tie.Need-same-length-2
 same-length-2 c = search rules
@@ -58,17 +58,26 @@ same-length-3 c = search rules
 same-length-4 : tie.Need-same-length-4
 same-length-4 c = search rules
 
+same-length-5 : tie.Need-same-length-5
+same-length-5 c = search rules
+
+same-length-6 : tie.Need-same-length-6
+same-length-6 c = search rules
+
 returns-2 : tie.Need-returns-2
 returns-2 c =
-    let c2 = c.before.before in
-    let c6 = c2.before.before.before.before in
-    let c8 = c6.before.before in
-    let m = c8.before.before.before.step_in in (
+    let c6 = c.before.before.before.before.before.before in
+    let c12 = c6.before.before.before.before.before.before in
+    let c14 = c12.before.before in
+    let m = c14.before.before.before.step_in in
+    let add = c6.add-set.ensures in (
       m.ensures.1,
       (λ yes. (
-        rw m.ensures.0 at c8.if1.false,
-        rw m.ensures.0 at c6.put-counts.ensures,
-        c2.Link-set.ensures,
+        rw m.ensures.0 at c14.if1.false,
+        rw m.ensures.0 at c12.put-counts.ensures,
+        add.0,
+        add.1,
+        add.2,
       )),
       λ no. clash refl no,
     )
@@ -89,8 +98,10 @@ store-set-spec =
     add-put-counts
     cast-put-counts-2
     put-counts-requires
-    link-set-requires
+    add-set-requires
     same-length-2
     same-length-3
     same-length-4
+    same-length-5
+    same-length-6
     returns-2)

@@ -1,36 +1,46 @@
 -- `table_plain::take_plain` meets its contract: what was found of the record is what taking it needs, and what it
 -- writes is what that leaves. Assumes nothing.
-use mathlib.Core.Path.{ap, ◌∙◌}
+use mathlib.Core.Path.{◌≡◌, ap, ◌∙◌}
+use mathlib.Core.List.{List}
+use Prim.Native.Nat.{ℕ, ◌+◌, ◌≤◌}
+use native.Mathlib.Omega.{arith}
+use lib.ListN.{length}
 use borrow.Author.Tests.{not-true, not-false}
-use Rattle.edit_record.proofs.AgreeingBytes.{span-plain}
-use Rattle.table_drawing.specs.Tables.{Tables, tables_of}
+use Rattle.edit_record.specs.Layout.{record_length}
+use Rattle.table_soundness.proofs.SoundFacts.{sound-at}
 use Rattle.table_arrival.specs.Arrival.{put_record}
-use Rattle.table_plain.specs.TakingForms.{counters_by}
-use Rattle.table_plain.proofs.FoundGoes.{there, put-asks, create-room, store_asks, not-stored, enters}
-use Rattle.table_plain.proofs.FoundGoes.{stored-left}
+use Rattle.table_plain.proofs.PlainGoes.{span-is, long-is, store_asks, not-stored, enters, stored-left}
 use borrow.Author.Rules.{rules}
 use Rattle.table_plain.proofs.take_plain.Statement.{statement}
 use Rattle.table_plain.proofs.take_plain.Tie as tie
 
+-- ---- where things stand
+
 abbrev start-of : tie.After-store → tie.Start
 start-of c =
-    let c6 = c.before.before.before.before.before.before in
-    c6.before.before.before.before.before
+    let c5 = c.before.before.before.before.before in
+    c5.before.before.before.before.before.before.before.before.before.before
 
-abbrev tables-of : tie.Start → Tables
-tables-of s =
+none_more : (n : ℕ) → n + 0 ≡ n
+none_more n = omega arith
+
+long_of : (s : tie.Start) → length s.args.rec.now ≡ record_length
+long_of s =
     let a = s.args in
-    tables_of (counters_by a.t a.held.now) a.records.now a.objects.now a.groups.now
+    long-is a.sites a.n a.m a.sum a.held.now a.records.now a.objects.now a.groups.now
+    a.places.now a.numbers.now a.counts.now a.chains.now a.rec.now s.requires.0 a.a s.requires.1
+
+there : (s : tie.Start) → record_length ≤ length s.args.rec.now
+there s = omega (arith, long_of s)
 
 store-requires : tie.Need-store-requires
 store-requires c κs =
-    let s = c.before.before.before.before.before.before.before.before.before.before in (
-      s.requires.0.few,
-      there (tables-of s) s.args.places.now s.args.chains.now s.args.rec.now s.requires.0 s.args.a
-          s.requires.1,
-      store_asks (tables-of s) s.args.places.now s.args.chains.now s.args.rec.now s.requires.0
-          s.args.a
-          s.requires.1 s.requires.2,
+    let s = c.before.before.before.before.before.before.before.before.before.before.before.before.before.before in
+    let a = s.args in (
+      s.pre.0.few,
+      there s,
+      store_asks a.sites a.n a.m a.sum a.held.now a.records.now a.objects.now a.groups.now
+          a.places.now a.numbers.now a.counts.now a.chains.now a.rec.now s.pre.0 a.a s.pre.1,
     )
 
 not-taken-requires : tie.Need-not-taken-requires
@@ -45,55 +55,51 @@ same-length-2 c = search rules
 same-length-3 : tie.Need-same-length-3
 same-length-3 c = search rules
 
-returns : tie.Need-returns
-returns c =
-    let w = c.before.before.before.before.before.before.before.before in
-    let s = start-of w in
-    let x = c.not_taken.ensures in
-    let st = rw (not-true w.store.result c.before.if1.true) at w.store.ensures in
-    rw x.0 (not-stored (tables-of s) s.args.places.now s.args.chains.now s.args.rec.now
-    s.pre.0 s.args.a
-    s.pre.1 _ _ _ st _ (x.1 s.args.held.now))
-
-enter-requires : tie.Need-enter-requires
-enter-requires c κs =
-    let w = c.before.before.before.before.before.before.before.before.before in
-    let s = start-of w in
-    let st = rw (not-false w.store.result c.before.before.if1.false) at w.store.ensures in (
-      there (tables-of s) s.args.places.now s.args.chains.now s.args.rec.now s.pre.0 s.args.a
-          s.pre.1,
-      enters (tables-of s) s.args.places.now s.args.chains.now s.args.rec.now s.pre.0
-          s.args.a
-          s.pre.1 _ _ _ st,
-    )
-
-whole-of-requires : tie.Need-whole-of-requires
-whole-of-requires c κs =
-    let s = start-of c.before.before.before.before.before.before.before.before.before.before.before.before.before.before in
-    s.pre.0.whole ∙ span-plain s.args.rec.now s.pre.2
-
-put-plain-requires : tie.Need-put-plain-requires
-put-plain-requires c κs =
-    let s = start-of c.before.before.before.before.before.before.before.before.before.before.before.before.before.before.before.before in
-    let (few, long, _, _) = put-asks (tables-of s) s.args.places.now s.args.chains.now s.args.rec.now s.pre.0 s.args.a
-    s.pre.1 in
-    (few, long)
-
-taken-requires : tie.Need-taken-requires
-taken-requires c κs =
-    let s = start-of c.before.before.before.before.before.before.before.before.before.before.before.before.before.before.before.before.before.before.before in (
-      s.pre.0.whole,
-      s.pre.0.few,
-      create-room (tables-of s) s.args.places.now s.args.chains.now s.args.rec.now s.pre.0
-          s.args.a
-          s.pre.1,
-    )
-
 same-length-4 : tie.Need-same-length-4
 same-length-4 c = search rules
 
 same-length-5 : tie.Need-same-length-5
 same-length-5 c = search rules
+
+returns : tie.Need-returns
+returns c =
+    let w = c.before.before.before.before.before.before.before.before.before.before.before.before in
+    let s = start-of w in
+    let a = s.args in
+    let x = c.not_taken.ensures in
+    rw (x.0, x.1, x.2, none_more a.n)
+    (not-stored a.sites a.n a.m a.sum a.held.now a.records.now a.objects.now a.groups.now
+    a.places.now a.numbers.now a.counts.now a.chains.now a.rec.now s.pre.0 a.a s.pre.1 _ _ _ _ _
+    (rw (not-true w.store.result c.before.if1.true) at w.store.ensures))
+
+enter-requires : tie.Need-enter-requires
+enter-requires c κs =
+    let w = c.before.before.before.before.before.before.before.before.before.before.before.before.before in
+    let s = start-of w in
+    let a = s.args in (
+      there s,
+      enters a.sites a.n a.m a.sum a.held.now a.records.now a.objects.now a.groups.now
+          a.places.now a.numbers.now a.counts.now a.chains.now a.rec.now s.pre.0 a.a s.pre.1 _ _ _ _ _
+          (rw (not-false w.store.result c.before.before.if1.false) at w.store.ensures),
+    )
+
+whole-of-requires : tie.Need-whole-of-requires
+whole-of-requires c κs = long_of (start-of c.before.before.before.before.before.before.before.before.before.before.before.before.before.before.before.before.before.before)
+
+put-plain-requires : tie.Need-put-plain-requires
+put-plain-requires c κs =
+    let s = start-of c.before.before.before.before.before.before.before.before.before.before.before.before.before.before.before.before.before.before.before.before in
+    (s.pre.0.few, (sound-at _ s.pre.0.takes.is_sound).records-long)
+
+taken-requires : tie.Need-taken-requires
+taken-requires c κs =
+    let s = start-of c.before.before.before.before.before.before.before.before.before.before.before.before.before.before.before.before.before.before.before.before.before.before.before in
+    let a = s.args in (
+      long_of s,
+      span-is a.sites a.n a.m a.sum a.held.now a.records.now a.objects.now a.groups.now
+          a.places.now a.numbers.now a.counts.now a.chains.now a.rec.now s.pre.0 a.a s.pre.1,
+      s.pre.1.create-room,
+    )
 
 same-length-6 : tie.Need-same-length-6
 same-length-6 c = search rules
@@ -107,22 +113,32 @@ same-length-8 c = search rules
 same-length-9 : tie.Need-same-length-9
 same-length-9 c = search rules
 
+same-length-10 : tie.Need-same-length-10
+same-length-10 c = search rules
+
+same-length-11 : tie.Need-same-length-11
+same-length-11 c = search rules
+
+same-length-12 : tie.Need-same-length-12
+same-length-12 c = search rules
+
+same-length-13 : tie.Need-same-length-13
+same-length-13 c = search rules
+
 returns-2 : tie.Need-returns-2
 returns-2 c =
-    let p = c.before.before.before in
-    let h = p.before.before in
-    let n = h.before.before.before.before.before in
-    let i = n.before.before.before in
-    let w = i.before.before.before.before.before.before.before in
+    let w = c.before.before.before.before.before.before.before.before.before.before.before.before.before.before.before.before.before.before.before.before.before.before.before.before in
     let s = start-of w in
-    let y = c.taken.ensures in
-    let st = rw (not-false w.store.result i.if1.false) at w.store.ensures in
-    let count = ap (counters_by c.taken.result) n.enter.ensures.0 ∙ y.1 s.args.held.now in
-    let put = p.put-plain.ensures ∙ ap (put_record s.args.records.now s.args.t.records)
-    h.whole_of.ensures in
-    rw y.0 (stored-left (tables-of s) s.args.places.now s.args.chains.now s.args.rec.now
-    s.pre.0 s.args.a
-    s.pre.1 _ _ _ st _ _ _ count put n.enter.ensures.1)
+    let a = s.args in
+    let put = c.before.before.before.put-plain.ensures
+    ∙ ap (λ (b : List ℕ). put_record a.records.now a.n b) c.before.before.before.before.before.whole_of.ensures in
+    let n = c.before.before.before.before.before.before.before.before.before.before.enter.ensures in
+    let x = c.taken.ensures in
+    rw x.0
+    (stored-left a.sites a.n a.m a.sum a.held.now a.records.now a.objects.now a.groups.now
+    a.places.now a.numbers.now a.counts.now a.chains.now a.rec.now s.pre.0 a.a s.pre.1 _ _ _ _ _
+    (rw (not-false w.store.result c.before.before.before.before.before.before.before.before.before.before.before.before.before.if1.false) at w.store.ensures) _ _ _ _ _ n.0 put n.1
+    x.1 x.2)
 
 pub take-plain-spec : {M : Type 1} → statement M
 take-plain-spec =
@@ -133,15 +149,19 @@ take-plain-spec =
     same_length
     same-length-2
     same-length-3
+    same-length-4
+    same-length-5
     returns
     enter-requires
     whole-of-requires
     put-plain-requires
     taken-requires
-    same-length-4
-    same-length-5
     same-length-6
     same-length-7
     same-length-8
     same-length-9
+    same-length-10
+    same-length-11
+    same-length-12
+    same-length-13
     returns-2)

@@ -14,14 +14,24 @@ use borrow.Author.Rules.{rules}
 use Rattle.list_print.proofs.all_lines.put_object.Statement.{statement}
 use Rattle.list_print.proofs.all_lines.put_object.Tie as tie
 
-slice-aggregate-gather-chained : tie.Need-slice-aggregate-gather-chained
-slice-aggregate-gather-chained c = search rules
+slice-aggregate-put-chained : tie.Need-slice-aggregate-put-chained
+slice-aggregate-put-chained c = search rules
 
-gather-chained-requires : tie.Need-gather-chained-requires
-gather-chained-requires c κs =
-    let s8 = c.before.before.before.before.before.before.before.before in
-    let p = s8.before.before.before.before.before.before.before.before.requires in
-    (p.0, p.2, p.1, p.5.disputes-long, p.5.stamps-long, refl, p.5.versions-long)
+put-chained-requires : tie.Need-put-chained-requires
+put-chained-requires c κs = search rules
+
+slice-aggregate-gather : tie.Need-slice-aggregate-gather
+slice-aggregate-gather c = search rules
+
+slice-aggregate-gather-2 : tie.Need-slice-aggregate-gather-2
+slice-aggregate-gather-2 c = search rules
+
+gather-requires : tie.Need-gather-requires
+gather-requires c κs =
+    let placed = c.before.before.before.before.before.before in
+    let s8 = placed.before.before.before.before.before.before.before.before in
+    let p = s8.before.before.before.before.before.before.requires in
+    (p.0, p.2, placed.put-chained.ensures, p.6, p.7, refl, p.8)
 
 slice-aggregate-put-versions : tie.Need-slice-aggregate-put-versions
 slice-aggregate-put-versions c = search rules
@@ -31,22 +41,22 @@ put-versions-requires c κs =
     let s8 = c.before.before.before.before.before.before.before.before in
     let gathered = s8.before.before.before.before.before.before.before.before in
     let t8 = gathered.before.before.before.before.before.before.before.before in
-    let start = t8.before.before.before.before.before.before.before.before.before in
+    let t16 = t8.before.before.before.before.before.before.before.before in
+    let start = t16.before.before.before.before.before in
     let a = start.args in
     let p = start.requires in
     let t = tables_of a.c a.records.now a.objects.now a.groups.now in
-    let g = gathered.gather-chained in
-    let wide : most_sets ≤ length g.new.0 = omega (arith, g.auto.0, p.5.disputes-long) in
-    let tall : most_sets ≤ length g.new.1.0 = omega (arith, g.auto.1.0, p.5.stamps-long) in
+    let g = gathered.gather in
+    let wide : most_sets ≤ length g.new.0 = omega (arith, g.auto.0, p.6) in
+    let tall : most_sets ≤ length g.new.1.0 = omega (arith, g.auto.1.0, p.7) in
     let all : keys ≤ length g.new.1.1.0 = omega (arith, g.auto.1.1.0) in
-    let long : most_groups ≤ length g.new.1.1.1.0
-    = omega (arith, g.auto.1.1.1.0, p.5.versions-long) in
+    let long : most_groups ≤ length g.new.1.1.1.0 = omega (arith, g.auto.1.1.1.0, p.8) in
     let s = sound-at t p.0 in (
       gathered-ready t s a.o p.2 _ _ _ _ _ g.ensures wide tall all long,
       g.ensures.few-groups,
       p.3,
-      p.5.line-long,
       p.4,
+      p.5,
     )
 
 same_length : tie.Need-same-length
@@ -79,16 +89,16 @@ returns c =
     let s8 = put.before.before.before.before.before.before.before.before in
     let gathered = s8.before.before.before.before.before.before.before.before.before in
     let t8 = gathered.before.before.before.before.before.before.before.before in
-    let start = t8.before.before.before.before.before.before.before.before.before in
+    let t16 = t8.before.before.before.before.before.before.before.before in
+    let start = t16.before.before.before.before.before in
     let a = start.args in
     let p = start.requires in
     let t = tables_of a.c a.records.now a.objects.now a.groups.now in
-    let g = gathered.gather-chained in
-    let wide : most_sets ≤ length g.new.0 = omega (arith, g.auto.0, p.5.disputes-long) in
-    let tall : most_sets ≤ length g.new.1.0 = omega (arith, g.auto.1.0, p.5.stamps-long) in
+    let g = gathered.gather in
+    let wide : most_sets ≤ length g.new.0 = omega (arith, g.auto.0, p.6) in
+    let tall : most_sets ≤ length g.new.1.0 = omega (arith, g.auto.1.0, p.7) in
     let all : keys ≤ length g.new.1.1.0 = omega (arith, g.auto.1.1.0) in
-    let long : most_groups ≤ length g.new.1.1.1.0
-    = omega (arith, g.auto.1.1.1.0, p.5.versions-long) in
+    let long : most_groups ≤ length g.new.1.1.1.0 = omega (arith, g.auto.1.1.1.0, p.8) in
     let s = sound-at t p.0 in
     let lines = gathered-lines t s a.o p.2 _ _ _ _ _ g.ensures wide tall all long in
     let e = put.put-versions.ensures in
@@ -98,8 +108,11 @@ pub put-object-spec : {M : Type 1} → statement M
 put-object-spec =
     tie.close
     (tie.spec
-    slice-aggregate-gather-chained
-    gather-chained-requires
+    slice-aggregate-put-chained
+    put-chained-requires
+    slice-aggregate-gather
+    slice-aggregate-gather-2
+    gather-requires
     slice-aggregate-put-versions
     put-versions-requires
     same_length

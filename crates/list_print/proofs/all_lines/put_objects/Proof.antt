@@ -120,13 +120,11 @@ put-object-requires c κs =
       start.pre.2,
       sorted-low t f _ (c.before.before.before.before.before.before.before.before.before.before.before.sort-objects.ensures ∙ in_order_lem t f) l.i (omega (arith, more)),
       omega (arith, more, f.few-objects, start.pre.3, l.invariant.7.end, l.invariant.7.few),
+      omega (arith, start.pre.4, l.invariant.2),
       l.invariant.6,
-      record {
-        line-long = omega (arith, start.pre.4, l.invariant.2);
-        disputes-long = omega (arith, l.invariant.3);
-        stamps-long = omega (arith, l.invariant.4);
-        versions-long = omega (arith, l.invariant.5);
-      },
+      omega (arith, l.invariant.3),
+      omega (arith, l.invariant.4),
+      omega (arith, l.invariant.5),
     )
 
 add-i : tie.Need-overflow-add-i invariant-loop decreases-loop

@@ -1,8 +1,6 @@
 -- `list_print::object_lines::put_version` meets its contract: the line is formed in a buffer of its own. Assumes
 -- nothing.
 use native.Mathlib.Omega.{arith}
-use lib.ListN.{take}
-use lib.Seq.{length-take-le}
 use Rattle.list_print.proofs.BytesBehind.{fewer-behind}
 use borrow.Author.Rules.{rules}
 use Rattle.list_print.proofs.object_lines.put_version.Statement.{statement}
@@ -14,21 +12,19 @@ mul-put-line c = search rules
 shared-slice-read-put-line : tie.Need-shared-slice-read-put-line
 shared-slice-read-put-line c =
     let s8 = c.before.before.before.before.before.before.before.before in
-    let p = s8.before.before.before.before.before.before.before.requires in
+    let p = s8.before.before.before.before.before.before.requires in
     omega (arith, p.1, p.0.versions-long)
 
 put-line-requires : tie.Need-put-line-requires
 put-line-requires c κs =
     let s8 = c.before.before.before.before.before.before.before.before in
-    let p = s8.before.before.before.before.before.before.before.requires in
-    let ready = p.0 in
-    let a = s8.before.before.before.before.before.before.before.args in
-    let few = length-take-le a.g.disputes a.disputes.now
-    (omega (arith, ready.disputed, ready.disputes-long)) in (
-      p.5,
+    let p = s8.before.before.before.before.before.before.requires in
+    let ready = p.0 in (
+      omega (arith, ready.disputed, ready.disputes-long),
+      ready.disputed,
       p.3,
       p.4,
-      (take a.g.disputes a.disputes.now, omega (arith, few, ready.disputed), p.6),
+      p.5,
       omega (arith, ready.few, ready.stamps-long),
       ready.few,
       ready.keyed-long,
@@ -39,7 +35,7 @@ put-behind-requires : tie.Need-put-behind-requires
 put-behind-requires c κs =
     let made = c.before.before.before.before.before.before.before.before.before.before in
     let s8 = made.before.before.before.before.before.before.before.before in
-    let pre = s8.before.before.before.before.before.before.before.before.requires in
+    let pre = s8.before.before.before.before.before.before.before.requires in
     let p = made.put-line in
     (omega (arith, pre.3, p.ensures.1, p.auto.0), omega (arith, pre.2, p.ensures.1))
 
@@ -63,11 +59,9 @@ returns c =
     let s8 = c.before.before.before.before.before.before.before.before in
     let made = s8.before.before.before.before.before in
     let t8 = made.before.before.before.before.before.before.before.before in
-    let start = t8.before.before.before.before.before.before.before.before in
-    let a = start.args in
+    let a = t8.before.before.before.before.before.before.before.args in
     let p = made.put-line.ensures in
-    let (line, names) = p.0 _ start.requires.6 in
-    (rw (← line) (fewer-behind a.out.now a.n p.1 c.before.before.put-behind.ensures), p.2, names)
+    (rw (← p.0) (fewer-behind a.out.now a.n p.1 c.before.before.put-behind.ensures), p.2, p.3)
 
 pub put-version-spec : {M : Type 1} → statement M
 put-version-spec =

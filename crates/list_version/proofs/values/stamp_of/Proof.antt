@@ -28,7 +28,7 @@ returns c e f =
     let key = c.before in
     let site = key.before in
     let value = site.before in
-    let sum = value.before.sum_of.ensures in (
+    let sum = value.before.sum-of.ensures in (
       rw (le-ltb e.key keys (omega (arith, key.byte-at2.ensures, f.key))) refl,
       (
         subst (λ (v : List ℕ). vector_sum v ≤ most_sites * (two_bytes - 1)) f.vector (omega (arith, sum.0, sum.1)),
@@ -45,10 +45,10 @@ returns-2 c e f =
     let key = c.before.before in
     let site = key.before in
     let value = site.before in
-    let sum = value.before.sum_of.ensures in
+    let sum = value.before.sum-of.ensures in
     let sent = value.value_of_lem.ensures ∙ f.value in
     let made = site.byte_at.ensures ∙ f.site in
-    let added = subst (λ (v : List ℕ). value.before.sum_of.result ≡ vector_sum v) f.vector sum.0 in (
+    let added = subst (λ (v : List ℕ). value.before.sum-of.result ≡ vector_sum v) f.vector sum.0 in (
       rw (lt-ltb e.key keys (omega (arith, key.byte-at2.ensures, f.key)))
           (c.stamped.ensures ∙ stamp-is e _ _ _ _ (key.byte-at2.ensures ∙ f.key) added made sent),
       (omega (arith, added, sum.1), omega (arith, made), omega (arith, sent)),

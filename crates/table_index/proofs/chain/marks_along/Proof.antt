@@ -18,8 +18,7 @@ use Rattle.edit_causal.specs.ShownValue.{shown_value}
 use Rattle.edit_history.specs.EditsHeld.{record_at}
 use Rattle.edit_history.proofs.EditsHeld.{target-parts}
 use Rattle.edit_history.proofs.RecordsPassed.{set_after}
-use Rattle.table_index.specs.IndexForms.{number_at, is_on, places_on, head_at, link_at, rank_at, latest_on}
-use Rattle.table_index.specs.IndexForms.{unseen_other, marks_on}
+use Rattle.table_index.specs.IndexForms.{number_at, is_on, places_on, head_at, link_at, latest_on, unseen_other, marks_on}
 use Rattle.table_index.proofs.ChainsOfSets.{latest-low, Down, marks-down, marks-none}
 use Rattle.table_index.proofs.PlacesOfSets.{places-added, places-grow, places-length}
 use Rattle.table_index.proofs.ArrivingSet.{in-turn, conflict-unseen}
@@ -27,20 +26,20 @@ use Rattle.table_index.proofs.chain.marks_along.Statement.{statement}
 use Rattle.table_index.proofs.chain.marks_along.Tie as tie
 
 abbrev invariant-loop : tie.invariant-loop
-invariant-loop recs n chains q rec key x marks₀ o p₀ marks p =
+invariant-loop recs n numbers chains q rec key x marks₀ o p₀ marks p =
     (m : ℕ)
     × (m ≤ n)
     × (p ≡ latest_on recs q (decode_of rec).key m)
     × (marks + marks_on recs m q (decode_of rec) ≡ marks_on recs n q (decode_of rec))
 
 abbrev decreases-loop : tie.decreases-loop
-decreases-loop recs n chains q rec key x marks₀ o p₀ marks p = p
+decreases-loop recs n numbers chains q rec key x marks₀ o p₀ marks p = p
 
 -- one link of the chain: the Set in place p of it, and what is marked before it
 record Link (s : tie.Start invariant-loop decreases-loop) (m p : ℕ) : Type 0 where
   down : Down s.args.recs.now s.args.q (decode_of s.args.rec.now) m p
   low : p < s.args.n
-  rank : get_or s.args.chains.now (rank_at p) 0 ≡ length (places_on s.args.recs.now p s.args.q)
+  rank : get_or s.args.numbers.now p 0 ≡ length (places_on s.args.recs.now p s.args.q)
   narrow : length (places_on s.args.recs.now p s.args.q) < 64
   fits : marks_on s.args.recs.now s.args.n s.args.q (decode_of s.args.rec.now) < 2 ^ 64
   next :
@@ -84,7 +83,7 @@ link s m p few is some =
       rank = s.requires.2.ranked a.q p low-q create below on;
       next = s.requires.2.linked a.q p low-q create below on
           ∙ ap (λ (y : ℕ). latest_on rs a.q y p) (eqb-true (record_at rs p).key e.key key);
-      conflict = conflict-unseen d rs h a.q e arriving p (omega (arith, all)) s.requires.4 g.keyed;
+      conflict = conflict-unseen d rs h a.q e arriving p (omega (arith, all)) s.requires.6 g.keyed;
     }
 
 -- the test of a Set, by the calls of one turn
@@ -107,12 +106,6 @@ value-of-requires c κs = search rules
 shown-requires : tie.Need-shown-requires invariant-loop decreases-loop
 shown-requires c κs = search rules
 
-add-byte-at : tie.Need-overflow-add-byte-at invariant-loop decreases-loop
-add-byte-at c =
-    let s = c.before.before.before.before.before.before in
-    let (d, h, all, arriving) = s.requires.0 in
-    search (rules, arriving.place, h.few-records)
-
 byte-at-requires-2 : tie.Need-byte-at-requires-2 invariant-loop decreases-loop
 byte-at-requires-2 c κs = search rules
 
@@ -128,8 +121,8 @@ mul-byte-at c = search rules
 cast-byte-at-2 : tie.Need-overflow-cast-byte-at-2 invariant-loop decreases-loop
 cast-byte-at-2 c = search rules
 
-add-byte-at-2 : tie.Need-overflow-add-byte-at-2 invariant-loop decreases-loop
-add-byte-at-2 c = search rules
+add-byte-at : tie.Need-overflow-add-byte-at invariant-loop decreases-loop
+add-byte-at c = search rules
 
 byte-at-requires-3 : tie.Need-byte-at-requires-3 invariant-loop decreases-loop
 byte-at-requires-3 c κs = search rules
@@ -139,19 +132,18 @@ cast-p c = search rules
 
 loop-holds : tie.Need-loop-init invariant-loop decreases-loop
 loop-holds c =
-    let s = c.before.before.before.before.before.before.before.before in
+    let s = c.before.before.before.before.before.before.before.before.before in
     let a = s.args in
     let (d, h, is, arriving) = s.requires.0 in
     let e = decode_of a.rec.now in
-    let low = rw is at arriving.place in
-    let create = (target-parts e (record_at a.recs.now a.q) arriving.target).create in
     let o : c.before.byte-at2.result ≡ number_at a.recs.now a.q
-    = c.before.byte-at2.ensures ∙ s.requires.2.numbered a.q low create in (
+    = c.before.byte-at2.ensures ∙ s.requires.4 in (
       a.n,
       omega arith,
       c.byte-at3.ensures
           ∙ ap₂ (λ (i y : ℕ). get_or a.chains.now (head_at i y) 0) o c.before.before.before.before.byte_at.ensures
-          ∙ s.requires.2.latest a.q low create e.key
+          ∙ s.requires.2.latest a.q (rw is at arriving.place)
+          (target-parts e (record_at a.recs.now a.q) arriving.target).create e.key
           (in-turn d a.recs.now h a.q e arriving).formed.key,
       omega arith,
     )
@@ -159,21 +151,11 @@ loop-holds c =
 is-unseen-at-requires : tie.Need-is-unseen-at-requires invariant-loop decreases-loop
 is-unseen-at-requires c κs =
     let l = c.before.loop in
-    let s = c.before.before.before.before.before.before.before.before.before.before in
+    let s = c.before.before.before.before.before.before.before.before.before.before.before in
     let (m, few, is, marks) = l.invariant in
     let (d, h, all, arriving) = s.requires.0 in
     let t = link s m l.p few is (omega arith) in
-    (omega (arith, t.low, h.few-records, all), s.requires.1, s.requires.3)
-
-add-byte-at-3 : tie.Need-overflow-add-byte-at-3 invariant-loop decreases-loop
-add-byte-at-3 c =
-    let c2 = c.before.before in
-    let l = c2.loop in
-    let s = c2.before.before.before.before.before.before.before.before.before in
-    let (m, few, is, marks) = l.invariant in
-    let (d, h, all, arriving) = s.requires.0 in
-    let t = link s m l.p few is (omega arith) in
-    search (rules, t.low, h.few-records, all)
+    (omega (arith, t.low, h.few-records, all), s.requires.1, s.requires.5)
 
 byte-at-requires-4 : tie.Need-byte-at-requires-4 invariant-loop decreases-loop
 byte-at-requires-4 c κs = search rules
@@ -185,7 +167,7 @@ marked-with-requires : tie.Need-marked-with-requires invariant-loop decreases-lo
 marked-with-requires c κs =
     let c3 = c.before.before.before in
     let l = c3.loop in
-    let s = c3.before.before.before.before.before.before.before.before.before in
+    let s = c3.before.before.before.before.before.before.before.before.before.before in
     let a = s.args in
     let e = decode_of a.rec.now in
     let (m, few, is, marks) = l.invariant in
@@ -202,11 +184,11 @@ marked-with-requires c κs =
     (omega (arith, marks, t.down.marks, t.fits))) in
     (sum, λ y. omega (arith, rank, t.narrow))
 
-add-byte-at-4 : tie.Need-overflow-add-byte-at-4 invariant-loop decreases-loop
-add-byte-at-4 c =
+add-byte-at-2 : tie.Need-overflow-add-byte-at-2 invariant-loop decreases-loop
+add-byte-at-2 c =
     let c4 = c.before.before.before.before in
     let l = c4.loop in
-    let s = c4.before.before.before.before.before.before.before.before.before in
+    let s = c4.before.before.before.before.before.before.before.before.before.before in
     let (m, few, is, marks) = l.invariant in
     let (d, h, all, arriving) = s.requires.0 in
     let t = link s m l.p few is (omega arith) in
@@ -222,19 +204,18 @@ loop-less : tie.Need-loop-smaller invariant-loop decreases-loop
 loop-less c =
     let c5 = c.before.before.before.before.before in
     let l = c5.loop in
-    let s = c5.before.before.before.before.before.before.before.before.before in
+    let s = c5.before.before.before.before.before.before.before.before.before.before in
     let (m, few, is, marks) = l.invariant in
     let t = link s m l.p few is (omega arith) in
     let back = c.byte-at5.ensures ∙ t.next in
-    let low = latest-low s.args.recs.now s.args.q (decode_of s.args.rec.now).key l.p
-    (omega arith) in
+    let low = latest-low s.args.recs.now s.args.q (decode_of s.args.rec.now).key l.p (omega arith) in
     omega (arith, back, low)
 
 loop-again : tie.Need-loop-preserved invariant-loop decreases-loop
 loop-again c =
     let c5 = c.before.before.before.before.before in
     let l = c5.loop in
-    let s = c5.before.before.before.before.before.before.before.before.before in
+    let s = c5.before.before.before.before.before.before.before.before.before.before in
     let a = s.args in
     let e = decode_of a.rec.now in
     let (m, few, is, marks) = l.invariant in
@@ -255,7 +236,7 @@ loop-again c =
 returns : tie.Need-returns invariant-loop decreases-loop
 returns c =
     let l = c.before.loop in
-    let s = c.before.before.before.before.before.before.before.before.before.before in
+    let s = c.before.before.before.before.before.before.before.before.before.before.before in
     let a = s.args in
     let rs = a.recs.now in
     let e = decode_of a.rec.now in
@@ -279,22 +260,20 @@ marks-along-spec =
     byte-at-requires
     value-of-requires
     shown-requires
-    add-byte-at
     byte-at-requires-2
     cast-o
     cast-byte-at
     mul-byte-at
     cast-byte-at-2
-    add-byte-at-2
+    add-byte-at
     byte-at-requires-3
     cast-p
     loop-holds
     is-unseen-at-requires
-    add-byte-at-3
     byte-at-requires-4
     cast-k
     marked-with-requires
-    add-byte-at-4
+    add-byte-at-2
     byte-at-requires-5
     cast-p-2
     loop-less

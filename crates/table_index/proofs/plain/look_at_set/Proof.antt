@@ -1,14 +1,15 @@
 -- `table_index::plain::look_at_set` meets its contract. Assumes nothing.
-use mathlib.Core.Path.{◌≡◌, refl, ap, ◌∙◌}
+use mathlib.Core.Path.{◌≡◌, ap, ◌∙◌}
 use mathlib.Core.Bool.{not}
 use Prim.Native.Nat.{ℕ}
 use lib.Dec.{eqb}
 use lib.ListN.{get_or}
 use borrow.Author.Rules.{rules}
+use borrow.Author.Tests.{ltb-true}
 use Rattle.edit_record.specs.declared.Edit.{Edit}
 use Rattle.edit_record.specs.RecordBytes.{decode_of}
 use Rattle.edit_walk.specs.WalkForms.{place_of}
-use Rattle.table_index.specs.IndexForms.{rank_at, marks_on}
+use Rattle.table_index.specs.IndexForms.{marks_on}
 use Rattle.table_index.proofs.LookByIndex.{target, met_of}
 use Rattle.table_index.proofs.plain.look_at_set.Statement.{statement}
 use Rattle.table_index.proofs.plain.look_at_set.Tie as tie
@@ -16,7 +17,7 @@ use Rattle.table_index.proofs.plain.look_at_set.Tie as tie
 abbrev start-of : tie.After-place-at → tie.Start
 start-of c =
     let c6 = c.before.before.before.before.before.before in
-    c6.before.before
+    c6.before.before.before
 
 abbrev e-of : tie.Start → Edit
 e-of s = decode_of s.args.rec.now
@@ -43,20 +44,11 @@ place-at-requires c κs = search rules
 cast-q : tie.Need-overflow-cast-q
 cast-q c = search rules
 
-add-byte-at : tie.Need-overflow-add-byte-at
-add-byte-at c = search rules
-
 byte-at-requires : tie.Need-byte-at-requires
 byte-at-requires c κs = search rules
 
 cast-object : tie.Need-overflow-cast-object
 cast-object c = search rules
-
-mul-at16 : tie.Need-overflow-mul-at16
-mul-at16 c = search rules
-
-add-at16 : tie.Need-overflow-add-at16
-add-at16 c = search rules
 
 at16-requires : tie.Need-at16-requires
 at16-requires c κs = search rules
@@ -64,30 +56,33 @@ at16-requires c κs = search rules
 cast-sets : tie.Need-overflow-cast-sets
 cast-sets c = search rules
 
-add-byte-at-2 : tie.Need-overflow-add-byte-at-2
-add-byte-at-2 c = search rules
+add-byte-at : tie.Need-overflow-add-byte-at
+add-byte-at c = search rules
 
 byte-at-requires-2 : tie.Need-byte-at-requires-2
 byte-at-requires-2 c κs = search rules
 
 marks-unless-requires : tie.Need-marks-unless-requires
 marks-unless-requires c κs =
-    let c3 = c.before.before.before in
-    let s = start-of c3 in
+    let c4 = c.before.before.before in
+    let s = start-of c4 in
     let a = s.args in
     let (d, h, count, turn, sees) = s.pre.0 in
     let x = s.pre.2 in
-    let t = target d a.recs.now h a.n count a.places.now a.chains.now x (e-of s) s.pre.6 in
-    rw (place_is c3) (
+    let t = target d a.recs.now h a.n count a.places.now a.numbers.now a.counts.now
+    a.chains.now x (e-of s) s.pre.5 in
+    rw (place_is c4) (
       (d, h, count, record { in-turn = turn; place = t.low; target = t.target }, sees),
       s.pre.1,
       x.chained,
+      x.numbers-long,
+      t.number,
+      s.pre.3,
       s.pre.4,
-      s.pre.5,
     )
 
 returns : tie.Need-returns
-returns c =
+returns c ok =
     let c1 = c.before in
     let c2 = c1.before in
     let c4 = c2.before.before in
@@ -95,13 +90,13 @@ returns c =
     let a = s.args in
     let (d, h, count, turn, sees) = s.pre.0 in
     let is = place_is c4 in
-    met_of d a.recs.now h a.n count a.places.now a.chains.now s.pre.2 (e-of s) s.pre.6
-    a.objects.now s.pre.3 _
-    (c2.before.byte_at.ensures ∙ ap (λ (i : ℕ). get_or a.chains.now (rank_at i) 0) is)
+    met_of d a.recs.now h a.n count a.places.now a.numbers.now a.counts.now
+    a.chains.now s.pre.2 (e-of s) s.pre.5 _
+    (c2.before.byte_at.ensures ∙ ap (λ (i : ℕ). get_or a.numbers.now i 0) is)
     c2.at16.ensures
-    refl
     (ap (λ (k : ℕ). not (eqb k 0)) c1.byte-at2.ensures)
     (c.marks-unless.ensures ∙ ap (λ (i : ℕ). marks_on a.recs.now a.n i (e-of s)) is)
+    (ltb-true c2.at16.result _ ok)
 
 pub look-at-set-spec : {M : Type 1} → statement M
 look-at-set-spec =
@@ -111,14 +106,11 @@ look-at-set-spec =
     shared-slice-read-object
     place-at-requires
     cast-q
-    add-byte-at
     byte-at-requires
     cast-object
-    mul-at16
-    add-at16
     at16-requires
     cast-sets
-    add-byte-at-2
+    add-byte-at
     byte-at-requires-2
     marks-unless-requires
     returns)

@@ -10,7 +10,7 @@ use Rattle.table_index.proofs.plain.marks_unless.Tie as tie
 
 returns : tie.Need-returns
 returns c =
-    let s = c.before.before.before.before in
+    let s = c.before.before.before.before.before in
     let a = s.args in
     let (d, h, count, arriving, sees) = s.requires.0 in
     let rs = a.recs.now in
@@ -20,9 +20,9 @@ returns c =
 
 marks-along-requires : tie.Need-marks-along-requires
 marks-along-requires c κs =
-    let s = c.before.before.before.before in
+    let s = c.before.before.before.before.before in
     let (d, h, count, arriving, _) = s.requires.0 in
-    ((d, h, count, arriving), s.requires.1, s.requires.2, s.requires.3, s.requires.4)
+    ((d, h, count, arriving), s.requires.1, s.requires.2, s.requires.3, s.requires.4, s.requires.5, s.requires.6)
 
 returns-2 : tie.Need-returns-2
 returns-2 c = search rules

@@ -5,7 +5,7 @@ use Prim.Native.Nat.{ℕ, ◌≤◌, ◌<◌}
 use native.Mathlib.Omega.{arith}
 use lib.ListN.{length, get_or, set}
 use Rattle.group_step.specs.GroupRows.{most_sets}
-use Rattle.table_index.specs.IndexForms.{head_at, link_at, rank_at, latest_on}
+use Rattle.table_index.specs.IndexForms.{head_at, link_at, latest_on}
 use Rattle.table_index.proofs.ChainsOfSets.{latest-low}
 use Rattle.table_kept.specs.ChainForms.{number_on, PutFrom}
 use Rattle.table_kept.proofs.AlongChains.{LatestBefore, latest-before, rank-fits, put-one-more, put-to-end}
@@ -14,17 +14,17 @@ use Rattle.table_kept.proofs.chained.put_chain.Statement.{statement}
 use Rattle.table_kept.proofs.chained.put_chain.Tie as tie
 
 abbrev invariant-loop : tie.invariant-loop
-invariant-loop out₀ recs n chains q key o p₀ out p =
+invariant-loop out₀ recs n numbers chains q key o p₀ out p =
     (m : ℕ) × (m ≤ n) × (p ≡ latest_on recs q key m) × PutFrom recs n q key m out₀ out
 
 abbrev decreases-loop : tie.decreases-loop
-decreases-loop out₀ recs n chains q key o p₀ out p = p
+decreases-loop out₀ recs n numbers chains q key o p₀ out p = p
 
 -- one link of the chain
 record Linking (s : tie.Start invariant-loop decreases-loop) (m p : ℕ) : Type 0 where
   latest : LatestBefore s.args.recs.now s.args.q s.args.key m p
   low : p < s.args.n
-  rank : get_or s.args.chains.now (rank_at p) 0 ≡ number_on s.args.recs.now s.args.q p
+  rank : get_or s.args.numbers.now p 0 ≡ number_on s.args.recs.now s.args.q p
   fits : number_on s.args.recs.now s.args.q p < most_sets
   next : get_or s.args.chains.now (link_at p) 0 ≡ latest_on s.args.recs.now s.args.q s.args.key p
 
@@ -48,11 +48,6 @@ link s m p few is some =
           ∙ ap (λ (y : ℕ). latest_on rs a.q y p) d.key;
     }
 
-add-byte-at : tie.Need-overflow-add-byte-at invariant-loop decreases-loop
-add-byte-at c =
-    let x = c.before.before.before.requires.0 in
-    search (rules, x.low, x.few)
-
 byte-at-requires : tie.Need-byte-at-requires invariant-loop decreases-loop
 byte-at-requires c κs = search rules
 
@@ -65,8 +60,8 @@ cast-byte-at c = search rules
 mul-byte-at : tie.Need-overflow-mul-byte-at invariant-loop decreases-loop
 mul-byte-at c = search rules
 
-add-byte-at-2 : tie.Need-overflow-add-byte-at-2 invariant-loop decreases-loop
-add-byte-at-2 c = search rules
+add-byte-at : tie.Need-overflow-add-byte-at invariant-loop decreases-loop
+add-byte-at c = search rules
 
 byte-at-requires-2 : tie.Need-byte-at-requires-2 invariant-loop decreases-loop
 byte-at-requires-2 c κs = search rules
@@ -76,10 +71,10 @@ cast-p c = search rules
 
 loop-holds : tie.Need-loop-init invariant-loop decreases-loop
 loop-holds c =
-    let s = c.before.before.before.before.before in
+    let s = c.before.before.before.before.before.before in
     let a = s.args in
     let h = s.requires.0 in
-    let o = c.before.byte_at.ensures ∙ h.chained.numbered a.q h.low h.create in (
+    let o = c.before.byte_at.ensures ∙ h.number in (
       a.n,
       omega arith,
       c.byte-at2.ensures
@@ -87,14 +82,6 @@ loop-holds c =
           ∙ h.chained.latest a.q h.low h.create a.key s.requires.1,
       record { long = refl; put = λ x l on key from. absurd (omega arith); others = λ x l on key. refl },
     )
-
-add-byte-at-3 : tie.Need-overflow-add-byte-at-3 invariant-loop decreases-loop
-add-byte-at-3 c =
-    let l = c.before.loop in
-    let s = c.before.before.before.before.before.before.before in
-    let (m, few, is, h) = l.invariant in
-    let t = link s m l.p few is (omega arith) in
-    search (rules, t.low, s.requires.0.few)
 
 byte-at-requires-3 : tie.Need-byte-at-requires-3 invariant-loop decreases-loop
 byte-at-requires-3 c κs = search rules
@@ -105,7 +92,7 @@ cast-k c = search rules
 cast-out : tie.Need-overflow-cast-out invariant-loop decreases-loop
 cast-out c =
     let l = c.before.before.loop in
-    let s = c.before.before.before.before.before.before.before.before in
+    let s = c.before.before.before.before.before.before.before.before.before in
     let (m, few, is, h) = l.invariant in
     let t = link s m l.p few is (omega arith) in
     search (rules, t.low, s.requires.0.few)
@@ -116,17 +103,17 @@ mul-out c = search rules
 slice-write-out : tie.Need-slice-write-out invariant-loop decreases-loop
 slice-write-out c =
     let l = c.before.before.loop in
-    let s = c.before.before.before.before.before.before.before.before in
+    let s = c.before.before.before.before.before.before.before.before.before in
     let (m, few, is, h) = l.invariant in
     let t = link s m l.p few is (omega arith) in
     let there : c.byte-at3.result < length l.out
     = omega (arith, c.byte-at3.ensures ∙ t.rank, t.fits, s.requires.2, h.long) in
     there
 
-add-byte-at-4 : tie.Need-overflow-add-byte-at-4 invariant-loop decreases-loop
-add-byte-at-4 c =
+add-byte-at-2 : tie.Need-overflow-add-byte-at-2 invariant-loop decreases-loop
+add-byte-at-2 c =
     let l = c.before.before.loop in
-    let s = c.before.before.before.before.before.before.before.before in
+    let s = c.before.before.before.before.before.before.before.before.before in
     let (m, few, is, h) = l.invariant in
     let t = link s m l.p few is (omega arith) in
     search (rules, t.low, s.requires.0.few)
@@ -140,7 +127,7 @@ cast-p-2 c = search rules
 loop-less : tie.Need-loop-smaller invariant-loop decreases-loop
 loop-less c =
     let l = c.before.before.before.loop in
-    let s = c.before.before.before.before.before.before.before.before.before in
+    let s = c.before.before.before.before.before.before.before.before.before.before in
     let (m, few, is, h) = l.invariant in
     let t = link s m l.p few is (omega arith) in
     let low = latest-low s.args.recs.now s.args.q s.args.key l.p (omega arith) in
@@ -149,7 +136,7 @@ loop-less c =
 loop-again : tie.Need-loop-preserved invariant-loop decreases-loop
 loop-again c =
     let l = c.before.before.before.loop in
-    let s = c.before.before.before.before.before.before.before.before.before in
+    let s = c.before.before.before.before.before.before.before.before.before.before in
     let a = s.args in
     let (m, few, is, h) = l.invariant in
     let t = link s m l.p few is (omega arith) in
@@ -171,7 +158,7 @@ same_length c =
 returns : tie.Need-returns invariant-loop decreases-loop
 returns c =
     let l = c.before.loop in
-    let s = c.before.before.before.before.before.before.before in
+    let s = c.before.before.before.before.before.before.before.before in
     let a = s.args in
     let (m, few, is, h) = l.invariant in
     let done : l.p ≡ 0 = omega arith in
@@ -183,22 +170,20 @@ put-chain-spec =
     (tie.spec
     invariant-loop
     decreases-loop
-    add-byte-at
     byte-at-requires
     cast-o
     cast-byte-at
     mul-byte-at
-    add-byte-at-2
+    add-byte-at
     byte-at-requires-2
     cast-p
     loop-holds
-    add-byte-at-3
     byte-at-requires-3
     cast-k
     cast-out
     mul-out
     slice-write-out
-    add-byte-at-4
+    add-byte-at-2
     byte-at-requires-4
     cast-p-2
     loop-less

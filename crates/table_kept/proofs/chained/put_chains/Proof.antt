@@ -16,13 +16,13 @@ use Rattle.table_kept.proofs.chained.put_chains.Statement.{statement}
 use Rattle.table_kept.proofs.chained.put_chains.Tie as tie
 
 abbrev invariant-loop : tie.invariant-loop
-invariant-loop out₀ recs n chains q y₀ out y =
+invariant-loop out₀ recs n numbers chains q y₀ out y =
     (y ≤ keys)
     × (length out ≡ length out₀)
     × ((x : ℕ) → x < n → is_on recs q x ≡ true → (record_at recs x).key < y → get_or out (number_on recs q x) 0 ≡ x)
 
 abbrev decreases-loop : tie.decreases-loop
-decreases-loop out₀ recs n chains q y₀ out y = keys - y
+decreases-loop out₀ recs n numbers chains q y₀ out y = keys - y
 
 loop-holds : tie.Need-loop-init invariant-loop decreases-loop
 loop-holds c = (omega arith, refl, λ x l on key. absurd (omega arith))
@@ -32,7 +32,7 @@ cast-loop c = search rules
 
 put-chain-requires : tie.Need-put-chain-requires invariant-loop decreases-loop
 put-chain-requires c κs =
-    let s = c.before.before.before.before.before.before in
+    let s = c.before.before.before.before.before.before.before in
     let l = c.before.before.loop in
     (s.requires.0, c.before.loop-test.true, omega (arith, l.invariant.1, s.requires.1))
 
@@ -46,7 +46,7 @@ loop-again : tie.Need-loop-preserved invariant-loop decreases-loop
 loop-again c =
     let more = c.before.before.before.before.loop-test.true in
     let l = c.before.before.before.before.before.loop in
-    let rs = c.before.before.before.before.before.before.before.before.before.args.recs.now in
+    let rs = c.before.before.before.before.before.before.before.before.before.before.args.recs.now in
     let h = c.before.before.put-chain.ensures in (
       omega (arith, more),
       h.long ∙ l.invariant.1,
@@ -62,7 +62,7 @@ same_length c = c.before.loop.invariant.1
 returns : tie.Need-returns invariant-loop decreases-loop
 returns c =
     let l = c.before.loop in
-    let s = c.before.before.before.before.before in
+    let s = c.before.before.before.before.before.before in
     let a = s.args in
     let h = s.requires.0 in
     let done : l.y ≡ keys = omega arith in
