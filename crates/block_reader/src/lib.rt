@@ -3,6 +3,8 @@
 // `reader_of`, `next_record` and `second` are walked by hand. `take`, which decodes, has plain parameters and is
 // covered; `second` has plain parameters too, and lends a reader of its own. Assumes nothing of the stretch, the form
 // and the place.
+#![tactic(auto)]
+
 ghost use Rattle.std.specs.Prelude.{◌≡◌, ◌+◌, leb, drop};
 ghost use Rattle.edit_form.specs.OldForm.{length_from};
 ghost use Rattle.block_reader.specs.Reader.{taken_at, given_by, moved_on, second_of};
@@ -10,21 +12,21 @@ ghost use Rattle.block_reader.specs.Reader.{taken_at, given_by, moved_on, second
 use edit_record::Edit;
 
 // A record, or the end mark, where nothing is found and the edit has zeros alone.
-#[derive(Drop)]
+#[derive(Clone, Copy)]
 pub struct Given {
     pub found: bool,
     pub edit: Edit,
 }
 
 // What was given, and the place after it.
-#[derive(Drop)]
+#[derive(Clone, Copy)]
 pub struct TakenNext {
     pub given: Given,
     pub place: usize,
 }
 
 // A stretch of records, their form, and the place of the one to be given next.
-#[derive(Drop)]
+#[derive(Clone, Copy)]
 pub struct Reader<'a> {
     pub stretch: &'a [u8],
     pub form: u8,

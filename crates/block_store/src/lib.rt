@@ -1,4 +1,6 @@
 // The stored block of document 01: writing it, and reading a file.
+#![tactic(auto)]
+
 ghost use Rattle.std.specs.Prelude.{◌≡◌, true, ◌++◌, ◌+◌, ◌-◌, ◌*◌, ◌≤◌, length, drop};
 ghost use Rattle.edit_record.specs.Layout.{place_length};
 ghost use Rattle.edit_form.specs.OldForm.{start_of, chained};
@@ -99,7 +101,7 @@ pub fn write(
 }
 
 // An answer to a file that is read, the index of the refused record, and the counters after it.
-#[derive(Drop)]
+#[derive(Clone, Copy)]
 pub struct FileRead {
     pub answer: Answer,
     pub index: usize,

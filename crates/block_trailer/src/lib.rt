@@ -1,4 +1,6 @@
 // The trailer of document 01's stored block, its last 8 bytes, and locating a block in a file by it.
+#![tactic(auto)]
+
 ghost use Rattle.std.specs.Prelude.{◌≡◌, cond, ◌-◌, ◌≤◌, eqb, length};
 ghost use Rattle.edit_record.specs.RecordBytes.{four};
 ghost use Rattle.edit_form.specs.OldForm.{start_of};
@@ -25,7 +27,7 @@ const AT_FORM: usize = 3;
 const AT_DISTANCE: usize = 4;
 
 // What a file's trailer says: an answer, N, the form and the number of records; and where the first of them starts.
-#[derive(Drop)]
+#[derive(Clone, Copy)]
 pub struct Trailer {
     pub answer: Answer,
     pub sites: u8,

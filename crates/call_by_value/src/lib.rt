@@ -1,5 +1,7 @@
 // The calls that change the tables, with document 01's numbers for answers: the counters go in by value and come back
 // beside the answer. Assumes nothing of what is lent.
+#![tactic(auto)]
+
 ghost use Rattle.std.specs.Prelude.{◌≡◌};
 ghost use Rattle.table_drawing.specs.Tables.{tables_of};
 ghost use Rattle.table_drawing.specs.AnswerNumbers.{outcome_of};
@@ -12,7 +14,7 @@ use table_drawing::Counters;
 
 // The number of an answer, and the counters after the call.
 #[repr(C)]
-#[derive(Drop)]
+#[derive(Clone, Copy)]
 pub struct Answered {
     pub number: u8,
     pub counters: Counters,
@@ -65,7 +67,7 @@ pub fn arrive_by_value(
 
 // The number of the answer to a file that is read, and the index of the refused record.
 #[repr(C)]
-#[derive(Drop)]
+#[derive(Clone, Copy)]
 pub struct FileAnswer {
     pub number: u8,
     pub index: usize,
@@ -73,7 +75,7 @@ pub struct FileAnswer {
 
 // An answer to a file that is read, and the counters after it.
 #[repr(C)]
-#[derive(Drop)]
+#[derive(Clone, Copy)]
 pub struct FileTaken {
     pub answer: FileAnswer,
     pub counters: Counters,

@@ -2,6 +2,8 @@
 // input has an answer, so none of them asks anything of its caller but that a pointer points to as many elements as it
 // says. Answers are the documents' numbers. A call that changes the counters takes them by `&mut`, where the caller
 // keeps them; any other takes them by value.
+#![tactic(auto)]
+
 ghost use Rattle.std.specs.Prelude.{◌≡◌};
 ghost use Rattle.table_drawing.specs.Tables.{tables_of};
 ghost use Rattle.table_drawing.specs.AnswerNumbers.{outcome_of, number_of};
@@ -98,7 +100,7 @@ pub extern "C" fn spireslate_check(
 
 // The number of the answer to a call that writes, and the number of bytes written.
 #[repr(C)]
-#[derive(Drop)]
+#[derive(Clone, Copy)]
 pub struct WriteAnswer {
     pub number: u8,
     pub bytes: usize,
@@ -172,7 +174,7 @@ pub extern "C" fn spireslate_list(
 
 // The number of the answer to a call that gives groups, and how many there are.
 #[repr(C)]
-#[derive(Drop)]
+#[derive(Clone, Copy)]
 pub struct GroupsAnswer {
     pub number: u8,
     pub count: usize,
@@ -204,7 +206,7 @@ pub extern "C" fn spireslate_groups(
 
 // The number of the answer to a file, what its trailer says, and where the stretch of its records starts.
 #[repr(C)]
-#[derive(Drop)]
+#[derive(Clone, Copy)]
 pub struct LocateAnswer {
     pub number: u8,
     pub sites: u8,

@@ -1,6 +1,8 @@
 // The calls of the interface to which the counters are lent by `&mut`, made from Rattle: each function here has plain
 // parameters, lends a local to one of those calls, whose proofs are walked by hand, and has the same contract. Whoever
 // calls these needs no walk. Assumes nothing of what is lent.
+#![tactic(auto)]
+
 ghost use Rattle.std.specs.Prelude.{◌≡◌};
 ghost use Rattle.table_drawing.specs.Tables.{tables_of};
 ghost use Rattle.table_drawing.specs.AnswerNumbers.{outcome_of};

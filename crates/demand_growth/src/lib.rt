@@ -1,2 +1,3 @@
 // Mathematics alone, about the definitions of the crates below: nothing that the list has shown is lost when more
 // edits arrive.
+#![tactic(auto)]

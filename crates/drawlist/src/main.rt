@@ -1,6 +1,8 @@
 // Reads a file on standard input and prints the list of the drawing that it stores, or the line of its refusal, on
 // standard output; with arguments, the same for each file that they name, one after another. What is printed is the
 // proved function `list_file::print_file`.
+#![tactic(auto)]
+
 ghost use Rattle.std.specs.Prelude.{◌≡◌, ◌+◌, ◌≤◌, length};
 ghost use Rattle.block_trailer.specs.Trailer.{file_limit};
 ghost use Rattle.list_print.specs.Printing.{list_length};

@@ -1,5 +1,7 @@
 // The causal tests of document 01: before, concurrent, conflict; the values that conflict compares; and the sum by
 // which the total order goes first. Each answers what the definition says for every edit, well formed or not.
+#![tactic(auto)]
+
 ghost use Rattle.std.specs.Prelude.{◌≡◌, ◌≤◌, length};
 ghost use Rattle.edit_record.specs.Layout.{record_length};
 ghost use Rattle.edit_record.specs.RecordBytes.{decode_of};

@@ -1,4 +1,6 @@
 // Answer 1 of document 01, of a record's bytes: whether its length is that of a record, and each field of it fit.
+#![tactic(auto)]
+
 ghost use Rattle.std.specs.Prelude.{◌≡◌, false, ◌&&◌, ◌≤◌, leb, length, drop};
 ghost use Rattle.edit_record.specs.declared.Edit.{Edit};
 ghost use Rattle.edit_record.specs.Layout.{most_sites, vector_at, members_at, most_members, record_length};

@@ -1,5 +1,7 @@
 // The old and the long form of a stored record: how many bytes the record at the front of what is left of a stretch
 // has, an old one as a long one, and the edit and the site in it.
+#![tactic(auto)]
+
 ghost use Rattle.std.specs.Prelude.{◌≡◌, ◌++◌, ◌+◌, ◌≤◌, length, get_or, take, drop};
 ghost use Rattle.edit_record.specs.Layout.{site_at, record_length};
 ghost use Rattle.edit_record.specs.RecordBytes.{decode_of};

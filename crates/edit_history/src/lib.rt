@@ -1,5 +1,7 @@
 // The edits held, in the order of arrival: answers 2 to 5 of document 01 against them, and what an arriving edit asks
 // of them.
+#![tactic(auto)]
+
 ghost use Rattle.std.specs.Prelude.{◌≡◌, true, false, cond, ◌||◌, ◌+◌, ◌^◌, ◌≤◌, ◌<◌, length, get_or, leb, ltb};
 ghost use Rattle.edit_record.specs.Layout.{most_sites, two_bytes};
 ghost use Rattle.edit_record.specs.Answer1.{entry_of};
@@ -15,7 +17,7 @@ pub const RECORDS: usize = 256;
 // What an arriving edit asks of the edits held: whether 4 applies, whether its target is held, the number of its
 // object, how many Sets that has, which of them conflict with it by document 01's rule, bit i for the i-th, and whether
 // one of them is limited.
-#[derive(Drop)]
+#[derive(Clone, Copy)]
 pub struct Surveyed {
     pub torn: bool,
     pub found: bool,

@@ -1,6 +1,8 @@
 // The short way through 1 to 5 that most records take: a record whose vector is that of one before it, with one edit
 // more of its own, has seen nothing that was not tested with that one. And whether the walk over the records of a table
 // goes on with a record.
+#![tactic(auto)]
+
 pub mod whole;
 
 ghost use Rattle.std.specs.Prelude.{◌≡◌, true, false, not, ◌&&◌, ◌||◌, ℕ, ◌+◌, ◌*◌, ◌≤◌, ◌<◌, leb, length, get_or};

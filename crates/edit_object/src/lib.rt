@@ -1,5 +1,7 @@
 // One object among the records, looked for by the name of its Create: whether the Create is held, and where the
 // object's Sets stand.
+#![tactic(auto)]
+
 ghost use Rattle.std.specs.Prelude.{◌≡◌, ◌&&◌, map, ◌≤◌, ◌<◌, ltb, length, take};
 ghost use Rattle.edit_record.specs.Layout.{record_length};
 ghost use Rattle.edit_record.specs.RecordBytes.{decode_of};

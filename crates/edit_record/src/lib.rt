@@ -1,4 +1,6 @@
 // The edit record of document 01: sites and sequence numbers, and a record's bytes to an edit and back.
+#![tactic(auto)]
+
 mod lists;
 mod writing;
 
@@ -69,16 +71,16 @@ pub const SEQ_NUMBERS: u32 = 65536;
 pub const VALUES: u64 = 4294967296;
 
 // The number of a laptop. It is never taken for a sequence number.
-#[derive(Drop)]
+#[derive(Clone, Copy)]
 pub struct Site(pub u8);
 
 // The number of an edit among those of its site, from 1 on; in a vector, how many of them were applied.
-#[derive(Drop)]
+#[derive(Clone, Copy)]
 pub struct Seq(pub u16);
 
 // An edit, field by field in the record's order; `tsite` and `tseq` name the target. A member is the number in its
 // four bytes, and `count` that in the four where the count and the zero bytes stand: zeros but in a limited Set.
-#[derive(Drop)]
+#[derive(Clone, Copy)]
 pub struct Edit {
     pub kind: u8,
     pub site: Site,

@@ -1,4 +1,6 @@
 // The sum of document 02's Req 11: the words of the records, added up and wrapped at 32 bits.
+#![tactic(auto)]
+
 ghost use Rattle.std.specs.Prelude.{◌≡◌, ◌+◌, ◌*◌, ◌<◌, ◌≤◌, length};
 ghost use Rattle.edit_record.specs.Layout.{most_members, place_length};
 ghost use Rattle.edit_record.specs.RecordBytes.{span_of};

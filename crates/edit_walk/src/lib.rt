@@ -1,6 +1,8 @@
 // The walk that tests the records of a table: whether each passes answers 1 to 5 of document 01 after those before it,
 // with the counts of the edits and the index of their places that it keeps. The loop is its caller's, and the short way
 // that most records take stands in `edit_next`.
+#![tactic(auto)]
+
 ghost use Rattle.std.specs.Prelude.{◌≡◌, ℕ, ◌+◌, ◌-◌, ◌*◌, ◌≤◌, ◌<◌, length, get_or};
 ghost use Rattle.math_lists.specs.NumbersBelow.{sum};
 ghost use Rattle.edit_record.specs.Layout.{most_sites, two_bytes, record_length, place_length};

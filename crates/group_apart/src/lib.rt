@@ -1,5 +1,7 @@
 // The step on a row of which no group is part of another, as in every row that has the groups of its Sets. Where none
 // conflicts with the new Set it takes one pass; where some do, most often little more (`covered`).
+#![tactic(auto)]
+
 mod covered;
 mod gaining;
 

@@ -1,6 +1,8 @@
 // The second engine: the groups of an object worked out with no arrival order, from the conflicts of its Sets alone.
 // The Sets are decided one after another, the last first, each left out before it is taken in, so that the groups come
 // in ascending order. `conflicts` has a number for each Set, whose bits are the Sets that it conflicts with.
+#![tactic(auto)]
+
 ghost use Rattle.std.specs.Prelude.{◌≡◌, true, ℕ, ◌+◌, ◌^◌, ◌≤◌, ◌<◌, length};
 ghost use Rattle.math_maximal.specs.Groups.{bit};
 ghost use Rattle.group_step.specs.GroupRows.{most_groups, most_sets, settled};

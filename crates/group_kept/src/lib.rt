@@ -1,6 +1,8 @@
 // The rows of one box that has a limited Set, kept from one Set to the next: all of them in one slice, with the names
 // of the Sets beside them. A Set that arrives is judged by them and then put down behind the others, so that nothing is
 // worked out twice.
+#![tactic(auto)]
+
 ghost use Rattle.std.specs.Prelude.{◌≡◌, List, [], ◌∷◌, ◌++◌, ℕ, suc, ◌^◌, ◌≤◌, ◌<◌, length, get_or};
 ghost use Rattle.math_contexts.specs.Box.{Lawful};
 ghost use Rattle.edit_record.specs.declared.Edit.{Edit};
@@ -29,7 +31,7 @@ pub const ROWS: usize = SEES + RECENT;
 
 // What is put down of a Set: those before it that conflict with it by document 01's rule, its context, and those that
 // its author had seen.
-#[derive(Drop)]
+#[derive(Clone, Copy)]
 pub struct Noted {
     pub row: u64,
     pub context: u64,

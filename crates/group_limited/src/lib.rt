@@ -2,6 +2,8 @@
 // 06): whether each limited one names a version, and which of the Sets held an arriving one conflicts with. The Sets
 // are taken one after another, each by the rows that tell of those before it: bit j of `plain[i]` says that Sets i and
 // j conflict by document 01's rule, and `ctx[i]` is the context of Set i.
+#![tactic(auto)]
+
 ghost use Rattle.std.specs.Prelude.{◌≡◌, List, [], ◌∷◌, ◌++◌, ℕ, suc, ◌^◌, ◌≤◌, ◌<◌, length, get_or};
 ghost use Rattle.math_lists.specs.SortedLists.{any};
 ghost use Rattle.math_contexts.specs.Box.{Lawful};
@@ -24,7 +26,7 @@ use edit_record::{AT_KIND, LIMITED, PLACE};
 use group_sight::{RECENT, list_of, marks_of, put_names};
 
 // All that is asked of the Sets before a Set, and whether it is limited.
-#[derive(Drop)]
+#[derive(Clone, Copy)]
 pub struct Sight {
     pub plain: u64,
     pub seen: u64,
@@ -35,7 +37,7 @@ pub struct Sight {
 
 // What is told of a Set by those before it: those that conflict with it by document 01's rule, those that its author
 // had seen, its context, whether 16 is given to it, and those that conflict with it.
-#[derive(Drop)]
+#[derive(Clone, Copy)]
 pub struct Told {
     pub row: u64,
     pub seen: u64,
@@ -45,7 +47,7 @@ pub struct Told {
 }
 
 // What an arriving Set is told: whether 16 is given to it, and which of the Sets held conflict with it.
-#[derive(Drop)]
+#[derive(Clone, Copy)]
 pub struct Judged {
     pub nameless: bool,
     pub conflicts: u64,

@@ -1,6 +1,8 @@
 // Answer 16 over a whole table of records (document 02, Req 06): whether it is given to none of them, each after those
 // before it. The Sets of an object are tested together, by the places of their records, and only where one of them is
 // limited; where no record is, one pass over the kinds is all that it costs.
+#![tactic(auto)]
+
 mod chain;
 
 ghost use Rattle.std.specs.Prelude.{◌≡◌, true, ℕ, ◌≤◌, ◌<◌, length};

@@ -1,6 +1,8 @@
 // One Set against those before it, by the places of their records: which of them conflict with it by document 01's
 // rule, which its author had seen and which it lists, and whether it lists a name that is that of none which he had
 // seen. The names of those before it are put down once for all of them.
+#![tactic(auto)]
+
 pub mod seen;
 
 ghost use Rattle.std.specs.Prelude.{◌≡◌, true, List, ℕ, ◌^◌, ◌≤◌, ◌<◌, length, take, get_or};
@@ -29,7 +31,7 @@ pub const RECENT: usize = 16;
 
 // What is asked of each of the Sets before a Set: bit i of `plain` says that the i-th conflicts with it by document
 // 01's rule, and of `seen` that its author had seen the i-th.
-#[derive(Drop)]
+#[derive(Clone, Copy)]
 pub struct Marks {
     pub plain: u64,
     pub seen: u64,
@@ -37,7 +39,7 @@ pub struct Marks {
 
 // What of a Set is held against those that its author had not seen: whether it is one, its name, its target and its key
 // as one number, and its value as it is compared.
-#[derive(Drop)]
+#[derive(Clone, Copy)]
 pub struct Side {
     pub set: bool,
     pub name: u32,
@@ -46,7 +48,7 @@ pub struct Side {
 }
 
 // The Sets before a Set that it lists, and whether it lists a name that is that of none which its author had seen.
-#[derive(Drop)]
+#[derive(Clone, Copy)]
 pub struct NamedBefore {
     pub named: u64,
     pub strange: bool,

@@ -1,5 +1,7 @@
 // What the program drawlist prints of a file, on slices: the list of the drawing that the file stores, or the line of
 // its refusal. Tables of an accepted file are sound by proof, so their soundness is not tested.
+#![tactic(auto)]
+
 ghost use Rattle.std.specs.Prelude.{◌≡◌, ◌≤◌, length, take};
 ghost use Rattle.list_print.specs.Printing.{list_length};
 ghost use Rattle.list_file.specs.PrintedFile.{printed_of};

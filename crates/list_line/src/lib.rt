@@ -1,5 +1,7 @@
 // The line of a version. The Sets of the object are given twice: those in dispute by their names, and all by their
 // stamps. Pieces of it are kept for the lines that follow.
+#![tactic(auto)]
+
 pub mod alone;
 pub mod pieces;
 

@@ -1,4 +1,6 @@
 // The lines of the printed list by their numbers: line 0, and the line of each version.
+#![tactic(auto)]
+
 ghost use Rattle.std.specs.Prelude.{◌≡◌, true, [], ◌≤◌, ◌<◌, length, get_or, take};
 ghost use Rattle.math_lists.specs.NumbersBelow.{sum};
 ghost use Rattle.edit_walk.specs.WalkForms.{Indexed};
@@ -24,7 +26,7 @@ use table_drawing::{Answer, Counters, ENTRY};
 use table_output::{Written, put_at};
 
 // Where a line of a version is found: whether there is one, the object, and which of its versions it is.
-#[derive(Drop)]
+#[derive(Clone, Copy)]
 struct LinePlace {
     ok: bool,
     object: usize,
@@ -32,7 +34,7 @@ struct LinePlace {
 }
 
 // A line put at the front of a buffer: whether there is one of that number, and how many bytes it has.
-#[derive(Drop)]
+#[derive(Clone, Copy)]
 struct PutLine {
     ok: bool,
     bytes: usize,

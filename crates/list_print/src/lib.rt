@@ -1,4 +1,6 @@
 // The printed list of versions of document 01: all lines in one pass.
+#![tactic(auto)]
+
 pub mod all_lines;
 mod object_lines;
 

@@ -1,5 +1,7 @@
 // Pieces of a line of text: bytes put behind the first n of a buffer, which stay. Each function says how many bytes
 // stand there then. Nothing here speaks of an edit.
+#![tactic(auto)]
+
 ghost use Rattle.std.specs.Prelude.{◌≡◌, [], ◌∷◌, ◌++◌, ◌+◌, ◌^◌, ◌≤◌, ◌<◌, length, take};
 ghost use Rattle.list_text.specs.Decimal.{decimal};
 ghost use Rattle.list_text.specs.Pieces.{dotted, equated};

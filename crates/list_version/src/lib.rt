@@ -1,5 +1,7 @@
 // The versions of an object: their identifiers and their values. The Sets of the object are given by their places in
 // the table of records, in the order of arrival: bit i of a group stands for the i-th place.
+#![tactic(auto)]
+
 pub mod disputes;
 pub mod sets;
 pub mod values;

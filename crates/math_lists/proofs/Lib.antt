@@ -7,7 +7,6 @@ pub mod ByPlaces
 pub mod GrownAtEnd
 pub mod PutInOrder
 pub mod ReplacedPart
-pub mod LentLocal
 pub mod ListMembers
 pub mod Rearranged
 pub mod PairsInList

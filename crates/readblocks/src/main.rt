@@ -1,6 +1,8 @@
 // Reads each file that its arguments name, and says on one line what became of it: the answer, the index of the refused
 // record, N, the number of records held, and whether the drawing, written again, is the stretch that was located and
 // its trailer, as a long block is. It serves the comparison with files made elsewhere (data/, by tools/blocks).
+#![tactic(auto)]
+
 ghost use Rattle.std.specs.Prelude.{◌≡◌, length};
 
 use block_store::FileRead;

@@ -1,4 +1,6 @@
 // What an arriving edit does to the tables: document 01, 'Numbers given back' and 'Conflict, groups, identifiers'.
+#![tactic(auto)]
+
 pub mod asked;
 mod judging;
 
@@ -22,7 +24,7 @@ use table_drawing::{Answer, Counters, ENTRY};
 
 // An answer to an arriving edit, and the counters after it.
 #[repr(C)]
-#[derive(Drop)]
+#[derive(Clone, Copy)]
 pub struct Arrived {
     pub answer: Answer,
     pub counters: Counters,
@@ -30,7 +32,7 @@ pub struct Arrived {
 
 // Of the Sets of an object how many they are, which of them conflict with an edit by document 01's rule, bit i for the
 // i-th, and whether one is limited.
-#[derive(Drop)]
+#[derive(Clone, Copy)]
 pub struct Mates {
     pub sets: usize,
     pub plain: u64,
@@ -38,7 +40,7 @@ pub struct Mates {
 }
 
 // Whether 16 is given to none of the records held, and what is judged of an arriving one if so.
-#[derive(Drop)]
+#[derive(Clone, Copy)]
 pub struct Tested {
     pub named: bool,
     pub judged: Judged,

@@ -1,6 +1,8 @@
 // The separate check of document 01: whether tables are what their records give from an empty drawing. What can be
 // untrue in sound tables is the rows of groups alone, so each row is worked out anew from the Sets of its object, and
 // held against the table's. That tells 16 of these Sets as well, which is left out where soundness is tested.
+#![tactic(auto)]
+
 ghost use Rattle.std.specs.Prelude.{◌≡◌, true, false, [], ◌∷◌, ℕ, ◌+◌, ◌*◌, ◌^◌, ◌≤◌, ◌<◌, length, take};
 ghost use Rattle.math_lists.specs.NumbersBelow.{same_list};
 ghost use Rattle.math_lists.specs.SortedLists.{any, elem, Ascending};
@@ -59,7 +61,7 @@ fn is_row(groups: &[u64], o: usize, g: usize, gs: &[u64], r: usize) -> bool
 }
 
 // How many groups there are after a step, and which Sets are yet to be put into all of them.
-#[derive(Drop)]
+#[derive(Clone, Copy)]
 struct Stepped {
     count: usize,
     common: u64,

@@ -1,4 +1,6 @@
 // The lent tables of document 01, its answers, and opening.
+#![tactic(auto)]
+
 pub mod entries;
 
 ghost use Rattle.std.specs.Prelude.{◌≡◌, ◌&&◌, eqb};
@@ -14,7 +16,7 @@ use group_step::{GROUPS, OBJECTS};
 pub const ENTRY: usize = 3;
 
 // The answers of documents 01 and 02; `number_of` gives each its number.
-#[derive(Drop)]
+#[derive(Clone, Copy)]
 pub enum Answer {
     Done,
     Malformed,
@@ -36,7 +38,7 @@ pub enum Answer {
 // The counters of a drawing: N, the records held, the objects, how many edits of each site are held, and the sum of the
 // records' words.
 #[repr(C)]
-#[derive(Drop)]
+#[derive(Clone, Copy)]
 pub struct Counters {
     pub sites: u8,
     pub records: u16,
@@ -46,7 +48,7 @@ pub struct Counters {
 }
 
 // An answer to a call that opens a drawing, and its counters.
-#[derive(Drop)]
+#[derive(Clone, Copy)]
 pub struct Opened {
     pub answer: Answer,
     pub counters: Counters,

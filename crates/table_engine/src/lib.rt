@@ -1,5 +1,7 @@
 // The second engine at the tables (document 02, Req 07): the groups of a box from the conflicts of its Sets, with no
 // arrival order, to be held against the row that the arriving step left.
+#![tactic(auto)]
+
 ghost use Rattle.std.specs.Prelude.{◌≡◌, false, ◌≤◌, length};
 ghost use Rattle.math_lists.specs.SortedLists.{Asc, any};
 ghost use Rattle.edit_record.specs.Answer1.{is_limited};
@@ -30,14 +32,14 @@ use table_sets::by_mask::mark_set;
 pub const DECIDED: usize = 20;
 
 // An answer to a call that gives groups, and how many there are.
-#[derive(Drop)]
+#[derive(Clone, Copy)]
 pub struct Enumerated {
     pub answer: Answer,
     pub count: usize,
 }
 
 // What is found before the search: the refusal, if there is one, and how many Sets the box has.
-#[derive(Drop)]
+#[derive(Clone, Copy)]
 struct Prepared {
     answer: Answer,
     sets: usize,

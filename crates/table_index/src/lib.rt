@@ -1,6 +1,8 @@
 // The index of a drawing's records: where each edit stands, the number of each Create's object, and for each object how
 // many Sets it has and a chain of those of each key. By it an arriving edit is surveyed without being held against
 // every record: a Set is held against those of its own key alone, from the latest one back.
+#![tactic(auto)]
+
 pub mod chain;
 pub mod plain;
 
@@ -23,7 +25,7 @@ use table_drawing::Counters;
 use table_drawing::entries::at16;
 
 // Whether 4 is given to an edit, and whether its target is held and was seen.
-#[derive(Drop)]
+#[derive(Clone, Copy)]
 pub struct Aim {
     pub torn: bool,
     pub held: bool,
@@ -32,7 +34,7 @@ pub struct Aim {
 // Whether none of 1 to 6 is given to a record, as far as it is looked at; and of a Set whether a Set of its object is
 // limited, the number of its object, how many Sets that has, and which of them conflict with it by document 01's rule,
 // bit i for the i-th.
-#[derive(Drop)]
+#[derive(Clone, Copy)]
 pub struct Looked {
     pub ok: bool,
     pub limited: bool,

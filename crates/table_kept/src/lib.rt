@@ -1,6 +1,8 @@
 // What is judged of an arriving edit where records are taken one after another: the rows of the last box that had a
 // limited Set are kept, with the names of its Sets, so that the next Set of that box finds them as it needs them. For
 // another box they are worked out anew.
+#![tactic(auto)]
+
 pub mod chained;
 
 ghost use Rattle.std.specs.Prelude.{◌≡◌, true, ◌&&◌, ◌||◌, cond, List, [], ◌∷◌, ◌++◌, map, ℕ, ◌+◌, eqb, ltb, length, get_or};

@@ -1,5 +1,7 @@
 // One record taken at tables that are sound, by the index of their records and by what is kept of a box with a limited
 // Set: the short way (`short`), or the long one, which says why it is refused.
+#![tactic(auto)]
+
 pub mod short;
 
 ghost use Rattle.std.specs.Prelude.{[], ◌∷◌, ◌++◌};

@@ -1,5 +1,7 @@
 // Bytes put at a start that the caller names within a longer output: there is room for all of them, or nothing is
 // written. Bytes before and after them stay.
+#![tactic(auto)]
+
 ghost use Rattle.std.specs.Prelude.{◌≡◌, ◌++◌, ◌+◌, ◌≤◌, leb, length, take, drop};
 ghost use Rattle.table_drawing.specs.AnswerNumbers.{number_of};
 ghost use Rattle.table_output.specs.Output.{writing, written_at};
@@ -7,7 +9,7 @@ ghost use Rattle.table_output.specs.Output.{writing, written_at};
 use table_drawing::Answer;
 
 // An answer to a call that writes, and the number of bytes written.
-#[derive(Drop)]
+#[derive(Clone, Copy)]
 pub struct Written {
     pub answer: Answer,
     pub bytes: usize,

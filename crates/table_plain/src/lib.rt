@@ -1,5 +1,7 @@
 // The short way of a record: what was found of it in one look is all that is asked, and what it changes is written
 // where it stands. A record that it does not take goes the long way, which says why.
+#![tactic(auto)]
+
 ghost use Rattle.std.specs.Prelude.{◌≡◌, true, false, cond, ℕ, ◌+◌, ◌-◌, ◌*◌, ◌^◌, ◌≤◌, ◌<◌, length, set, take, drop, replicate};
 ghost use Rattle.math_lists.specs.SortedLists.{elem, Ascending};
 ghost use Rattle.math_maximal.specs.Step.{step};
@@ -23,7 +25,7 @@ use table_drawing::ENTRY;
 use table_index::Looked;
 
 // Whether a record was taken, how many objects there are then, and the sum.
-#[derive(Drop)]
+#[derive(Clone, Copy)]
 pub struct Took {
     pub ok: bool,
     pub objects: u16,

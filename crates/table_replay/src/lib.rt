@@ -1,4 +1,6 @@
 // Records taken one after another from an empty drawing.
+#![tactic(auto)]
+
 ghost use Rattle.std.specs.Prelude.{◌≡◌, true, [], ◌≤◌, length, replicate};
 ghost use Rattle.edit_record.specs.Layout.{most_sites};
 ghost use Rattle.edit_form.specs.OldForm.{start_of, stored_in};
@@ -22,7 +24,7 @@ use table_index::chain::CHAINS;
 use table_kept::NAMES;
 
 // The answer to the first refused record and its index, or 0 and 0; and the counters after the records before it.
-#[derive(Drop)]
+#[derive(Clone, Copy)]
 pub struct Taken {
     pub answer: Answer,
     pub index: usize,

@@ -1,6 +1,8 @@
 // Where the Sets of each object stand, in one array of as many entries as there are records: the entry of a Create has
 // the place of the first Set on it, and the entry of a Set the place of the next one on the same Create. One pass over
 // the records makes this chain; then the Sets of an object are found without a look at those of others.
+#![tactic(auto)]
+
 pub mod by_key;
 pub mod by_mask;
 pub mod copied;

@@ -1,5 +1,7 @@
 // When tables are sound, whatever stands in them: the records walked once, then the counts, the objects and the unused
 // entries.
+#![tactic(auto)]
+
 mod gathering;
 mod objects;
 mod unused;
@@ -22,7 +24,7 @@ use table_drawing::{Counters, ENTRY};
 
 // What one pass over the records gathers: whether all are right, and then how many edits of each site they are, the sum
 // of their words and how many of them are Creates.
-#[derive(Drop)]
+#[derive(Clone, Copy)]
 pub struct Tally {
     pub right: bool,
     pub held: [u16; SITES],

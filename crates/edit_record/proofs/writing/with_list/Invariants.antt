@@ -1,0 +1,23 @@
+-- `edit_record::writing::with_list` meets its contract: the bytes of the count and of the first i members stand.
+-- Assumes nothing.
+use mathlib.Core.Path.{◌≡◌, sym, ap, ◌∙◌}
+use mathlib.Core.List.{List, ◌++◌, append-nil}
+use Prim.Native.Nat.{ℕ, ◌+◌, ◌*◌, ◌≤◌, ◌<◌, ◌-◌}
+use native.Mathlib.Numerals.{add-one}
+use native.Mathlib.Omega.{arith}
+use lib.ListN.{length, take}
+use lib.Seq.{take_all}
+use borrow.Author.Rules.{rules}
+use Rattle.edit_record.specs.Layout.{record_length, members_at, most_members, place_length}
+use Rattle.edit_record.specs.RecordBytes.{four_bytes}
+use Rattle.edit_record.proofs.Encoding.{one-four-more, count-first}
+use Rattle.edit_record.proofs.writing.with_list.Given as goal
+
+abbrev pub invariant-loop-i : goal.invariant-loop-i
+invariant-loop-i l =
+    (l.i ≤ most_members)
+    × (length l.out ≡ place_length)
+    × (take (members_at + 4 * l.i) l.out ≡ take members_at l.initial.out ++ four_bytes (take l.i l.members))
+
+abbrev pub decreases-loop-i : goal.decreases-loop-i
+decreases-loop-i l = most_members - l.i
