@@ -1,0 +1,6 @@
+-- `edit_causal::is_conflict` meets its contract. Assumes nothing.
+use borrow.Author.Rules.{rules}
+use Rattle.edit_causal.proofs.is_conflict.Goals as goal
+
+pub returns : goal.returns
+returns c = cc

@@ -1,0 +1,35 @@
+-- `edit_causal::vector_sum` meets its contract: the total is the sum of the first i entries, each below 65,536. Assumes
+-- nothing.
+use mathlib.Core.Path.{◌≡◌}
+use Prim.Native.Nat.{◌≤◌, ◌-◌, ◌*◌}
+use native.Mathlib.Numerals.{add-one}
+use native.Mathlib.Omega.{arith}
+use lib.ListN.{get_or}
+use mir.Syntax.{w16}
+use mir.Val.{Fits}
+use borrow.Author.Rules.{rules}
+use Rattle.edit_record.specs.Layout.{most_sites}
+use Rattle.math_lists.specs.NumbersBelow.{sum}
+use Rattle.edit_causal.specs.TotalOrder.{vector_sum}
+use Rattle.edit_causal.proofs.vector_sum.Goals as goal
+
+pub loop-i-init : goal.loop-i-init
+unfolding sum
+loop-i-init c = search rules
+
+pub overflow_add-total : goal.overflow_add-total
+overflow_add-total c =
+    let h : Fits w16 (get_or c.args.v c.loop-i.i 0) = search rules in
+    omega arith
+
+pub loop-i-preserved : goal.loop-i-preserved
+unfolding sum
+loop-i-preserved c =
+    let h : Fits w16 (get_or c.args.v c.loop-i.i 0) = search rules in
+    (omega arith, rw (add-one, c.loop-i.invariant.1), omega arith)
+
+pub returns : goal.returns
+unfolding vector_sum
+returns c =
+    let k : c.loop-i.i ≡ most_sites = omega arith in
+    rw k at c.loop-i.invariant.1
