@@ -1,0 +1,51 @@
+-- `edit_next::is_same_in` meets its contract: `same` is what the definition says of the first t entries. Assumes
+-- nothing.
+use mathlib.Core.Path.{◌≡◌, refl}
+use mathlib.Core.Bool.{Bool, ◌||◌}
+use mathlib.Core.List.{List}
+use Prim.Native.Nat.{ℕ, ◌≤◌, ◌-◌, ◌*◌}
+use native.Mathlib.Numerals.{add-one}
+use native.Mathlib.Omega.{arith}
+use lib.Dec.{eqb}
+use lib.ListN.{get_or}
+use borrow.Author.Rules.{rules}
+use Rattle.math_lists.specs.NumbersBelow.{all}
+use Rattle.edit_record.specs.Layout.{most_sites, place_length}
+use Rattle.edit_history.specs.EditsHeld.{record_at}
+use Rattle.edit_history.proofs.FieldsInPlace.{entry-in-place}
+use Rattle.edit_walk.specs.WalkForms.{same_but}
+use Rattle.edit_next.proofs.is_same_in.Invariants.{is_told}
+use Rattle.edit_next.proofs.is_same_in.Goals as goal
+
+pub loop-t-init : goal.loop-t-init
+unfolding all
+loop-t-init c = (omega arith, refl, refl, refl, refl)
+
+pub loop-t-preserved : goal.loop-t-preserved
+unfolding all
+loop-t-preserved c =
+    let l = c.loop-t in
+    let a = c.args in (
+      omega arith,
+      l.invariant.1,
+      l.invariant.2,
+      l.invariant.3,
+      rw (
+        add-one,
+        l.invariant.4,
+        l.invariant.1,
+        c.pair_at-is.ensures,
+        c.pair_at-was.ensures,
+        l.invariant.2,
+        l.invariant.3,
+        entry-in-place a.recs.now a.r l.t (omega arith),
+        entry-in-place a.recs.now a.p l.t (omega arith),
+      ),
+    )
+
+pub returns : goal.returns
+unfolding same_but
+returns c =
+    let l = c.loop-t in
+    let e : l.t ≡ most_sites = omega arith in
+    rw (l.invariant.4, e)

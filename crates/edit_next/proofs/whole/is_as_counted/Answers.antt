@@ -1,0 +1,45 @@
+-- `edit_next::whole::is_as_counted` meets its contract: `same` is what the definition says of the first t entries.
+-- Assumes nothing.
+use mathlib.Core.Path.{◌≡◌, refl}
+use mathlib.Core.Bool.{Bool, ◌||◌}
+use mathlib.Core.List.{List}
+use Prim.Native.Nat.{ℕ, ◌≤◌, ◌-◌}
+use native.Mathlib.Numerals.{add-one}
+use native.Mathlib.Omega.{arith}
+use lib.Dec.{eqb}
+use lib.ListN.{get_or}
+use borrow.Author.Rules.{rules}
+use Rattle.math_lists.specs.NumbersBelow.{all}
+use Rattle.edit_record.specs.Layout.{most_sites}
+use Rattle.edit_record.specs.RecordBytes.{decode_of}
+use Rattle.edit_record.proofs.NumbersInBytes.{entry-in-record}
+use Rattle.edit_walk.specs.WalkForms.{same_but}
+use Rattle.edit_next.proofs.whole.is_as_counted.Invariants.{is_told}
+use Rattle.edit_next.proofs.whole.is_as_counted.Goals as goal
+
+pub loop-t-init : goal.loop-t-init
+unfolding all
+loop-t-init c = (omega arith, refl, refl)
+
+pub loop-t-preserved : goal.loop-t-preserved
+unfolding all
+loop-t-preserved c =
+    let l = c.loop-t in
+    let a = c.args in (
+      omega arith,
+      l.invariant.1,
+      rw (
+        add-one,
+        l.invariant.2,
+        l.invariant.1,
+        c.pair_at-is.ensures,
+        entry-in-record a.rec.now l.t (omega arith),
+      ),
+    )
+
+pub returns : goal.returns
+unfolding same_but
+returns c =
+    let l = c.loop-t in
+    let e : l.t ≡ most_sites = omega arith in
+    rw (l.invariant.2, e)
