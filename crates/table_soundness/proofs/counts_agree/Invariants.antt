@@ -1,0 +1,18 @@
+-- `table_soundness::counts_agree` meets its contract: `agree` is the test of the first s counts. Assumes nothing.
+use mathlib.Core.Path.{◌≡◌}
+use Prim.Native.Nat.{◌-◌, ◌≤◌}
+use native.Mathlib.Numerals.{add-one}
+use native.Mathlib.Omega.{arith}
+use lib.Dec.{eqb}
+use lib.ListN.{get_or}
+use borrow.Author.Rules.{rules}
+use Rattle.math_lists.specs.NumbersBelow.{all}
+use Rattle.edit_record.specs.Layout.{most_sites}
+use Rattle.table_soundness.proofs.counts_agree.Given as goal
+
+abbrev pub invariant-loop-s : goal.invariant-loop-s
+invariant-loop-s l =
+    (l.s ≤ most_sites) × (l.agree ≡ all l.s (λ t. eqb (get_or l.given t 0) (get_or l.counted t 0)))
+
+abbrev pub decreases-loop-s : goal.decreases-loop-s
+decreases-loop-s l = most_sites - l.s

@@ -1,0 +1,16 @@
+-- `table_soundness::unused::is_zero_from16` meets its contract: `zero` is the test of the entries below i. Assumes
+-- nothing.
+use mathlib.Core.Path.{◌≡◌, ◌∙◌}
+use Prim.Native.Nat.{◌-◌, ◌≤◌}
+use native.Mathlib.Omega.{arith}
+use lib.ListN.{length}
+use borrow.Author.Rules.{rules}
+use Rattle.math_lists.specs.NumbersBelow.{all}
+use Rattle.table_soundness.proofs.ZeroFrom.{zero_at, zero-start, zero_more, zero-end}
+use Rattle.table_soundness.proofs.unused.is_zero_from16.Given as goal
+
+abbrev pub invariant-loop-i : goal.invariant-loop-i
+invariant-loop-i l = (l.k ≤ l.i) × (l.zero ≡ all l.i (zero_at l.s l.k))
+
+abbrev pub decreases-loop-i : goal.decreases-loop-i
+decreases-loop-i l = length l.s - l.i

@@ -1,0 +1,47 @@
+-- `table_soundness::unused::is_zero_from8` meets its contract: the first i entries of each of four parts are zero if no
+-- bit was met, and then all up to j. Assumes nothing.
+use mathlib.Core.Path.{◌≡◌, refl, ◌∙◌, ap}
+use Prim.Native.Nat.{ℕ, ◌+◌, ◌-◌, ◌*◌, ◌/◌, ◌≤◌}
+use native.Mathlib.Omega.{arith}
+use lib.Dec.{eqb}
+use lib.ListN.{length}
+use borrow.Author.Rules.{rules}
+use Rattle.math_lists.specs.NumbersBelow.{all}
+use Rattle.table_soundness.proofs.ZeroFrom.{zero_at, zero_four, zero-past, four-end, zero-end, bits-more}
+use Rattle.table_soundness.proofs.ZeroFrom.{four-bits-more}
+use Rattle.table_soundness.proofs.unused.is_zero_from8.Goals as goal
+
+pub returns-then-s-k : goal.returns-then-s-k
+returns-then-s-k c = zero-past c.args.s.now c.args.k c.if-s-k.true
+
+pub loop-i-init : goal.loop-i-init
+unfolding all
+loop-i-init c = (omega arith, omega arith, refl)
+
+pub loop-i-preserved : goal.loop-i-preserved
+loop-i-preserved c =
+    let a = c.args in
+    let l = c.loop-i in
+    (omega arith, l.invariant.1, four-bits-more a.s.now a.k _ l.i l.bits l.invariant.2)
+
+pub loop-j-init : goal.loop-j-init
+loop-j-init c =
+    let a = c.args in
+    let l = c.loop-i in
+    let part = (length a.s.now - a.k) / 256 * 64 in
+    let e : l.i ≡ part = omega arith in (
+      omega arith,
+      l.invariant.2 ∙ ap (λ (i : ℕ). all i (zero_four a.s.now a.k part)) e ∙ four-end a.s.now a.k part,
+    )
+
+pub loop-j-preserved : goal.loop-j-preserved
+loop-j-preserved c =
+    let a = c.args in
+    let l = c.loop-j in
+    (omega arith, bits-more a.s.now a.k l.j l.bits l.invariant.0 l.invariant.1)
+
+pub returns : goal.returns
+returns c =
+    let a = c.args in
+    let l = c.loop-j in
+    l.invariant.1 ∙ zero-end a.s.now a.k l.j (omega arith)
