@@ -1,0 +1,25 @@
+-- `table_sets::by_mask::disputed_in` meets its contract: of the Sets passed, those in dispute among them are marked.
+-- Assumes nothing.
+use mathlib.Core.Path.{◌≡◌, refl, subst, ◌∙◌}
+use mathlib.Core.Logic.{⊎_elim}
+use Prim.Native.Nat.{ℕ, ◌-◌, ◌≤◌, ◌<◌}
+use native.Mathlib.Omega.{arith}
+use lib.ListN.{length, get_or-replicate}
+use Rattle.edit_record.specs.Layout.{keys}
+use Rattle.table_sets.specs.MaskForms.{MaskedTo}
+use Rattle.table_sets.proofs.MarksByKey.{shifted_one}
+use Rattle.table_sets.proofs.MarksByMask.{masked-none}
+use Rattle.table_sets.proofs.DisputesByMarks.{MarkedTo, marked-none, marked-low, marked-same, marked_more}
+use borrow.Author.Rules.{rules}
+use Rattle.table_sets.proofs.by_mask.disputed_in.Given as goal
+
+abbrev pub invariant-loop-i : goal.invariant-loop-i
+invariant-loop-i l =
+    (l.i ≤ l.t)
+    × (length l.sets ≡ keys)
+    × (length l.tolds ≡ length l.initial.tolds)
+    × MaskedTo l.recs l.places l.i l.sets l.tolds
+    × MarkedTo l.recs l.places l.i l.all
+
+abbrev pub decreases-loop-i : goal.decreases-loop-i
+decreases-loop-i l = l.t - l.i
