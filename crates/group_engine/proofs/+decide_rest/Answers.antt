@@ -25,8 +25,8 @@ loop-may-init t c =
 
 deciding :
     {ms : List ℕ} {n u₀ t₀ t may lone r k b rest : ℕ} {out : List ℕ}
-    (s : Searching ms n u₀ t₀ t may lone r out) → may < 2 ^ (k + 1) → bit may k ≡ true → b ≡ 2 ^ k → rest ≡ may - bit_and may b →
-    Deciding ms n s.u t may lone k b rest
+    (s : Searching ms n u₀ t₀ t may lone r out) → may < 2 ^ (k + 1) → bit may k ≡ true → b ≡ 2 ^ k →
+    rest ≡ may - bit_and may b → Deciding ms n s.u t may lone k b rest
 deciding s h y o w = record {
   partly = s.partly;
   waits = s.waits;
@@ -43,7 +43,8 @@ bounds-conflicts-k t c =
 
 pub is_stuck-requires : goal.is_stuck-requires
 is_stuck-requires t c =
-    let d = deciding c.loop-may.invariant.1 c.highest-k.ensures.0 c.highest-k.ensures.1 c.only-bit.ensures c.without-rest.ensures in
+    let s = c.loop-may.invariant.1 in
+    let d = deciding s c.highest-k.ensures.0 c.highest-k.ensures.1 c.only-bit.ensures c.without-rest.ensures in
     λ i h. (let l = asked-within d _ i h in omega (arith, c.requires.1))
 
 pub decide_rest-next-requires : goal.decide_rest-next-requires
@@ -67,12 +68,14 @@ returns-then-next-gt-GROUPS t c =
 
 pub overflow_add-taken : goal.overflow_add-taken
 overflow_add-taken t c =
-    let d = deciding c.loop-may.invariant.1 c.highest-k.ensures.0 c.highest-k.ensures.1 c.only-bit.ensures c.without-rest.ensures in
+    let s = c.loop-may.invariant.1 in
+    let d = deciding s c.highest-k.ensures.0 c.highest-k.ensures.1 c.only-bit.ensures c.without-rest.ensures in
     record { fits = in-fits d c.requires.0 }
 
 pub is_stuck-requires-in-loop-may : goal.is_stuck-requires-in-loop-may
 is_stuck-requires-in-loop-may t c =
-    let d = deciding c.loop-may.invariant.1 c.highest-k.ensures.0 c.highest-k.ensures.1 c.only-bit.ensures c.without-rest.ensures in
+    let s = c.loop-may.invariant.1 in
+    let d = deciding s c.highest-k.ensures.0 c.highest-k.ensures.1 c.only-bit.ensures c.without-rest.ensures in
     let p = c.requires in
     λ i h. (let l = (waits_in d p.4 c.without-may.ensures c.without-lone.ensures).within i h in omega (arith, p.1))
 

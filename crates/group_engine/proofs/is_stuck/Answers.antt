@@ -16,7 +16,8 @@ use Rattle.group_engine.proofs.is_stuck.Goals as goal
 member :
     (lone left : ℕ) → 0 < left → left ≤ lone → lone < 2 ^ 64 → ((i : ℕ) → bit left i ≡ true → bit lone i ≡ true) →
     bit lone (count_trailing_zeros 64 left) ≡ true
-member lone left some l fits kept = kept (count_trailing_zeros 64 left) (first_member 64 left some (omega arith))
+member lone left some l fits kept = kept (count_trailing_zeros 64 left)
+    (first_member 64 left some (omega arith))
 
 pub loop-left-init : goal.loop-left-init
 loop-left-init c = (omega arith, λ i b. b)

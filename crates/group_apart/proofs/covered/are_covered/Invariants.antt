@@ -11,7 +11,8 @@ use Rattle.group_apart.proofs.covered.are_covered.Given as goal
 abbrev pub invariant-loop-i : goal.invariant-loop-i
 invariant-loop-i l =
     (l.i ≤ l.t)
-    × (any (uncovered l.m l.k (slice l.t l.n l.s)) (take l.t l.s) ≡ any (uncovered l.m l.k (slice l.t l.n l.s)) (slice l.i l.t l.s))
+    × (any (uncovered l.m l.k (slice l.t l.n l.s)) (take l.t l.s)
+    ≡ any (uncovered l.m l.k (slice l.t l.n l.s)) (slice l.i l.t l.s))
 
 abbrev pub decreases-loop-i : goal.decreases-loop-i
 decreases-loop-i l = l.t - l.i

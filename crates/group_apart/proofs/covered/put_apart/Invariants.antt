@@ -19,7 +19,8 @@ invariant-loop-i l =
     × (length l.out ≡ length l.initial.out)
     × (l.t ≡ l.a + length (filter (conflicting l.m) (slice l.i l.n l.gs)))
     × (staying l.m (take l.n l.gs) ≡ take l.a l.out ++ filter (conflicting l.m) (slice l.i l.n l.gs))
-    × (wholes l.m l.k (take l.n l.gs) ≡ slice l.t l.w l.out ++ map (candidate l.m l.k) (filter (compatible l.m) (slice l.i l.n l.gs)))
+    × (wholes l.m l.k (take l.n l.gs)
+    ≡ slice l.t l.w l.out ++ map (candidate l.m l.k) (filter (compatible l.m) (slice l.i l.n l.gs)))
     × (drop l.n l.out ≡ drop l.n l.initial.out)
 
 abbrev pub decreases-loop-i : goal.decreases-loop-i

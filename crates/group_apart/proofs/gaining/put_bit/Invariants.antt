@@ -9,7 +9,9 @@ use Rattle.group_apart.proofs.gaining.put_bit.Given as goal
 
 abbrev pub invariant-loop-i : goal.invariant-loop-i
 invariant-loop-i l =
-    (l.i ≤ l.n) × (length l.gs ≡ length l.initial.gs) × (l.gs ≡ gained l.k (take l.i l.initial.gs) ++ drop l.i l.initial.gs)
+    (l.i ≤ l.n)
+    × (length l.gs ≡ length l.initial.gs)
+    × (l.gs ≡ gained l.k (take l.i l.initial.gs) ++ drop l.i l.initial.gs)
 
 abbrev pub decreases-loop-i : goal.decreases-loop-i
 decreases-loop-i l = l.n - l.i
