@@ -1,0 +1,21 @@
+-- `edit_history::is_ahead_elsewhere` meets its contract: `found` is what the definition says of the first t entries.
+-- Assumes nothing.
+use mathlib.Core.Bool.{not, ◌&&◌}
+use mathlib.Core.Path.{◌≡◌}
+use Prim.Native.Nat.{◌≤◌, ◌-◌}
+use native.Mathlib.Numerals.{add-one}
+use native.Mathlib.Omega.{arith}
+use lib.ListN.{get_or}
+use lib.Dec.{eqb, ltb}
+use borrow.Author.Rules.{rules}
+use Rattle.math_lists.specs.NumbersBelow.{some}
+use Rattle.edit_record.specs.Layout.{most_sites}
+use Rattle.edit_history.specs.SurveyForms.{ahead_elsewhere}
+use Rattle.edit_history.proofs.is_ahead_elsewhere.Given as goal
+
+abbrev pub invariant-loop-t : goal.invariant-loop-t
+invariant-loop-t l =
+    (l.t ≤ most_sites) × (l.found ≡ some l.t (λ s. not (eqb s l.own) && ltb (get_or l.held s 0) (get_or l.v s 0)))
+
+abbrev pub decreases-loop-t : goal.decreases-loop-t
+decreases-loop-t l = most_sites - l.t

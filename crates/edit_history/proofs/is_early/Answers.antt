@@ -1,0 +1,6 @@
+-- `edit_history::is_early` meets its contract. Assumes nothing.
+use borrow.Author.Rules.{rules}
+use Rattle.edit_history.proofs.is_early.Goals as goal
+
+pub returns : goal.returns
+returns c = rw (c.is_ahead_elsewhere.ensures, c.held_from-own.ensures)

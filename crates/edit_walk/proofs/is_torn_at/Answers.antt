@@ -1,0 +1,24 @@
+-- `edit_walk::is_torn_at` meets its contract. Assumes nothing.
+use mathlib.Core.Path.{◌≡◌}
+use native.Mathlib.Omega.{arith}
+use borrow.Author.Rules.{rules}
+use borrow.Author.Tests.{ne_eqb}
+use Rattle.edit_walk.specs.WalkForms.{torn_by}
+use Rattle.edit_walk.proofs.is_torn_at.Goals as goal
+
+pub returns-then-q-eq0 : goal.returns-then-q-eq0
+unfolding torn_by
+returns-then-q-eq0 c =
+    let k : c.args.q.0 ≡ 0 = omega arith in
+    rw k
+
+pub returns : goal.returns
+unfolding torn_by
+returns c =
+    let q = c.args.q.0 in
+    rw (
+      ne_eqb q 0 (λ e. omega arith),
+      c.is_larger_somewhere.ensures,
+      c.vector_at-v.ensures,
+      c.place_at-p.ensures,
+    )

@@ -1,0 +1,31 @@
+-- `edit_walk::latest_seen` meets its contract: past the last entry nothing is set. Assumes nothing.
+use mathlib.Core.Path.{◌≡◌, sym, ◌∙◌}
+use mathlib.Core.List.{List}
+use Prim.Native.Nat.{ℕ, ◌-◌}
+use native.Mathlib.Omega.{arith}
+use native.Mathlib.Decide.{dec_lt}
+use lib.ListN.{length, get_or, set, get_or-eq_default}
+use lib.Seq.{get_or-set_same, get_or-set_other, set_out}
+use borrow.Author.Rules.{rules}
+use Rattle.edit_walk.proofs.latest_seen.Goals as goal
+
+-- an entry that is one less
+one-less-at : (v : List ℕ) (i : ℕ) → get_or (set v i (get_or v i 0 - 1)) i 0 ≡ get_or v i 0 - 1
+one-less-at v i = elim (dec_lt i (length v)) [
+  | yes l ↦ get_or-set_same v i (get_or v i 0 - 1) 0 l
+  | no l ↦
+      rw (set_out v i (get_or v i 0 - 1) (omega arith))
+      (let none = get_or-eq_default v 0 {n = i} (omega arith) in omega (arith, none))
+]
+
+pub returns-then-t-s : goal.returns-then-t-s
+returns-then-t-s c =
+    let a = c.args in
+    c.one_less.ensures
+    ∙ rw (c.entry-q.ensures, c.if-t-s.true) (sym (one-less-at a.v a.s.0))
+
+pub returns-else-t-s : goal.returns-else-t-s
+returns-else-t-s c =
+    let a = c.args in
+    rw c.entry-q.ensures
+    (sym (get_or-set_other a.v a.s.0 a.t.0 (get_or a.v a.s.0 0 - 1) 0 c.if-t-s.false))

@@ -1,0 +1,28 @@
+-- `edit_walk::space_places` meets its contract: the sites below s have their starts, and `at` is the next one. Assumes
+-- nothing.
+use mathlib.Core.Path.{◌≡◌}
+use mathlib.Core.List.{List}
+use Prim.Native.Nat.{ℕ, ◌+◌, ◌≤◌, ◌-◌}
+use native.Mathlib.Numerals.{add-one}
+use native.Mathlib.Omega.{arith}
+use lib.ListN.{length, get_or, length-set}
+use borrow.Author.Rules.{rules}
+use Rattle.math_lists.specs.NumbersBelow.{sum}
+use Rattle.math_lists.proofs.NumbersBelow.{sum_past}
+use Rattle.edit_record.specs.Layout.{most_sites}
+use Rattle.edit_walk.specs.WalkForms.{places_length}
+use Rattle.edit_walk.proofs.RoomInIndex.{Started, started-more, starts-spaced}
+use Rattle.edit_walk.proofs.space_places.Given as goal
+
+abbrev pub room_of : List ℕ → ℕ → ℕ
+room_of counts s = get_or counts s 0
+
+abbrev pub invariant-loop-s : goal.invariant-loop-s
+invariant-loop-s l =
+    (l.s ≤ most_sites)
+    × (length l.places ≡ places_length)
+    × (l.at ≡ most_sites + sum l.s (room_of l.counts))
+    × Started (room_of l.counts) l.places l.s
+
+abbrev pub decreases-loop-s : goal.decreases-loop-s
+decreases-loop-s l = most_sites - l.s
