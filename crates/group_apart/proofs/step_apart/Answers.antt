@@ -5,7 +5,6 @@ use mathlib.Core.List.{List}
 use Prim.Native.Nat.{ℕ}
 use native.Mathlib.Omega.{arith}
 use lib.ListN.{length, take}
-use borrow.Author.Rules.{rules}
 use Rattle.group_step.specs.GroupRows.{settled}
 use Rattle.group_step.specs.StepForms.{gained}
 use Rattle.group_step.proofs.RowAfterStep.{gained-length, row_is}

@@ -1,5 +1,4 @@
 -- `group_apart::step_known` meets its contract. Assumes nothing.
-use borrow.Author.Rules.{rules}
 use Rattle.group_apart.proofs.step_known.Goals as goal
 
 pub step_apart_at-requires : goal.step_apart_at-requires

@@ -1,11 +1,10 @@
 -- `group_apart::covered::are_covered` meets its contract: what remains of each number passed is part of one of those
 -- behind, so those left decide. Assumes nothing.
-use mathlib.Core.Path.{◌≡◌, refl, sym, ap, ◌∙◌}
+use mathlib.Core.Path.{refl, sym, ap, ◌∙◌}
 use mathlib.Core.Bool.{not}
-use Prim.Native.Nat.{ℕ, ◌-◌, ◌≤◌}
+use Prim.Native.Nat.{ℕ}
 use native.Mathlib.Omega.{arith}
 use borrow.Author.Rules.{rules}
-use lib.ListN.{take}
 use lib.Seq.{slice}
 use Rattle.math_lists.specs.SortedLists.{any}
 use Rattle.group_step.specs.StepForms.{part_of, uncovered}

@@ -1,7 +1,6 @@
 -- `group_apart::covered::is_part_near` meets its contract. Assumes nothing.
 use mathlib.Core.Path.{sym, ◌∙◌}
 use native.Mathlib.Omega.{arith}
-use borrow.Author.Rules.{rules}
 use Rattle.group_step.specs.StepForms.{part_of}
 use Rattle.group_apart.proofs.PutApart.{among}
 use Rattle.group_apart.proofs.covered.is_part_near.Goals as goal

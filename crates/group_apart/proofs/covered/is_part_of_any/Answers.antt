@@ -1,11 +1,8 @@
 -- `group_apart::covered::is_part_of_any` meets its contract: x is part of none of the numbers passed, so those left
 -- decide. Assumes nothing.
-use mathlib.Core.Path.{◌≡◌, refl, sym, ◌∙◌}
-use Prim.Native.Nat.{◌-◌, ◌≤◌}
+use mathlib.Core.Path.{refl, sym, ◌∙◌}
 use native.Mathlib.Omega.{arith}
 use borrow.Author.Rules.{rules}
-use lib.Seq.{slice}
-use Rattle.math_lists.specs.SortedLists.{any}
 use Rattle.group_step.specs.StepForms.{part_of}
 use Rattle.group_step.proofs.LoopTurns.{found, not_yet, none_found}
 use Rattle.group_apart.proofs.covered.is_part_of_any.Goals as goal

@@ -1,13 +1,12 @@
 -- `group_apart::covered::put_apart` meets its contract: of those passed, those that stay stand at the front of out, and
 -- what the others give from place t on. Assumes nothing.
-use mathlib.Core.Path.{◌≡◌, refl, sym, ap, ◌∙◌}
+use mathlib.Core.Path.{refl, sym, ap, ◌∙◌}
 use mathlib.Core.Bool.{not}
 use mathlib.Core.List.{List, ◌++◌, map}
-use mathlib.Core.Logic.{⊎_elim}
-use Prim.Native.Nat.{ℕ, ◌+◌, ◌-◌, ◌≤◌}
+use Prim.Native.Nat.{ℕ, ◌+◌}
 use native.Mathlib.Omega.{arith}
 use borrow.Author.Rules.{rules}
-use lib.ListN.{length, get_or, take, drop, set, length-set}
+use lib.ListN.{get_or, take, set, length-set}
 use lib.Seq.{slice, slice_empty, drop-set-lt}
 use Rattle.math_lists.specs.SortedLists.{filter}
 use Rattle.math_maximal.specs.Step.{compatible, candidate}
@@ -16,6 +15,7 @@ use Rattle.group_step.proofs.LoopTurns.{counted, not-counted}
 use Rattle.group_apart.proofs.PutApart.{front-more, front_same, behind_more, behind-same, place-behind}
 use Rattle.group_apart.proofs.PutApart.{apart-all}
 use Rattle.group_apart.proofs.covered.put_apart.Goals as goal
+use Rattle.group_apart.proofs.covered.put_apart.Goals.{then-is_compatible, else-is_compatible}
 
 pub loop-i-init : goal.loop-i-init
 unfolding staying wholes
@@ -59,44 +59,44 @@ loop-i-preserved c =
     let g = get_or s l.i 0 in
     let ys = map f (filter q (slice (l.i + 1) a.n s)) in
     let is = sym c.is_compatible.ensures in
-    ⊎_elim
-    (λ v.
-    let e = is ∙ v.0.taken in
-    let d = ap not e in
-    let x = v.1 in
-    let room = place-behind p s a.t l.a l.w l.i a.n l.invariant.5 l.invariant.3 (omega arith) (omega arith)
-    d in
-    rw (v.2, v.3, v.4) (
-      omega arith,
-      omega arith,
-      omega (arith, room),
-      omega arith,
-      simp length-set l.invariant.4,
-      not-counted p a.t s l.a l.i a.n l.invariant.5 (omega arith) (omega arith) d,
-      front_same p _ s l.out l.a l.i a.n l.invariant.6 (omega arith) (omega arith) d l.w x.result
-          (omega arith),
-      behind_more q f _ s l.out a.t l.w l.i a.n l.invariant.7 (omega arith) (omega arith) (omega arith)
-          (omega (arith, room)) e
-          ∙ ap (λ (y : ℕ). slice a.t (l.w + 1) (set l.out l.w y) ++ ys) (sym x.ensures),
-      drop-set-lt a.n l.out l.w x.result room ∙ l.invariant.8,
-    ))
-    (λ v.
-    let e = is ∙ v.0.left in
-    let d = ap not e in
-    let more = counted p a.t s l.a l.i a.n l.invariant.5 (omega arith) (omega arith) d in
-    rw (v.1, v.2, v.3) (
-      omega arith,
-      omega arith,
-      omega arith,
-      omega arith,
-      simp length-set l.invariant.4,
-      more,
-      front-more p _ s l.out l.a l.i a.n l.invariant.6 (omega arith) (omega arith) (omega arith) d,
-      behind-same q f _ s l.out a.t l.w l.i a.n l.invariant.7 (omega arith) (omega arith) e l.a g
-          (omega (arith, more)) (omega (arith, more)),
-      drop-set-lt a.n l.out l.a g (omega arith) ∙ l.invariant.8,
-    ))
-    c.if-is_compatible.branch
+    elim c.if-is_compatible.branch [
+      | then-is_compatible v ↦
+          let e = is ∙ v.if-is_compatible.true in
+          let d = ap not e in
+          let x = v.candidate_of in
+          let room = place-behind p s a.t l.a l.w l.i a.n l.invariant.5 l.invariant.3 (omega arith) (omega arith)
+          d in
+          rw (v.out-is, v.a-is, v.w-is) (
+            omega arith,
+            omega arith,
+            omega (arith, room),
+            omega arith,
+            simp length-set l.invariant.4,
+            not-counted p a.t s l.a l.i a.n l.invariant.5 (omega arith) (omega arith) d,
+            front_same p _ s l.out l.a l.i a.n l.invariant.6 (omega arith) (omega arith) d l.w x.result
+                (omega arith),
+            behind_more q f _ s l.out a.t l.w l.i a.n l.invariant.7 (omega arith) (omega arith) (omega arith)
+                (omega (arith, room)) e
+                ∙ ap (λ (y : ℕ). slice a.t (l.w + 1) (set l.out l.w y) ++ ys) (sym x.ensures),
+            drop-set-lt a.n l.out l.w x.result room ∙ l.invariant.8,
+          )
+      | else-is_compatible v ↦
+          let e = is ∙ v.if-is_compatible.false in
+          let d = ap not e in
+          let more = counted p a.t s l.a l.i a.n l.invariant.5 (omega arith) (omega arith) d in
+          rw (v.out-is, v.a-is, v.w-is) (
+            omega arith,
+            omega arith,
+            omega arith,
+            omega arith,
+            simp length-set l.invariant.4,
+            more,
+            front-more p _ s l.out l.a l.i a.n l.invariant.6 (omega arith) (omega arith) (omega arith) d,
+            behind-same q f _ s l.out a.t l.w l.i a.n l.invariant.7 (omega arith) (omega arith) e l.a g
+                (omega (arith, more)) (omega (arith, more)),
+            drop-set-lt a.n l.out l.a g (omega arith) ∙ l.invariant.8,
+          )
+    ]
 
 pub shape_of-out : goal.shape_of-out
 shape_of-out c = c.loop-i.invariant.4

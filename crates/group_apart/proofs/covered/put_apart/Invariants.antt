@@ -1,20 +1,13 @@
 -- `group_apart::covered::put_apart` meets its contract: of those passed, those that stay stand at the front of out, and
 -- what the others give from place t on. Assumes nothing.
-use mathlib.Core.Path.{◌≡◌, refl, sym, ap, ◌∙◌}
-use mathlib.Core.Bool.{not}
-use mathlib.Core.List.{List, ◌++◌, map}
-use mathlib.Core.Logic.{⊎_elim}
-use Prim.Native.Nat.{ℕ, ◌+◌, ◌-◌, ◌≤◌}
-use native.Mathlib.Omega.{arith}
-use borrow.Author.Rules.{rules}
-use lib.ListN.{length, get_or, take, drop, set, length-set}
-use lib.Seq.{slice, slice_empty, drop-set-lt}
+use mathlib.Core.Path.{◌≡◌}
+use mathlib.Core.List.{◌++◌, map}
+use Prim.Native.Nat.{◌+◌, ◌-◌, ◌≤◌}
+use lib.ListN.{length, take, drop}
+use lib.Seq.{slice}
 use Rattle.math_lists.specs.SortedLists.{filter}
 use Rattle.math_maximal.specs.Step.{compatible, candidate}
 use Rattle.group_step.specs.StepForms.{conflicting, staying, wholes}
-use Rattle.group_step.proofs.LoopTurns.{counted, not-counted}
-use Rattle.group_apart.proofs.PutApart.{front-more, front_same, behind_more, behind-same, place-behind}
-use Rattle.group_apart.proofs.PutApart.{apart-all}
 use Rattle.group_apart.proofs.covered.put_apart.Given as goal
 
 abbrev pub invariant-loop-i : goal.invariant-loop-i
@@ -26,7 +19,8 @@ invariant-loop-i l =
     × (length l.out ≡ length l.initial.out)
     × (l.t ≡ l.a + length (filter (conflicting l.m) (slice l.i l.n l.gs)))
     × (staying l.m (take l.n l.gs) ≡ take l.a l.out ++ filter (conflicting l.m) (slice l.i l.n l.gs))
-    × (wholes l.m l.k (take l.n l.gs) ≡ slice l.t l.w l.out ++ map (candidate l.m l.k) (filter (compatible l.m) (slice l.i l.n l.gs)))
+    × (wholes l.m l.k (take l.n l.gs)
+    ≡ slice l.t l.w l.out ++ map (candidate l.m l.k) (filter (compatible l.m) (slice l.i l.n l.gs)))
     × (drop l.n l.out ≡ drop l.n l.initial.out)
 
 abbrev pub decreases-loop-i : goal.decreases-loop-i

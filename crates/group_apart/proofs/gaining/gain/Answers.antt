@@ -1,7 +1,6 @@
 -- `group_apart::gaining::gain` meets its contract: the part that is lent to be filled with zeros stands behind the
 -- groups. Assumes nothing.
 use native.Mathlib.Omega.{arith}
-use borrow.Author.Rules.{rules}
 use Rattle.group_step.proofs.RowAfterStep.{gained-stored}
 use Rattle.group_apart.proofs.gaining.gain.Goals as goal
 

@@ -1,12 +1,11 @@
 -- `group_apart::gaining::put_bit` meets its contract: those passed have gained the Set, and the rest is as it was.
 -- Assumes nothing.
-use mathlib.Core.Path.{◌≡◌, refl, ap, ◌∙◌}
-use mathlib.Core.List.{◌++◌}
-use Prim.Native.Nat.{ℕ, ◌-◌, ◌≤◌}
+use mathlib.Core.Path.{refl, ap, ◌∙◌}
+use Prim.Native.Nat.{ℕ}
 use native.Mathlib.Omega.{arith}
 use borrow.Author.Rules.{rules}
 use lib.Bits.{bit_or}
-use lib.ListN.{length, get_or, take, drop, set, length-set}
+use lib.ListN.{get_or, set, length-set}
 use Rattle.group_step.specs.StepForms.{gaining, gained}
 use Rattle.group_step.proofs.LoopTurns.{made_more, made_all}
 use Rattle.group_apart.proofs.gaining.put_bit.Goals as goal

@@ -1,19 +1,17 @@
 -- `group_apart::gaining::put_bit` meets its contract: those passed have gained the Set, and the rest is as it was.
 -- Assumes nothing.
-use mathlib.Core.Path.{◌≡◌, refl, ap, ◌∙◌}
+use mathlib.Core.Path.{◌≡◌}
 use mathlib.Core.List.{◌++◌}
-use Prim.Native.Nat.{ℕ, ◌-◌, ◌≤◌}
-use native.Mathlib.Omega.{arith}
-use borrow.Author.Rules.{rules}
-use lib.Bits.{bit_or}
-use lib.ListN.{length, get_or, take, drop, set, length-set}
-use Rattle.group_step.specs.StepForms.{gaining, gained}
-use Rattle.group_step.proofs.LoopTurns.{made_more, made_all}
+use Prim.Native.Nat.{◌-◌, ◌≤◌}
+use lib.ListN.{length, take, drop}
+use Rattle.group_step.specs.StepForms.{gained}
 use Rattle.group_apart.proofs.gaining.put_bit.Given as goal
 
 abbrev pub invariant-loop-i : goal.invariant-loop-i
 invariant-loop-i l =
-    (l.i ≤ l.n) × (length l.gs ≡ length l.initial.gs) × (l.gs ≡ gained l.k (take l.i l.initial.gs) ++ drop l.i l.initial.gs)
+    (l.i ≤ l.n)
+    × (length l.gs ≡ length l.initial.gs)
+    × (l.gs ≡ gained l.k (take l.i l.initial.gs) ++ drop l.i l.initial.gs)
 
 abbrev pub decreases-loop-i : goal.decreases-loop-i
 decreases-loop-i l = l.n - l.i
