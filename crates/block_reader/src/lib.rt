@@ -1,8 +1,6 @@
 // A reader that holds the stretch of a block, its form and its place in it, and gives the records one by one as long
-// ones: document 01, 'The stored block'. The borrow checker covers no function over such a struct, so the proofs of
-// `reader_of`, `next_record` and `second` are walked by hand. `take`, which decodes, has plain parameters and is
-// covered; `second` has plain parameters too, and lends a reader of its own. Assumes nothing of the stretch, the form
-// and the place.
+// ones: document 01, 'The stored block'. `take` decodes, at plain parameters; `second` has plain parameters too, and
+// lends a reader of its own. Assumes nothing of the stretch, the form and the place.
 #![tactic(auto)]
 
 ghost use Rattle.std.specs.Prelude.{◌≡◌, ◌+◌, leb, drop};
@@ -92,7 +90,7 @@ pub fn next_record<'s, 'a>(r: &'s mut Reader<'a>) -> Given
     t.given
 }
 
-// The second record of a stretch, or the end mark. Plain parameters: whoever calls this needs no walk.
+// The second record of a stretch, or the end mark, by a reader of its own.
 pub fn second(stretch: &[u8], form: u8) -> Given
     ensures { result ≡ second_of stretch.now form }
 {
