@@ -12,6 +12,7 @@ use Rattle.table_sets.proofs.MarksByMask.{masked-none}
 use Rattle.table_sets.proofs.DisputesByMarks.{MarkedTo, marked-none, marked-low, marked-same, marked_more}
 use borrow.Author.Rules.{rules}
 use Rattle.table_sets.proofs.by_mask.disputed_in.Goals as goal
+use Rattle.table_sets.proofs.by_mask.disputed_in.Goals.{then-m-ne0, else-m-ne0}
 
 pub loop-i-init : goal.loop-i-init
 loop-i-init c =
@@ -52,11 +53,11 @@ loop-i-preserved c =
       s.auto.sets ∙ l.invariant.1,
       s.auto.tolds ∙ l.invariant.2,
       s.ensures.1,
-      ⊎_elim
-          (λ v. rw (v.1, shifted_one l.i (omega (arith, p.1)))
-          (marked_more rs ps l.i s.result l.all fits l.invariant.4 s.ensures.0 v.0.taken))
-          (λ v. rw v.1 (marked-same rs ps l.i s.result l.all fits l.invariant.4 s.ensures.0 v.0.left))
-          c.if-m-ne0.branch,
+      elim c.if-m-ne0.branch [
+          then-m-ne0 v ↦ rw (v.all-is, shifted_one l.i (omega (arith, p.1)))
+          (marked_more rs ps l.i s.result l.all fits l.invariant.4 s.ensures.0 v.if-m-ne0.true)
+        | else-m-ne0 v ↦ rw v.all-is (marked-same rs ps l.i s.result l.all fits l.invariant.4 s.ensures.0 v.if-m-ne0.false)
+      ],
     )
 
 pub returns : goal.returns
