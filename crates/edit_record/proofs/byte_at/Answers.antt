@@ -1,7 +1,6 @@
 -- `edit_record::byte_at` meets its contract: past the end a list gives its default. Assumes nothing.
 use mathlib.Core.Path.{sym}
 use lib.ListN.{get_or-eq_default}
-use borrow.Author.Rules.{rules}
 use Rattle.edit_record.proofs.byte_at.Goals as goal
 
 pub returns-else-i-s : goal.returns-else-i-s

@@ -1,7 +1,6 @@
 -- `edit_record::decode` meets its contract: a record that is not there whole is its bytes with zeros after them.
 -- Assumes nothing.
 use mathlib.Core.Path.{◌∙◌}
-use borrow.Author.Rules.{rules}
 use Rattle.edit_record.proofs.PaddedBytes.{decode-same}
 use Rattle.edit_record.proofs.decode.Goals as goal
 

@@ -1,5 +1,4 @@
 -- `edit_record::decode_whole` meets its contract. Assumes nothing.
-use borrow.Author.Rules.{rules}
 use Rattle.edit_record.proofs.decode_whole.Goals as goal
 
 pub returns : goal.returns

@@ -1,6 +1,5 @@
 -- `edit_record::encode` meets its contract: the fields, then the list of a limited Set or zeros. Assumes nothing.
 use mathlib.Core.Path.{◌∙◌}
-use borrow.Author.Rules.{rules}
 use borrow.Author.Tests.{eq-eqb, ne_eqb}
 use Rattle.edit_record.specs.Layout.{limited_kind}
 use Rattle.edit_record.specs.RecordBytes.{count_bytes, four_bytes}

@@ -1,5 +1,4 @@
 -- `edit_record::is_aimed_kind` meets its contract. Assumes nothing.
-use borrow.Author.Rules.{rules}
 use Rattle.edit_record.proofs.is_aimed_kind.Goals as goal
 
 pub returns : goal.returns

@@ -1,9 +1,8 @@
 -- `edit_record::own_entry` meets its contract: past the last entry a vector gives 0. Assumes nothing.
-use mathlib.Core.Path.{◌≡◌, sym, ◌∙◌}
+use mathlib.Core.Path.{sym, ◌∙◌}
 use Prim.Native.Nat.{◌≤◌}
 use native.Mathlib.Omega.{arith}
 use lib.ListN.{length, drop, get_or-eq_default}
-use borrow.Author.Rules.{rules}
 use Rattle.edit_record.specs.Layout.{most_sites, vector_at}
 use Rattle.edit_record.specs.RecordBytes.{counts}
 use Rattle.edit_record.proofs.NumbersInBytes.{counts-length, entry-in-record}

@@ -1,13 +1,13 @@
 -- `edit_record::padded` meets its contract: the first i bytes are copied. Assumes nothing.
-use mathlib.Core.Path.{◌≡◌, ap, ◌∙◌}
+use mathlib.Core.Path.{ap, ◌∙◌}
 use mathlib.Core.List.{List}
-use Prim.Native.Nat.{ℕ, ◌≤◌, ◌-◌}
+use Prim.Native.Nat.{ℕ}
 use native.Mathlib.Omega.{arith}
-use lib.ListN.{length, get_or, take, length-set}
+use lib.ListN.{get_or, length-set}
 use lib.Seq.{take_all}
 use borrow.Author.Rules.{rules}
 use Rattle.edit_record.specs.Layout.{record_length}
-use Rattle.edit_record.proofs.PaddedBytes.{SameByEntry, zeros, one_more_lem}
+use Rattle.edit_record.proofs.PaddedBytes.{zeros, one_more_lem}
 use Rattle.edit_record.proofs.padded.Goals as goal
 
 pub loop-i-init : goal.loop-i-init

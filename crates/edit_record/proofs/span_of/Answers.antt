@@ -1,6 +1,5 @@
 -- `edit_record::span_of` meets its contract: the test is the definition's, and so are both numbers. Assumes nothing.
 use mathlib.Core.Path.{sym}
-use borrow.Author.Rules.{rules}
 use Rattle.edit_record.proofs.AgreeingBytes.{limits-on, limits-off, span-limited, span-plain}
 use Rattle.edit_record.proofs.span_of.Goals as goal
 

@@ -1,11 +1,11 @@
 -- `edit_record::vector_of` meets its contract: the first i entries written are the first i counts of the record.
 -- Assumes nothing.
 use mathlib.Core.Path.{◌≡◌, sym, ◌∙◌}
-use Prim.Native.Nat.{◌≤◌, ◌<◌, ◌-◌, ◌*◌}
+use Prim.Native.Nat.{◌<◌, ◌*◌}
 use native.Mathlib.Numerals.{add-one}
 use native.Mathlib.Omega.{arith}
 use lib.Seq.{take-suc-set, take_all}
-use lib.ListN.{length, take, drop, length-set}
+use lib.ListN.{length, drop, length-set}
 use borrow.Author.Rules.{rules}
 use Rattle.edit_record.proofs.NumbersInBytes.{counts-more, two-drop}
 use Rattle.edit_record.specs.RecordBytes.{counts, two}

@@ -1,11 +1,10 @@
 -- `list_text::put_bytes` meets its contract: the first i bytes of s stand behind the first n of out. Assumes nothing.
-use mathlib.Core.Path.{◌≡◌, refl, sym}
-use mathlib.Core.List.{◌++◌, append-nil}
-use Prim.Native.Nat.{◌+◌, ◌-◌, ◌≤◌}
+use mathlib.Core.Path.{refl, sym}
+use mathlib.Core.List.{append-nil}
 use native.Mathlib.Omega.{arith}
 use native.Mathlib.Nat.{add-zero}
 use borrow.Author.Rules.{rules}
-use lib.ListN.{length, take, length-set}
+use lib.ListN.{length-set}
 use Rattle.list_text.proofs.PiecesBehind.{byte_more, all-bytes}
 use Rattle.list_text.proofs.put_bytes.Goals as goal
 

@@ -1,14 +1,13 @@
 -- `list_text::put_decimal` meets its contract: the digits not yet put are those of what is left. Assumes nothing.
 use mathlib.Core.Path.{◌≡◌, refl, sym, ◌∙◌}
-use mathlib.Core.List.{◌++◌, append-nil}
-use Prim.Native.Nat.{◌+◌, ◌-◌, ◌/◌, ◌%◌, ◌≤◌}
+use mathlib.Core.List.{append-nil}
+use Prim.Native.Nat.{◌+◌, ◌-◌, ◌/◌, ◌%◌}
 use native.Mathlib.Omega.{arith}
-use lib.ListN.{length, take, drop, set, length-set}
+use lib.ListN.{set, length-set}
 use lib.Seq.{take-set-le}
 use Rattle.list_text.specs.Decimal.{zero_digit, decimal}
 use Rattle.list_text.proofs.OneDecimal.{length-one, length_more, length-two-more}
 use Rattle.list_text.proofs.PiecesBehind.{digit-before, two-before, first-digit}
-use borrow.Author.Rules.{rules}
 use Rattle.list_text.proofs.put_decimal.Goals as goal
 
 pub loop-left-init : goal.loop-left-init

@@ -6,7 +6,6 @@ use Rattle.list_text.specs.Decimal.{decimal}
 use Rattle.list_text.specs.Pieces.{dot, byte_digits, pair_digits}
 use Rattle.list_text.proofs.OneDecimal.{digits-fit}
 use Rattle.list_text.proofs.PiecesBehind.{three}
-use borrow.Author.Rules.{rules}
 use Rattle.list_text.proofs.put_dotted.Goals as goal
 
 pub put_decimal-k-requires : goal.put_decimal-k-requires

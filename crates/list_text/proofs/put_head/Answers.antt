@@ -6,7 +6,6 @@ use Rattle.list_text.specs.Decimal.{decimal}
 use Rattle.list_text.specs.Pieces.{sites_word, objects_word, versions_word, sum_word, newline}
 use Rattle.list_text.specs.HeadAndRefusal.{head_line}
 use Rattle.list_text.proofs.PiecesBehind.{five, laid}
-use borrow.Author.Rules.{rules}
 use Rattle.list_text.proofs.put_head.Goals as goal
 
 pub returns : goal.returns

@@ -5,7 +5,6 @@ use Rattle.list_text.specs.Decimal.{decimal}
 use Rattle.list_text.specs.Pieces.{word_digits}
 use Rattle.list_text.proofs.OneDecimal.{digits-fit}
 use Rattle.list_text.proofs.PiecesBehind.{two}
-use borrow.Author.Rules.{rules}
 use Rattle.list_text.proofs.put_labelled.Goals as goal
 
 pub put_decimal-requires : goal.put_decimal-requires

@@ -6,7 +6,6 @@ use Rattle.list_text.specs.Decimal.{decimal}
 use Rattle.list_text.specs.Pieces.{refused_word, newline}
 use Rattle.list_text.specs.HeadAndRefusal.{refusal_line}
 use Rattle.list_text.proofs.PiecesBehind.{two}
-use borrow.Author.Rules.{rules}
 use Rattle.list_text.proofs.put_refusal.Goals as goal
 
 pub returns : goal.returns

@@ -36,7 +36,7 @@ search-requires c =
     none_left (sound t) (length a.out.now) (is_held (held_by t) a.site a.seq) (length xs)
     (sym p.ensures.refused ∙ done) in (
       omega (arith, many, few),
-      omega (arith, many, few, p.auto.1.1.1.1.1.1.1.0),
+      omega (arith, many, few, p.auto.masks),
       long,
       masks-fit xs _ many _ (p.ensures.masked done)
           (none-itself xs (proper-held t (sound-at t on) a.site a.seq)),
@@ -49,7 +49,7 @@ returns c =
     let a = x.args in
     let t = tables_of a.c a.records.now a.objects.now a.groups.now in
     let xs = sets_on a.site a.seq (held_by t) in
-    let ms = p.new.1.1.1.1.1.1.1.0 in
+    let ms = p.new.masks in
     let y = c in
     let done = sym y.number.ensures ∙ y.if-number-ne0.false in
     c.search.ensures

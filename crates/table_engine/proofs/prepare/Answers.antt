@@ -36,7 +36,7 @@ returns c =
     let a = x.args in
     let t = tables_of a.c a.records.now a.objects.now a.groups.now in
     let es = edits_of a.records.now a.c.records in
-    let ms = p.new.1.1.1.1.1.1.0 in
+    let ms = p.new.masks in
     let s = x.is_sound_but_named in
     let on = c.if-not-is_sound_but_named.false in
     subst (λ (b : Bool). PreparedFor b es a.site a.seq a.long ms p.result)

@@ -61,7 +61,7 @@ returns-then-k-eq-DECIDED c =
     record {
       decides = x.are_all_named-named.ensures a.c.sites b.holds.few-sites b.holds.pass b.indexed;
       masked = λ on few.
-          subst (λ (xs : List Edit). MasksTell a.k xs m.new.1.1.1.0) s.requires.3 m.ensures;
+          subst (λ (xs : List Edit). MasksTell a.k xs m.new.masks) s.requires.3 m.ensures;
     }
 
 pub put_plainly-requires-then-k-lt-DECIDED : goal.put_plainly-requires-then-k-lt-DECIDED
@@ -77,7 +77,7 @@ returns-then-k-lt-DECIDED c =
     record {
       decides = x.are_all_named-named.ensures a.c.sites b.holds.few-sites b.holds.pass b.indexed;
       masked = λ on few.
-          subst (λ (xs : List Edit). MasksTell a.k xs m.new.1.1.1.0) s.requires.3 m.ensures;
+          subst (λ (xs : List Edit). MasksTell a.k xs m.new.masks) s.requires.3 m.ensures;
     }
 
 pub returns : goal.returns

@@ -1,6 +1,5 @@
 -- `edit_record::lists::count_of` meets its contract: the test is the definition's. Assumes nothing.
 use mathlib.Core.Path.{◌∙◌}
-use borrow.Author.Rules.{rules}
 use Rattle.edit_record.proofs.AgreeingBytes.{limits-on, limits-off}
 use Rattle.edit_record.proofs.lists.count_of.Goals as goal
 

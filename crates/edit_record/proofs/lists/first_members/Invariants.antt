@@ -1,14 +1,10 @@
 -- `edit_record::lists::first_members` meets its contract: after i turns the first i members are written. Assumes
 -- nothing.
-use mathlib.Core.Path.{◌≡◌, sym, ap, ◌∙◌}
-use Prim.Native.Nat.{◌*◌, ◌≤◌, ◌-◌}
-use native.Mathlib.Numerals.{add-one}
-use native.Mathlib.Omega.{arith}
-use lib.ListN.{length, drop}
-use borrow.Author.Rules.{rules}
+use mathlib.Core.Path.{◌≡◌}
+use Prim.Native.Nat.{◌≤◌, ◌-◌}
+use lib.ListN.{drop}
 use Rattle.edit_record.specs.Layout.{most_members, members_at}
-use Rattle.edit_record.specs.RecordBytes.{four, first_fours}
-use Rattle.edit_record.proofs.FoursInBytes.{four-drop, fours-none, fours-more, fours-length}
+use Rattle.edit_record.specs.RecordBytes.{first_fours}
 use Rattle.edit_record.proofs.lists.first_members.Given as goal
 
 abbrev pub invariant-loop-i : goal.invariant-loop-i

@@ -7,7 +7,6 @@ use Rattle.edit_record.specs.Layout.{members_at, most_members, count_at}
 use Rattle.edit_record.specs.RecordBytes.{two}
 use Rattle.edit_record.proofs.FoursInBytes.{fours-none, fours-most}
 use Rattle.edit_record.proofs.AgreeingBytes.{limits-on, limits-off}
-use borrow.Author.Rules.{rules}
 use Rattle.edit_record.proofs.lists.members_of.Goals as goal
 
 pub returns-then-byte_at-ne-LIMITED : goal.returns-then-byte_at-ne-LIMITED

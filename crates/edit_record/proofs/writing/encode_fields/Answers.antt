@@ -1,7 +1,6 @@
 -- `edit_record::writing::encode_fields` meets its contract: each part of the record stands behind those before it.
 -- Assumes nothing.
 use Rattle.edit_record.proofs.Encoding.{parts-in-turn}
-use borrow.Author.Rules.{rules}
 use Rattle.edit_record.proofs.writing.encode_fields.Goals as goal
 
 pub returns : goal.returns

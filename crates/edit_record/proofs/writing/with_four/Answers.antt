@@ -3,7 +3,6 @@ use mathlib.Core.Path.{◌≡◌}
 use Prim.Native.Nat.{◌+◌}
 use native.Mathlib.Omega.{arith}
 use lib.ListN.{take}
-use borrow.Author.Rules.{rules}
 use Rattle.edit_record.proofs.Encoding.{four-of-counts}
 use Rattle.edit_record.proofs.writing.with_four.Goals as goal
 

@@ -1,16 +1,11 @@
 -- `edit_record::writing::with_list` meets its contract: the bytes of the count and of the first i members stand.
 -- Assumes nothing.
-use mathlib.Core.Path.{◌≡◌, sym, ap, ◌∙◌}
-use mathlib.Core.List.{List, ◌++◌, append-nil}
-use Prim.Native.Nat.{ℕ, ◌+◌, ◌*◌, ◌≤◌, ◌<◌, ◌-◌}
-use native.Mathlib.Numerals.{add-one}
-use native.Mathlib.Omega.{arith}
+use mathlib.Core.Path.{◌≡◌}
+use mathlib.Core.List.{◌++◌}
+use Prim.Native.Nat.{◌+◌, ◌*◌, ◌≤◌, ◌-◌}
 use lib.ListN.{length, take}
-use lib.Seq.{take_all}
-use borrow.Author.Rules.{rules}
-use Rattle.edit_record.specs.Layout.{record_length, members_at, most_members, place_length}
+use Rattle.edit_record.specs.Layout.{members_at, most_members, place_length}
 use Rattle.edit_record.specs.RecordBytes.{four_bytes}
-use Rattle.edit_record.proofs.Encoding.{one-four-more, count-first}
 use Rattle.edit_record.proofs.writing.with_list.Given as goal
 
 abbrev pub invariant-loop-i : goal.invariant-loop-i

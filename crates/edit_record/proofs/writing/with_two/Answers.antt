@@ -1,6 +1,5 @@
 -- `edit_record::writing::with_two` meets its contract: two stores, one after the other. Assumes nothing.
 use native.Mathlib.Omega.{arith}
-use borrow.Author.Rules.{rules}
 use Rattle.edit_record.proofs.Encoding.{two-more}
 use Rattle.edit_record.proofs.writing.with_two.Goals as goal
 

@@ -1,12 +1,11 @@
 -- `edit_record::writing::with_vector` meets its contract: the bytes of the first i counts stand. Assumes nothing.
 use mathlib.Core.Path.{◌≡◌, sym, ap, ◌∙◌}
 use mathlib.Core.List.{List, ◌++◌, append-nil}
-use Prim.Native.Nat.{ℕ, ◌≤◌, ◌<◌, ◌-◌, ◌+◌, ◌*◌}
+use Prim.Native.Nat.{ℕ, ◌<◌, ◌+◌, ◌*◌}
 use native.Mathlib.Numerals.{add-one}
 use native.Mathlib.Omega.{arith}
 use lib.ListN.{length, take}
 use lib.Seq.{take_all}
-use borrow.Author.Rules.{rules}
 use Rattle.edit_record.specs.Layout.{most_sites, vector_at}
 use Rattle.edit_record.specs.RecordBytes.{count_bytes}
 use Rattle.edit_record.proofs.Encoding.{one-count-more}

@@ -1,15 +1,10 @@
 -- `edit_record::writing::with_vector` meets its contract: the bytes of the first i counts stand. Assumes nothing.
-use mathlib.Core.Path.{◌≡◌, sym, ap, ◌∙◌}
-use mathlib.Core.List.{List, ◌++◌, append-nil}
-use Prim.Native.Nat.{ℕ, ◌≤◌, ◌<◌, ◌-◌, ◌+◌, ◌*◌}
-use native.Mathlib.Numerals.{add-one}
-use native.Mathlib.Omega.{arith}
-use lib.ListN.{length, take}
-use lib.Seq.{take_all}
-use borrow.Author.Rules.{rules}
+use mathlib.Core.Path.{◌≡◌}
+use mathlib.Core.List.{◌++◌}
+use Prim.Native.Nat.{◌≤◌, ◌-◌, ◌+◌, ◌*◌}
+use lib.ListN.{take}
 use Rattle.edit_record.specs.Layout.{most_sites, vector_at}
 use Rattle.edit_record.specs.RecordBytes.{count_bytes}
-use Rattle.edit_record.proofs.Encoding.{one-count-more}
 use Rattle.edit_record.proofs.writing.with_vector.Given as goal
 
 abbrev pub invariant-loop-i : goal.invariant-loop-i
