@@ -1,17 +1,12 @@
 -- `edit_fit::are_members_wrong` meets its contract: `found` is what both tests say of the first i members,
 -- and `last` the name of the one before. Assumes nothing.
-use mathlib.Core.Path.{◌≡◌, refl, sym, ◌∙◌}
-use Prim.Native.Nat.{◌+◌, ◌*◌, ◌≤◌, ◌<◌, ◌-◌}
-use native.Mathlib.Numerals.{add-one}
-use native.Mathlib.Omega.{arith}
+use mathlib.Core.Path.{◌≡◌}
+use Prim.Native.Nat.{◌≤◌, ◌<◌, ◌-◌}
 use lib.ListN.{get_or, drop}
-use borrow.Author.Rules.{rules}
-use Rattle.math_lists.specs.NumbersBelow.{some}
 use Rattle.edit_record.specs.Layout.{most_members, members_at}
 use Rattle.edit_record.specs.RecordBytes.{first_fours}
 use Rattle.edit_record.specs.Answer1.{name_in}
-use Rattle.edit_record.proofs.FoursInBytes.{four-drop, fours-at, fours-past}
-use Rattle.edit_record.proofs.MembersTested.{is_wrong_among, wrong-more, wrong-all}
+use Rattle.edit_record.proofs.MembersTested.{is_wrong_among}
 use Rattle.edit_fit.proofs.are_members_wrong.Given as goal
 
 abbrev pub invariant-loop-i : goal.invariant-loop-i

@@ -1,8 +1,7 @@
 -- `edit_fit::is_malformed` meets its contract: a record of its own length is there whole. Assumes nothing.
-use mathlib.Core.Path.{◌≡◌, sym, ◌∙◌}
+use mathlib.Core.Path.{sym, ◌∙◌}
 use native.Mathlib.Omega.{arith}
 use lib.ListN.{length}
-use borrow.Author.Rules.{rules}
 use borrow.Author.Tests.{eq-eqb, ne_eqb}
 use Rattle.edit_record.specs.Answer1.{malformed}
 use Rattle.edit_record.specs.RecordBytes.{span_of}

@@ -1,17 +1,13 @@
 -- `edit_fit::is_nonzero_past` meets its contract: `found` is what the definition says of the first i entries, of
 -- which those before n do not count. Assumes nothing.
-use mathlib.Core.Path.{◌≡◌, sym, ◌∙◌}
+use mathlib.Core.Path.{◌≡◌}
 use mathlib.Core.List.{List}
 use Prim.Native.Nat.{ℕ, ◌≤◌, ◌<◌, ◌-◌}
-use native.Mathlib.Numerals.{add-one}
-use native.Mathlib.Omega.{arith}
 use lib.ListN.{drop}
-use borrow.Author.Rules.{rules}
 use Rattle.math_lists.specs.NumbersBelow.{some}
 use Rattle.edit_record.specs.Layout.{most_sites, vector_at}
 use Rattle.edit_record.specs.RecordBytes.{counts}
-use Rattle.edit_record.proofs.NumbersInBytes.{entry-in-record}
-use Rattle.edit_record.proofs.EntriesPastSites.{is_past, none_before, one-past, all_past}
+use Rattle.edit_record.proofs.EntriesPastSites.{is_past}
 use Rattle.edit_fit.proofs.is_nonzero_past.Given as goal
 
 abbrev pub vector_in : List ℕ → List ℕ

@@ -1,7 +1,6 @@
 -- `edit_fit::is_unfit` meets its contract: an entry at or past n tells by itself, and without one the rest does.
 -- Assumes nothing.
-use mathlib.Core.Path.{◌≡◌, sym, ◌∙◌}
-use borrow.Author.Rules.{rules}
+use mathlib.Core.Path.{sym, ◌∙◌}
 use Rattle.edit_record.specs.RecordBytes.{decode_of}
 use Rattle.edit_record.proofs.WellFormed.{past-unfit}
 use Rattle.edit_fit.proofs.is_unfit.Goals as goal

@@ -2,7 +2,6 @@
 -- nothing.
 use mathlib.Core.Path.{sym, ap, ◌∙◌}
 use native.Mathlib.Omega.{arith}
-use borrow.Author.Rules.{rules}
 use borrow.Author.Tests.{eq-eqb, ne_eqb}
 use Rattle.edit_record.specs.RecordBytes.{decode_of}
 use Rattle.edit_record.proofs.AgreeingBytes.{decode-own}

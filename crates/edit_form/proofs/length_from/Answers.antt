@@ -1,6 +1,5 @@
 -- `edit_form::length_from` meets its contract: the test is the definition's. Assumes nothing.
 use mathlib.Core.Path.{◌∙◌}
-use borrow.Author.Rules.{rules}
 use borrow.Author.Tests.{eq-eqb, ne_eqb}
 use Rattle.edit_form.specs.OldForm.{old_form}
 use Rattle.edit_form.proofs.length_from.Goals as goal

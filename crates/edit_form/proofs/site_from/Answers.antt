@@ -1,7 +1,6 @@
 -- `edit_form::site_from` meets its contract: the test is whether zeros stand for the record. Assumes nothing.
 use mathlib.Core.Path.{sym, ◌∙◌}
 use native.Mathlib.Omega.{arith}
-use borrow.Author.Rules.{rules}
 use Rattle.edit_form.proofs.CopiedParts.{length-least, site-read}
 use Rattle.edit_form.proofs.site_from.Goals as goal
 

@@ -1,5 +1,4 @@
 -- `edit_form::sites_by` meets its contract: the test is the definition's. Assumes nothing.
-use borrow.Author.Rules.{rules}
 use borrow.Author.Tests.{eq-eqb, ne_eqb}
 use Rattle.edit_form.specs.OldForm.{old_form}
 use Rattle.edit_form.proofs.sites_by.Goals as goal

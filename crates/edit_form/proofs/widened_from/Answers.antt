@@ -3,8 +3,6 @@
 use mathlib.Core.Path.{◌≡◌, sym, ◌∙◌}
 use native.Mathlib.Omega.{arith}
 use lib.ListN.{take}
-use borrow.Author.Rules.{rules}
-use borrow.Author.Tests.{not-true, not-false}
 use Rattle.edit_form.specs.OldForm.{old_length, widened}
 use Rattle.edit_form.proofs.CopiedParts.{parts-widened, old-by-kind}
 use Rattle.edit_form.proofs.widened_from.Goals as goal

@@ -1,13 +1,12 @@
 -- `edit_form::with_part` meets its contract: the first i bytes of the part are copied. Assumes nothing.
 use mathlib.Core.Path.{◌≡◌, ap, ◌∙◌}
 use mathlib.Core.List.{List, append_assoc}
-use Prim.Native.Nat.{ℕ, suc, ◌+◌, ◌-◌, ◌≤◌}
+use Prim.Native.Nat.{ℕ, suc, ◌+◌}
 use native.Mathlib.Numerals.{add-one}
 use native.Mathlib.Omega.{arith}
-use lib.ListN.{length, get_or, set, take, drop, length-set}
+use lib.ListN.{get_or, set, take, drop, length-set}
 use lib.Seq.{paste, paste-zero}
 use borrow.Author.Rules.{rules}
-use Rattle.edit_record.specs.Layout.{record_length}
 use Rattle.edit_form.proofs.CopiedParts.{one-copied}
 use Rattle.edit_form.proofs.with_part.Goals as goal
 

@@ -1,0 +1,19 @@
+-- `list_line::pieces::piece_at` meets its contract: the bytes passed stand at the front. Assumes nothing.
+use mathlib.Core.Path.{◌≡◌, refl, sym, ap, ◌∙◌}
+use Prim.Native.Nat.{ℕ, ◌+◌, ◌-◌, ◌*◌, ◌≤◌}
+use native.Mathlib.Numerals.{add-one}
+use native.Mathlib.Omega.{arith}
+use lib.ListN.{length, get_or, take, drop, length-set, length-drop}
+use lib.Seq.{take_all, take-suc, take-suc-set, get_or-drop}
+use Rattle.list_line.specs.LineForms.{piece_length}
+use borrow.Author.Rules.{rules}
+use Rattle.list_line.proofs.pieces.piece_at.Given as goal
+
+abbrev pub invariant-loop-i : goal.invariant-loop-i
+invariant-loop-i l =
+    (l.i ≤ piece_length)
+    × (length l.piece ≡ piece_length)
+    × (take l.i l.piece ≡ take l.i (drop (l.j * piece_length) l.texts))
+
+abbrev pub decreases-loop-i : goal.decreases-loop-i
+decreases-loop-i l = piece_length - l.i

@@ -1,0 +1,38 @@
+-- `list_line::put_line` meets its contract: the Create, the identifier, the values and a newline. Assumes nothing.
+use mathlib.Core.List.{[], ◌∷◌}
+use Prim.Native.Nat.{◌≤◌}
+use native.Mathlib.Omega.{arith}
+use lib.ListN.{length, get_or, take}
+use lib.Seq.{length-take-le}
+use Rattle.group_step.specs.GroupRows.{most_sets}
+use Rattle.edit_record.specs.Layout.{keys}
+use Rattle.list_text.specs.Pieces.{space, newline, dotted}
+use Rattle.list_text.proofs.PiecesBehind.{four}
+use Rattle.list_version.specs.VersionForms.{identifier_by}
+use Rattle.list_line.specs.Line.{identifier_text}
+use Rattle.list_line.specs.LineForms.{settings_by, line_by}
+use borrow.Author.Rules.{rules}
+use Rattle.list_line.proofs.put_line.Goals as goal
+
+pub returns : goal.returns
+unfolding line_by
+returns c =
+    let s4 = c in
+    let set = s4 in
+    let marked = set in
+    let named = marked in
+    let start = named in
+    let a = start.args in
+    let first = named.put_dotted-a.ensures in
+    let second = marked.put_identifier-b.ensures in
+    let third = set.put_settings-w.ensures in
+    let last = c.put_byte.ensures in
+    let disputes = take a.d a.disputes.now in
+    let few : length disputes ≤ most_sets
+    = omega (arith, start.requires.1, length-take-le a.d a.disputes.now start.requires.0) in (
+      four [] (dotted a.site a.seq) (space ∷ identifier_text (identifier_by disputes a.g))
+          (settings_by _ a.g keys) (newline ∷ []) first.0 second.0 third.0 last.0,
+      omega (arith, first.1, second.1, third.1, last.1),
+      third.2,
+      λ i l. third.3 i (get_or disputes i 0) (omega (arith, few)) (start.requires.4 i l),
+    )

@@ -1,0 +1,24 @@
+-- `list_line::put_members` meets its contract: the names of the members passed stand behind the first n bytes. Assumes
+-- nothing.
+use mathlib.Core.Path.{◌≡◌, refl, ◌∙◌}
+use mathlib.Core.List.{◌∷◌, ◌++◌, flat_map}
+use Prim.Native.Nat.{◌+◌, ◌-◌, ◌*◌, ◌≤◌}
+use native.Mathlib.Omega.{arith}
+use lib.ListN.{length, take}
+use Rattle.list_text.specs.Pieces.{plus, dotted_length}
+use Rattle.list_version.specs.VersionForms.{identifier_by}
+use Rattle.list_line.specs.Line.{name_text}
+use Rattle.list_line.proofs.LineTurns.{no_member, member-more}
+use Rattle.list_line.proofs.KeptPieces.{kept-name-at}
+use borrow.Author.Rules.{rules}
+use Rattle.list_line.proofs.put_members.Given as goal
+
+abbrev pub invariant-loop-i : goal.invariant-loop-i
+invariant-loop-i l =
+    (l.i ≤ l.d)
+    × (l.w ≤ l.n + l.i * (1 + dotted_length))
+    × (length l.out ≡ length l.initial.out)
+    × (take l.w l.out ≡ take l.n l.initial.out ++ flat_map (λ y. plus ∷ name_text y) (identifier_by (take l.i l.disputes) l.g))
+
+abbrev pub decreases-loop-i : goal.decreases-loop-i
+decreases-loop-i l = l.d - l.i
