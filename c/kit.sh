@@ -1,8 +1,9 @@
-# Sourced by ./drawlist, c/run, c/calls and bench/run: what programs for x86-64 are run under, and how a C program is
-# compiled and linked with the calls of spireslate.h. What builds or looks for something is called in the repository's
-# folder. What fails says why on standard error.
+# Sourced by ./drawlist, c/library, c/run, c/calls, bench/run and bench/stack: what programs for x86-64 are run under, and
+# how a C program is compiled and linked with the calls of spireslate.h. What builds or looks for something is called in
+# the repository's folder. What fails says why on standard error.
 
-kit=$(dirname "$(dirname "$(rt doc)")")/on/$(uname -m)/toolchain
+kit=$(dirname "$(rt doc)")/toolchain
+exports=crates/call_c_c
 library=target/staticlib/libcall_c.a
 made=target/c
 
@@ -12,17 +13,10 @@ is_current() {
     [ -z "$(find crates.txt crates/*/src crates/*/specs crates/*/proofs -newer "$1" -print 2>/dev/null | sed 1q)" ]
 }
 
-# Runs a program that rt built as rt does: under the kit's loader and C library, and on another processor than x86-64
-# under the kit's emulator.
-run_as_rt() {
-    emulator=$kit/bin/qemu-x86_64
-    [ -x "$emulator" ] || emulator=
-    ${emulator:+"$emulator"} "$kit/lib/ld-linux-x86-64.so.2" --library-path "$kit/lib" "$@"
-}
-
-# Runs a C program that was compiled here: on x86-64 it has that machine's own C library.
-run_compiled() {
-    if [ "$(uname -m)" = x86_64 ]; then "$@"; else run_as_rt "$@"; fi
+# Runs a program that was built here: on x86-64 it has that machine's own loader and C library, as under rt. On another
+# processor it has the kit's, and the system's emulator, without which no command of the kit runs there.
+run_built() {
+    if [ "$(uname -m)" = x86_64 ]; then "$@"; else "$kit/lib/ld-linux-x86-64.so.2" --library-path "$kit/lib" "$@"; fi
 }
 
 install_cross() {
@@ -44,12 +38,13 @@ find_compiler() {
     command -v "$compiler" >/dev/null || { echo "there is no C compiler for x86-64" >&2; return 1; }
 }
 
-# Builds the library anew: an archive of an earlier run is not to be linked by mistake.
+# Builds the library anew: an archive of an earlier run is not to be linked by mistake. rt writes it beside the crate.
 build_library() {
-    mkdir -p target/log && rm -f "$library" || return 1
-    if rt staticlib call_c >target/log/c.staticlib 2>&1 && [ -s "$library" ]; then return 0; fi
-    tail -n 20 target/log/c.staticlib >&2
-    echo "rt wrote no $library (target/log/c.staticlib has what it said)" >&2
+    archive=$exports/out/libcall_c_c.a
+    mkdir -p target/log "$(dirname "$library")" && rm -f "$library" "$archive" || return 1
+    if (cd "$exports" && rt lib) >target/log/c.lib 2>&1 && [ -s "$archive" ]; then cp "$archive" "$library"; return; fi
+    tail -n 20 target/log/c.lib >&2
+    echo "rt wrote no $archive (target/log/c.lib has what it said)" >&2
     return 1
 }
 

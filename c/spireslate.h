@@ -1,10 +1,10 @@
-/* The calls of Spireslate for a C program on x86-64 Linux: the static library of the crate `call_c` has them, which
-   `rt staticlib call_c` writes to target/staticlib/libcall_c.a, and each is proved to meet its contract. docs/MANUAL.md
-   says how to link them, how to fill a record and what to do on each answer. All lengths and all contents are allowed:
-   every input has an answer, and a table, record, file or output that is too short, too long or damaged is refused with
-   its number, never read or written outside. What no proof can see is left to the caller: a pointer is not null, also
-   where its length is 0; it points to as many elements as the length beside it says, aligned as C aligns them; and what
-   a call may write (a pointer that is not const) overlaps nothing else that the call is given. */
+/* The calls of Spireslate for a C program on x86-64 Linux: the static library of the crate `call_c_c` has them, which
+   `c/library` writes to target/staticlib/libcall_c.a, and each is proved to meet its contract. docs/MANUAL.md says how
+   to link them, how to fill a record and what to do on each answer. All lengths and all contents are allowed: every
+   input has an answer, and a table, record, file or output that is too short, too long or damaged is refused with its
+   number, never read or written outside. What no proof can see is left to the caller: a pointer is not null, also
+   where its length is 0; it points to as many elements as the length beside it says, aligned as C aligns them; and
+   what a call may write (a pointer that is not const) overlaps nothing else that the call is given. */
 #ifndef SPIRESLATE_H
 #define SPIRESLATE_H
 

@@ -1,7 +1,7 @@
-// The calls of documents 01 and 02 as a C program makes them: c/spireslate.h declares each function of this file. Every
-// input has an answer, so none of them asks anything of its caller but that a pointer points to as many elements as it
-// says. Answers are the documents' numbers. A call that changes the counters takes them by `&mut`, where the caller
-// keeps them; any other takes them by value.
+// The calls of documents 01 and 02, with the names, the parameters and the answers that a C program has for them: the
+// crate `call_c_c` exports each function of this file, and c/spireslate.h declares it. Every input has an answer, so none
+// of them asks anything of its caller. Answers are the documents' numbers. A call that changes the counters takes them by
+// `&mut`, where the caller keeps them; any other takes them by value.
 #![tactic(auto)]
 
 ghost use Rattle.std.specs.Prelude.{◌≡◌};
@@ -24,75 +24,57 @@ use edit_record::{Seq, Site};
 use table_drawing::Counters;
 use table_output::Written;
 
-#[unsafe(no_mangle)]
 // Opens an empty drawing of n sites; refused, everything stays as it was.
-pub extern "C" fn spireslate_open(
+pub fn spireslate_open(
     c: &mut Counters,
     records: &mut [u8],
     objects: &mut [u16],
     groups: &mut [u64],
     n: u8,
 ) -> u8
-    ensures { outcome_of result
-        (tables_of c.new records.new objects.new groups.new)
-        ≡ opening_of
-        (tables_of c.old records.old objects.old groups.old) n }
+    ensures { outcome_of result (tables_of c.new records.new objects.new groups.new)
+        ≡ opening_of (tables_of c.old records.old objects.old groups.old) n }
 {
     let opened = call_by_value::open_by_value(*c, records, objects, groups, n);
     *c = opened.counters;
     opened.number
 }
 
-#[unsafe(no_mangle)]
 // An arriving edit, any bytes, at any tables: 8, then 1 to 7 in turn, the first that applies; else the edit is taken.
-pub extern "C" fn spireslate_arrive(
+pub fn spireslate_arrive(
     c: &mut Counters,
     records: &mut [u8],
     objects: &mut [u16],
     groups: &mut [u64],
     rec: &[u8],
 ) -> u8
-    ensures { outcome_of result
-        (tables_of c.new records.new objects.new groups.new)
-        ≡ arrival_of
-        (tables_of c.old records.old objects.old groups.old)
-        rec.now }
+    ensures { outcome_of result (tables_of c.new records.new objects.new groups.new)
+        ≡ arrival_of (tables_of c.old records.old objects.old groups.old) rec.now }
 {
     let arrived = call_by_value::arrive_by_value(*c, records, objects, groups, rec);
     *c = arrived.counters;
     arrived.number
 }
 
-#[unsafe(no_mangle)]
 // Reads a file, any bytes, into the tables: lengths (8), 10, 9, then its records in turn.
-pub extern "C" fn spireslate_read(
+pub fn spireslate_read(
     c: &mut Counters,
     records: &mut [u8],
     objects: &mut [u16],
     groups: &mut [u64],
     file: &[u8],
 ) -> FileAnswer
-    ensures { replayed result.number result.index
-        (tables_of c.new records.new objects.new groups.new)
-        ≡ reading_of
-        (tables_of c.old records.old objects.old groups.old)
-        file.now }
+    ensures { replayed result.number result.index (tables_of c.new records.new objects.new groups.new)
+        ≡ reading_of (tables_of c.old records.old objects.old groups.old) file.now }
 {
     let read = call_by_value::read_by_value(*c, records, objects, groups, file);
     *c = read.counters;
     read.answer
 }
 
-#[unsafe(no_mangle)]
 // Whether the tables are what their records give from an empty drawing: 0, else 8.
-pub extern "C" fn spireslate_check(
-    c: Counters,
-    records: &[u8],
-    objects: &[u16],
-    groups: &[u64],
-) -> u8
-    ensures { result
-        ≡ check_of (tables_of c records.now objects.now groups.now) }
+pub fn spireslate_check(c: Counters, records: &[u8], objects: &[u16], groups: &[u64]) -> u8
+    ensures { result ≡ check_of (tables_of c records.now objects.now groups.now) }
 {
     let said = table_check::check(c, records, objects, groups);
     table_drawing::number(said)
@@ -117,9 +99,8 @@ fn by_number(w: Written) -> WriteAnswer
     }
 }
 
-#[unsafe(no_mangle)]
 // Writes the block of the tables into out from the start on; refused, everything stays as it was.
-pub extern "C" fn spireslate_write(
+pub fn spireslate_write(
     c: Counters,
     records: &[u8],
     objects: &[u16],
@@ -128,16 +109,14 @@ pub extern "C" fn spireslate_write(
     start: usize,
 ) -> WriteAnswer
     ensures { writing result.number result.bytes out.new
-        ≡ writing_of (tables_of c records.now objects.now groups.now)
-        out.old start }
+        ≡ writing_of (tables_of c records.now objects.now groups.now) out.old start }
 {
     let w = block_store::write(c, records, objects, groups, out, start);
     by_number(w)
 }
 
-#[unsafe(no_mangle)]
 // Puts line k of the list into out from the start on; refused, everything stays as it was.
-pub extern "C" fn spireslate_line(
+pub fn spireslate_line(
     c: Counters,
     records: &[u8],
     objects: &[u16],
@@ -147,16 +126,14 @@ pub extern "C" fn spireslate_line(
     start: usize,
 ) -> WriteAnswer
     ensures { writing result.number result.bytes out.new
-        ≡ line_of (tables_of c records.now objects.now groups.now) k
-        out.old start }
+        ≡ line_of (tables_of c records.now objects.now groups.now) k out.old start }
 {
     let w = list_lines::print_line(c, records, objects, groups, k, out, start);
     by_number(w)
 }
 
-#[unsafe(no_mangle)]
 // Puts all lines of the list into out from the start on, if they have room there; refused, everything stays as it was.
-pub extern "C" fn spireslate_list(
+pub fn spireslate_list(
     c: Counters,
     records: &[u8],
     objects: &[u16],
@@ -165,8 +142,7 @@ pub extern "C" fn spireslate_list(
     start: usize,
 ) -> WriteAnswer
     ensures { writing result.number result.bytes out.new
-        ≡ listing_of (tables_of c records.now objects.now groups.now)
-        out.old start }
+        ≡ listing_of (tables_of c records.now objects.now groups.now) out.old start }
 {
     let w = list_print::print_list(c, records, objects, groups, out, start);
     by_number(w)
@@ -180,10 +156,9 @@ pub struct GroupsAnswer {
     pub count: usize,
 }
 
-#[unsafe(no_mangle)]
 // Puts the groups of the box whose Create is the one named into out, worked out with no arrival order; refused,
 // everything stays as it was.
-pub extern "C" fn spireslate_groups(
+pub fn spireslate_groups(
     c: Counters,
     records: &[u8],
     objects: &[u16],
@@ -215,9 +190,8 @@ pub struct LocateAnswer {
     pub start: usize,
 }
 
-#[unsafe(no_mangle)]
 // Locates the block of a file, any bytes: 10, then 9; refused, N, the form, the records and the start are 0.
-pub extern "C" fn spireslate_locate(file: &[u8]) -> LocateAnswer
+pub fn spireslate_locate(file: &[u8]) -> LocateAnswer
     ensures { (found result.number result.sites result.form result.records ≡ (located file.now).trailer)
         × (result.start ≡ (located file.now).start) }
 {

@@ -1,6 +1,5 @@
 // The calls of the interface to which the counters are lent by `&mut`, made from Rattle: each function here has plain
-// parameters, lends a local to one of those calls, whose proofs are walked by hand, and has the same contract. Whoever
-// calls these needs no walk. Assumes nothing of what is lent.
+// parameters, lends a local to one of those calls, and has the same contract. Assumes nothing of what is lent.
 #![tactic(auto)]
 
 ghost use Rattle.std.specs.Prelude.{◌≡◌};
@@ -23,8 +22,7 @@ pub fn open_on(
     groups: &mut [u64],
     n: u8,
 ) -> Answered
-    ensures { outcome_of result.number
-        (tables_of result.counters records.new objects.new groups.new)
+    ensures { outcome_of result.number (tables_of result.counters records.new objects.new groups.new)
         ≡ opening_of (tables_of c records.old objects.old groups.old) n }
 {
     let mut d = c;
@@ -43,10 +41,8 @@ pub fn arrive_on(
     groups: &mut [u64],
     rec: &[u8],
 ) -> Answered
-    ensures { outcome_of result.number
-        (tables_of result.counters records.new objects.new groups.new)
-        ≡ arrival_of (tables_of c records.old objects.old groups.old)
-        rec.now }
+    ensures { outcome_of result.number (tables_of result.counters records.new objects.new groups.new)
+        ≡ arrival_of (tables_of c records.old objects.old groups.old) rec.now }
 {
     let mut d = c;
     let number = spireslate_arrive(&mut d, records, objects, groups, rec);
@@ -66,8 +62,7 @@ pub fn read_on(
 ) -> FileTaken
     ensures { replayed result.answer.number result.answer.index
         (tables_of result.counters records.new objects.new groups.new)
-        ≡ reading_of (tables_of c records.old objects.old groups.old)
-        file.now }
+        ≡ reading_of (tables_of c records.old objects.old groups.old) file.now }
 {
     let mut d = c;
     let answer = spireslate_read(&mut d, records, objects, groups, file);

@@ -3,11 +3,14 @@
 // proved function `list_file::print_file`.
 #![tactic(auto)]
 
-ghost use Rattle.std.specs.Prelude.{◌≡◌, ◌+◌, ◌≤◌, length};
+ghost use Rattle.std.specs.Prelude.{◌≡◌, ◌+◌, ◌≤◌, length, take, OnOk, IfSome};
+ghost use Rattle.std.specs.Io.KnownBytes.{Appends};
 ghost use Rattle.block_trailer.specs.Trailer.{file_limit};
 ghost use Rattle.list_print.specs.Printing.{list_length};
+ghost use Rattle.list_file.specs.PrintedFile.{printed_of};
 
-use libc::{STDIN_FILENO, STDOUT_FILENO};
+use std::io::{self, Read, Write};
+use std::rt::Runtime;
 
 // One byte more than a file that is read may have.
 const MOST: usize = block_trailer::FILE_LIMIT + 1;
@@ -25,43 +28,54 @@ fn room() -> [u8; list_print::LIST]
 }
 
 // Prints a file, with room for the longest list.
-fn print(out: &mut [u8], file: &[u8])
+fn print<W: Write>(to: &mut W, out: &mut [u8], file: &[u8]) -> io::Result<()>
     requires { list_length ≤ length out.old }
+    ensures { OnOk result (Appends (W.contents to.old) (W.contents to.new) (printed_of file.now)) }
 {
     let k = list_file::print_file(out, file);
-    io::write_all(STDOUT_FILENO, &out[..k]);
+    to.write_all(&out[..k])
 }
 
-// Prints what can be read from fd.
-fn print_from(fd: i32) {
+// Prints what can be read, of which one byte past the limit is the last.
+fn print_from<R: Read, W: Write>(from: &mut R, to: &mut W) -> io::Result<()>
+    ensures { OnOk result (IfSome (R.remaining from.old)
+        (λ xs. Appends (W.contents to.old) (W.contents to.new) (printed_of (take (file_limit + 1) xs)))) }
+{
     let mut file = buffer();
-    let n = io::read_full(fd, &mut file);
+    let n = program_input::read_full(from, &mut file)?;
     let mut out = room();
-    print(&mut out, &file[..n]);
+    print(to, &mut out, &file[..n])
 }
 
-fn print_named(path: &[u8]) {
-    let fd = os::open_read(path);
-    if fd < 0 {
-        os::fail(path);
-        return;
+fn print_named<R: Runtime + AllocGlobal>(rt: &R, path: &str) -> io::Result<()> {
+    let mut file = buffer();
+    match program_input::read_named(rt, path, &mut file) {
+        Ok(n) => {
+            let mut out = room();
+            print(&mut io::writer(rt), &mut out, &file[..n])
+        }
+        Err(error) => program_input::tell_unread(rt, path, error),
     }
-    print_from(fd);
-    libc::close(fd);
 }
 
-fn print_argument(i: usize) {
-    let mut path = io::buffer();
-    let n = os::arg(i, &mut path);
-    print_named(&path[..n]);
+// Prints the file that the argument i names, and says whether there is one.
+fn print_argument<R: Runtime + AllocGlobal>(rt: &R, i: usize) -> io::Result<bool> {
+    match program_input::argument(rt, i) {
+        Ok(None) => return Ok(false),
+        Ok(Some(path)) => print_named(rt, path.as_str())?,
+        Err(error) => eprintln!(rt; "argument {i}: {error}")?,
+    }
+    Ok(true)
 }
 
-fn main() {
-    let count = os::arg_count();
-    if count < 2 {
-        print_from(STDIN_FILENO);
+fn main(rt: HostRuntime) -> io::Result<()> {
+    if !print_argument(&rt, 1)? {
+        return print_from(&mut rt.reader(), &mut io::writer(&rt));
     }
-    for i in 1..count {
-        print_argument(i);
+    for i in 2..usize::MAX {
+        if !print_argument(&rt, i)? {
+            break;
+        }
     }
+    Ok(())
 }

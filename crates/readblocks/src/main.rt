@@ -9,7 +9,8 @@ use block_store::FileRead;
 use edit_history::RECORDS;
 use edit_record::{PLACE, SITES};
 use group_step::{GROUPS, OBJECTS};
-use libc::STDOUT_FILENO;
+use std::io;
+use std::rt::Runtime;
 use table_drawing::{Counters, ENTRY};
 
 // One byte more than a file that is read may have.
@@ -21,43 +22,29 @@ fn buffer() -> [u8; MOST]
     [0; MOST]
 }
 
-fn say(words: &[u8], n: u64) {
-    io::write_all(STDOUT_FILENO, words);
-    io::print_decimal(STDOUT_FILENO, n);
-}
-
-fn ends_with(file: &[u8], block: &[u8]) -> bool {
-    let n = block.len();
-    if file.len() < n {
-        return false;
-    }
-    check::same(&file[file.len() - n..], block)
-}
-
-fn tell_written(n: usize, out: &[u8], file: &[u8]) {
-    say(b", written ", n as u64);
+fn tell_written<R: Print>(rt: &R, n: usize, out: &[u8], file: &[u8]) -> io::Result<()> {
+    print!(rt; ", written {n}")?;
     if n == 0 {
-        return;
+        return Ok(());
     }
     if n > block_trailer::FILE_LIMIT {
-        return;
+        return Ok(());
     }
-    let count = io::count(n as isize, out);
-    if ends_with(file, &out[..count]) {
-        io::write_all(STDOUT_FILENO, b" the same");
+    let count = n.min(out.len());
+    if file.ends_with(&out[..count]) {
+        print!(rt; " the same")?;
     }
+    Ok(())
 }
 
-fn tell_read(r: FileRead) {
-    let answer = r.answer;
+fn tell_read<R: Print>(rt: &R, r: FileRead) -> io::Result<()> {
+    let answer = table_drawing::number(r.answer);
     let c = r.counters;
-    say(b": answer ", table_drawing::number(answer) as u64);
-    say(b", index ", r.index as u64);
-    say(b", sites ", c.sites as u64);
-    say(b", records ", c.records as u64);
+    print!(rt; ": answer {answer}, index {}", r.index)?;
+    print!(rt; ", sites {}, records {}", c.sites, c.records)
 }
 
-fn tell(file: &[u8]) {
+fn tell<R: Print>(rt: &R, file: &[u8]) -> io::Result<()> {
     let mut records = [0u8; RECORDS * PLACE];
     let mut objects = [0u16; OBJECTS * ENTRY];
     let mut groups = [0u64; OBJECTS * GROUPS];
@@ -72,33 +59,37 @@ fn tell(file: &[u8]) {
     let mut out = [0u8; RECORDS * PLACE + block_trailer::TRAILER];
     let c = r.counters;
     let w = block_store::write(c, &records, &objects, &groups, &mut out, 0);
-    tell_read(r);
-    tell_written(w.bytes, &out, file);
-    io::write_all(STDOUT_FILENO, b"\n");
+    tell_read(rt, r)?;
+    tell_written(rt, w.bytes, &out, file)?;
+    println!(rt;)
 }
 
-fn open(path: &[u8]) {
-    let fd = os::open_read(path);
-    if fd < 0 {
-        os::fail(path);
-        return;
-    }
+fn open<R: Runtime + AllocGlobal>(rt: &R, path: &str) -> io::Result<()> {
     let mut file = buffer();
-    let n = io::read_full(fd, &mut file);
-    libc::close(fd);
-    io::write_all(STDOUT_FILENO, path);
-    tell(&file[..n]);
-}
-
-fn open_argument(i: usize) {
-    let mut path = io::buffer();
-    let n = os::arg(i, &mut path);
-    open(&path[..n]);
-}
-
-fn main() {
-    let count = os::arg_count();
-    for i in 1..count {
-        open_argument(i);
+    match program_input::read_named(rt, path, &mut file) {
+        Ok(n) => {
+            print!(rt; "{path}")?;
+            tell(rt, &file[..n])
+        }
+        Err(error) => program_input::tell_unread(rt, path, error),
     }
+}
+
+// Opens the file that the argument i names, and says whether there is one.
+fn open_argument<R: Runtime + AllocGlobal>(rt: &R, i: usize) -> io::Result<bool> {
+    match program_input::argument(rt, i) {
+        Ok(None) => return Ok(false),
+        Ok(Some(path)) => open(rt, path.as_str())?,
+        Err(error) => eprintln!(rt; "argument {i}: {error}")?,
+    }
+    Ok(true)
+}
+
+fn main(rt: HostRuntime) -> io::Result<()> {
+    for i in 1..usize::MAX {
+        if !open_argument(&rt, i)? {
+            break;
+        }
+    }
+    Ok(())
 }

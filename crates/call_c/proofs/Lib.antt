@@ -1,3 +1,0 @@
-pub mod LentCounters
-pub mod ThinCalls
-pub mod AnsweredResult

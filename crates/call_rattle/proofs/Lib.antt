@@ -1,3 +1,0 @@
-pub mod LocalLent
-pub mod LocalWalk
-pub mod AnsweredMade
