@@ -285,7 +285,7 @@ long-outcome m = (long-left m).outcome
 wide-long : (c : (Lts.Joined1 Tie.the-claims Reads.Pre Reads.Post goal.the-invariant-loop-i goal.the-decreases-loop-i)) → length c.if-form-eq-OLD.wide ≡ record_length
 wide-long c =
     elim c.if-form-eq-OLD.branch [
-        then-form-eq-OLD v ↦ rw v.wide-is (search (rules, v.widened_from-wide.ok))
+        then-form-eq-OLD v ↦ rw v.wide-is (search rules)
       | else-form-eq-OLD v ↦ rw v.wide-is c.loop-i.invariant.6
     ]
 
@@ -377,14 +377,14 @@ loop-i-preserved-then-t c =
     p.take_short-t.ensures.0 c.if-t.true in (
       omega (arith, r.loop-i-test.true),
       rw (add-one l.i)
-          (next_start (form_of c.before.before.before.before.before.before.before.before.before.before.before.before.before.before.before.before.before.before.before.before.before.before.before.before.before.before.before.before.before.before.before.before.before.before.before.before.before.before) (recs-of c.before.before.before.before.before.before.before.before.before.before.before.before.before.before.before.before.before.before.before.before.before.before.before.before.before.before.before.before.before.before.before.before.before.before.before.before.before.before) l.i l.at l.inv.1 w.length_from-used.result
+          (next_start (form_of c.before.before.before.before.before.before.before.before.before.before.before.before.before.before.before.before.before.before.before.before.before.before.before.before.before.before.before.before.before.before.before.before.before.before.before.before.before.before) (recs-of c.before.before.before.before.before.before.before.before.before.before.before.before.before.before.before.before.before.before.before.before.before.before.before.before.before.before.before.before.before.before.before.before.before.before.before.before.before.before) l.i l.at l.invariant.1 w.length_from-used.result
           w.length_from-used.ensures),
-      going_next s.args.sites (given-of c.before.before.before.before.before.before.before.before.before.before.before.before.before.before.before.before.before.before.before.before.before.before.before.before.before.before.before.before.before.before.before.before.before.before.before.before.before.before) s.requires.3 l.i _ l.inv.2 _
+      going_next s.args.sites (given-of c.before.before.before.before.before.before.before.before.before.before.before.before.before.before.before.before.before.before.before.before.before.before.before.before.before.before.before.before.before.before.before.before.before.before.before.before.before.before) s.requires.3 l.i _ l.invariant.2 _
           (lv.outcome ∙ ap (acceptance_of (tables-of c.before.before.before.before.before.before.before.before.before.before.before.before.before.before.before.before.before.before.before.before.before.before.before.before.before.before.before.before.before.before.before.before.before.before.before.before.before.before)) (rec-is c.before.before.before.before.before.before.before.before.before.before.before.before.before.before.before.before.before.before.before.before.before.before.before.before.before.before.before.before.before.before.before.before)),
       lv.index refl,
       spaced-same (counted-in (form_of c.before.before.before.before.before.before.before.before.before.before.before.before.before.before.before.before.before.before.before.before.before.before.before.before.before.before.before.before.before.before.before.before.before.before.before.before.before.before) (recs-of c.before.before.before.before.before.before.before.before.before.before.before.before.before.before.before.before.before.before.before.before.before.before.before.before.before.before.before.before.before.before.before.before.before.before.before.before.before.before) s.args.n) _ _ (lv.starts refl) (lv.index refl
           ).places-long
-          l.inv.4,
+          l.invariant.4,
       kept-after (given-of c.before.before.before.before.before.before.before.before.before.before.before.before.before.before.before.before.before.before.before.before.before.before.before.before.before.before.before.before.before.before.before.before.before.before.before.before.before.before) l.i _ _ _ _ (held-now c.before.before.before.before.before.before.before.before.before.before.before.before.before.before.before.before.before.before.before.before.before.before.before.before.before.before.before.before.before.before.before.before.before.before.before.before.before.before) (ap decode_of (rec-is c.before.before.before.before.before.before.before.before.before.before.before.before.before.before.before.before.before.before.before.before.before.before.before.before.before.before.before.before.before.before.before.before))
           (rw c.if-t.true at p.take_short-t.ensures.1),
       wide-long c.before.before.before.before.before.before.before.before.before.before.before.before.before.before.before.before.before.before.before.before.before.before.before.before.before.before.before.before.before.before.before.before.before.before,
@@ -418,17 +418,17 @@ take_next-a-requires c =
 pub shape_of-records-then-number-ne0 : goal.shape_of-records-then-number-ne0
 shape_of-records-then-number-ne0 c =
     let m = call-of c.before.before in
-    (call_long (round-of (short-of c.before.before.before.before.before.before.before.before.before.before.before.before.before.before.before.before.before.before.before.before.before.before)) _ _ (long-outcome c.before.before.before.before.before.before.before.before.before.before.before.before.before.before.before.before.before.before.before.before.before.before)).0
+    (call_long (round-of (short-of c.before.before.before.before.before.before.before.before.before.before.before.before.before.before.before.before.before.before.before.before.before.before)).before _ _ (long-outcome c.before.before.before.before.before.before.before.before.before.before.before.before.before.before.before.before.before.before.before.before.before.before)).0
 
 pub shape_of-objects-then-number-ne0 : goal.shape_of-objects-then-number-ne0
 shape_of-objects-then-number-ne0 c =
     let m = call-of c.before.before in
-    (call_long (round-of (short-of c.before.before.before.before.before.before.before.before.before.before.before.before.before.before.before.before.before.before.before.before.before.before)) _ _ (long-outcome c.before.before.before.before.before.before.before.before.before.before.before.before.before.before.before.before.before.before.before.before.before.before)).1
+    (call_long (round-of (short-of c.before.before.before.before.before.before.before.before.before.before.before.before.before.before.before.before.before.before.before.before.before.before)).before _ _ (long-outcome c.before.before.before.before.before.before.before.before.before.before.before.before.before.before.before.before.before.before.before.before.before.before)).1
 
 pub shape_of-groups-then-number-ne0 : goal.shape_of-groups-then-number-ne0
 shape_of-groups-then-number-ne0 c =
     let m = call-of c.before.before in
-    (call_long (round-of (short-of c.before.before.before.before.before.before.before.before.before.before.before.before.before.before.before.before.before.before.before.before.before.before)) _ _ (long-outcome c.before.before.before.before.before.before.before.before.before.before.before.before.before.before.before.before.before.before.before.before.before.before)).2
+    (call_long (round-of (short-of c.before.before.before.before.before.before.before.before.before.before.before.before.before.before.before.before.before.before.before.before.before.before)).before _ _ (long-outcome c.before.before.before.before.before.before.before.before.before.before.before.before.before.before.before.before.before.before.before.before.before.before)).2
 
 pub shape_of-places-then-number-ne0 : goal.shape_of-places-then-number-ne0
 shape_of-places-then-number-ne0 c =
@@ -436,7 +436,7 @@ shape_of-places-then-number-ne0 c =
     let b = (round-of (short-of c.before.before.before.before.before.before.before.before.before.before.before.before.before.before.before.before.before.before.before.before.before.before)) in
     m.take_next-a.auto.places
     ∙ ap length (as_before c.before.before.before.before.before.before.before.before.before.before.before.before.before.before.before.before.before.before.before.before.before.before).0
-    ∙ b.loop-i.inv.3.places-long
+    ∙ b.loop-i.invariant.3.places-long
     ∙ sym (start-of c.before.before.before.before.before.before.before.before.before.before.before.before.before.before.before.before.before.before.before.before.before.before.before.before.before.before.before.before.before.before.before.before.before.before.before.before.before.before.before.before.before.before.before.before.before.before.before.before.before.before.before.before.before.before.before.before.before.before.before.before.before.before.before.before.before.before.before.before.before).requires.1.places-long
 
 pub shape_of-numbers-then-number-ne0 : goal.shape_of-numbers-then-number-ne0
@@ -445,7 +445,7 @@ shape_of-numbers-then-number-ne0 c =
     let b = (round-of (short-of c.before.before.before.before.before.before.before.before.before.before.before.before.before.before.before.before.before.before.before.before.before.before)) in
     m.take_next-a.auto.numbers
     ∙ ap length (as_before c.before.before.before.before.before.before.before.before.before.before.before.before.before.before.before.before.before.before.before.before.before.before).1
-    ∙ b.loop-i.inv.3.numbers-long
+    ∙ b.loop-i.invariant.3.numbers-long
     ∙ sym (start-of c.before.before.before.before.before.before.before.before.before.before.before.before.before.before.before.before.before.before.before.before.before.before.before.before.before.before.before.before.before.before.before.before.before.before.before.before.before.before.before.before.before.before.before.before.before.before.before.before.before.before.before.before.before.before.before.before.before.before.before.before.before.before.before.before.before.before.before.before.before).requires.1.numbers-long
 
 pub shape_of-counts-then-number-ne0 : goal.shape_of-counts-then-number-ne0
@@ -454,7 +454,7 @@ shape_of-counts-then-number-ne0 c =
     let b = (round-of (short-of c.before.before.before.before.before.before.before.before.before.before.before.before.before.before.before.before.before.before.before.before.before.before)) in
     m.take_next-a.auto.counts
     ∙ ap length (as_before c.before.before.before.before.before.before.before.before.before.before.before.before.before.before.before.before.before.before.before.before.before.before).2
-    ∙ b.loop-i.inv.3.counts-long
+    ∙ b.loop-i.invariant.3.counts-long
     ∙ sym (start-of c.before.before.before.before.before.before.before.before.before.before.before.before.before.before.before.before.before.before.before.before.before.before.before.before.before.before.before.before.before.before.before.before.before.before.before.before.before.before.before.before.before.before.before.before.before.before.before.before.before.before.before.before.before.before.before.before.before.before.before.before.before.before.before.before.before.before.before.before.before).requires.1.counts-long
 
 pub shape_of-chains-then-number-ne0 : goal.shape_of-chains-then-number-ne0
@@ -463,7 +463,7 @@ shape_of-chains-then-number-ne0 c =
     let b = (round-of (short-of c.before.before.before.before.before.before.before.before.before.before.before.before.before.before.before.before.before.before.before.before.before.before)) in
     m.take_next-a.auto.chains
     ∙ ap length (as_before c.before.before.before.before.before.before.before.before.before.before.before.before.before.before.before.before.before.before.before.before.before.before).3
-    ∙ b.loop-i.inv.3.chained.chains-long
+    ∙ b.loop-i.invariant.3.chained.chains-long
     ∙ sym (start-of c.before.before.before.before.before.before.before.before.before.before.before.before.before.before.before.before.before.before.before.before.before.before.before.before.before.before.before.before.before.before.before.before.before.before.before.before.before.before.before.before.before.before.before.before.before.before.before.before.before.before.before.before.before.before.before.before.before.before.before.before.before.before.before.before.before.before.before.before.before).requires.1.chained.chains-long
 
 pub shape_of-rows-then-number-ne0 : goal.shape_of-rows-then-number-ne0
@@ -489,7 +489,7 @@ returns-then-number-ne0 c =
     let b = r in
     let s = start-of c.before.before.before.before.before.before.before.before.before.before.before.before.before.before.before.before.before.before.before.before.before.before.before.before.before.before.before.before.before.before.before.before.before.before.before.before.before.before.before.before.before.before.before.before.before.before.before.before.before.before.before.before.before.before.before.before.before.before.before.before.before.before.before.before.before.before.before.before.before in
     let l = b.loop-i in
-    going-ends s.args.sites (given-of c.before.before.before.before.before.before.before.before.before.before.before.before.before.before.before.before.before.before.before.before.before.before.before.before.before.before.before.before.before.before.before.before.before.before.before.before.before.before.before.before.before.before.before.before.before.before.before.before.before.before.before.before.before.before.before.before.before.before.before.before.before.before.before.before.before.before.before.before.before) s.requires.3 l.i _ l.inv.2
+    going-ends s.args.sites (given-of c.before.before.before.before.before.before.before.before.before.before.before.before.before.before.before.before.before.before.before.before.before.before.before.before.before.before.before.before.before.before.before.before.before.before.before.before.before.before.before.before.before.before.before.before.before.before.before.before.before.before.before.before.before.before.before.before.before.before.before.before.before.before.before.before.before.before.before.before.before) s.requires.3 l.i _ l.invariant.2
     (number_of m.take_next-a.result.answer) _ (long-outcome c.before.before.before.before.before.before.before.before.before.before.before.before.before.before.before.before.before.before.before.before.before.before)
     (λ z. c.if-number-ne0.true (c.number.ensures ∙ z))
     s.args.n
@@ -521,17 +521,17 @@ loop-i-preserved c =
     let parts = parts-after (tables-of c.before.before.before.before.before.before.before.before.before.before.before.before.before.before.before.before.before.before.before.before.before.before.before.before.before.before.before.before.before.before.before.before.before.before.before.before.before.before.before.before.before.before.before.before.before.before.before.before.before.before.before.before.before.before.before.before.before.before.before.before.before.before.before.before.before.before.before.before.before.before) _ (given-of c.before.before.before.before.before.before.before.before.before.before.before.before.before.before.before.before.before.before.before.before.before.before.before.before.before.before.before.before.before.before.before.before.before.before.before.before.before.before.before.before.before.before.before.before.before.before.before.before.before.before.before.before.before.before.before.before.before.before.before.before.before.before.before.before.before.before.before.before.before.before l.i) ok in (
       omega (arith, r.loop-i-test.true),
       rw (add-one l.i)
-          (next_start (form_of c.before.before.before.before.before.before.before.before.before.before.before.before.before.before.before.before.before.before.before.before.before.before.before.before.before.before.before.before.before.before.before.before.before.before.before.before.before.before.before.before.before.before.before.before.before.before.before.before.before.before.before.before.before.before.before.before.before.before.before.before.before.before.before.before.before.before.before.before.before.before) (recs-of c.before.before.before.before.before.before.before.before.before.before.before.before.before.before.before.before.before.before.before.before.before.before.before.before.before.before.before.before.before.before.before.before.before.before.before.before.before.before.before.before.before.before.before.before.before.before.before.before.before.before.before.before.before.before.before.before.before.before.before.before.before.before.before.before.before.before.before.before.before.before) l.i l.at l.inv.1 w.length_from-used.result
+          (next_start (form_of c.before.before.before.before.before.before.before.before.before.before.before.before.before.before.before.before.before.before.before.before.before.before.before.before.before.before.before.before.before.before.before.before.before.before.before.before.before.before.before.before.before.before.before.before.before.before.before.before.before.before.before.before.before.before.before.before.before.before.before.before.before.before.before.before.before.before.before.before.before.before) (recs-of c.before.before.before.before.before.before.before.before.before.before.before.before.before.before.before.before.before.before.before.before.before.before.before.before.before.before.before.before.before.before.before.before.before.before.before.before.before.before.before.before.before.before.before.before.before.before.before.before.before.before.before.before.before.before.before.before.before.before.before.before.before.before.before.before.before.before.before.before.before.before) l.i l.at l.invariant.1 w.length_from-used.result
           w.length_from-used.ensures),
       subst (Going s.args.sites (given-of c.before.before.before.before.before.before.before.before.before.before.before.before.before.before.before.before.before.before.before.before.before.before.before.before.before.before.before.before.before.before.before.before.before.before.before.before.before.before.before.before.before.before.before.before.before.before.before.before.before.before.before.before.before.before.before.before.before.before.before.before.before.before.before.before.before.before.before.before.before.before) (l.i + 1)) parts
-          (going_next s.args.sites (given-of c.before.before.before.before.before.before.before.before.before.before.before.before.before.before.before.before.before.before.before.before.before.before.before.before.before.before.before.before.before.before.before.before.before.before.before.before.before.before.before.before.before.before.before.before.before.before.before.before.before.before.before.before.before.before.before.before.before.before.before.before.before.before.before.before.before.before.before.before.before.before) s.requires.3 l.i _ l.inv.2 _ ok),
+          (going_next s.args.sites (given-of c.before.before.before.before.before.before.before.before.before.before.before.before.before.before.before.before.before.before.before.before.before.before.before.before.before.before.before.before.before.before.before.before.before.before.before.before.before.before.before.before.before.before.before.before.before.before.before.before.before.before.before.before.before.before.before.before.before.before.before.before.before.before.before.before.before.before.before.before.before.before) s.requires.3 l.i _ l.invariant.2 _ ok),
       subst
           (λ (u : Tables). IndexOf u.records u.counters.records k.new.places
           k.new.numbers k.new.counts k.new.chains)
           parts
           (lv.index z),
       spaced-same (counted-in (form_of c.before.before.before.before.before.before.before.before.before.before.before.before.before.before.before.before.before.before.before.before.before.before.before.before.before.before.before.before.before.before.before.before.before.before.before.before.before.before.before.before.before.before.before.before.before.before.before.before.before.before.before.before.before.before.before.before.before.before.before.before.before.before.before.before.before.before.before.before.before.before) (recs-of c.before.before.before.before.before.before.before.before.before.before.before.before.before.before.before.before.before.before.before.before.before.before.before.before.before.before.before.before.before.before.before.before.before.before.before.before.before.before.before.before.before.before.before.before.before.before.before.before.before.before.before.before.before.before.before.before.before.before.before.before.before.before.before.before.before.before.before.before.before.before) s.args.n) _ _ (lv.starts z) (lv.index z).places-long
-          l.inv.4,
+          l.invariant.4,
       kept-after (given-of c.before.before.before.before.before.before.before.before.before.before.before.before.before.before.before.before.before.before.before.before.before.before.before.before.before.before.before.before.before.before.before.before.before.before.before.before.before.before.before.before.before.before.before.before.before.before.before.before.before.before.before.before.before.before.before.before.before.before.before.before.before.before.before.before.before.before.before.before.before.before) l.i _ _ _ _ (held_at c.before.before.before.before.before.before.before.before.before.before.before.before.before.before.before.before.before.before.before.before.before.before.before.before.before.before.before.before.before.before.before.before.before.before.before.before.before.before.before.before.before.before.before.before.before.before.before.before.before.before.before.before.before (left-of c.before.before.before.before.before.before.before.before.before.before.before.before.before.before.before.before.before.before.before.before.before.before.before)) (ap decode_of (rec-is c.before.before.before.before.before.before.before.before.before.before.before.before.before.before.before.before.before.before.before.before.before.before.before.before.before.before.before.before.before.before.before.before.before.before.before.before.before.before.before.before.before.before.before.before.before.before.before.before.before.before.before.before.before.before.before.before.before.before.before.before.before.before.before.before)) k.ensures.1,
       wide-long c.before.before.before.before.before.before.before.before.before.before.before.before.before.before.before.before.before.before.before.before.before.before.before.before.before.before.before.before.before.before.before.before.before.before.before.before.before.before.before.before.before.before.before.before.before.before.before.before.before.before.before.before.before.before.before.before.before.before.before.before.before.before.before.before.before.before,
     )

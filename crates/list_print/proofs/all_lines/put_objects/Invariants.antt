@@ -1,0 +1,39 @@
+-- `list_print::all_lines::put_objects` meets its contract: each turn puts the lines of one object behind those before
+-- it. Assumes nothing.
+use mathlib.Core.Path.{◌≡◌, refl, ◌∙◌}
+use mathlib.Core.List.{map}
+use Prim.Native.Nat.{ℕ, ◌-◌, ◌*◌, ◌≤◌}
+use native.Mathlib.Omega.{arith}
+use lib.ListN.{length, take, replicate, length-replicate}
+use Rattle.group_step.specs.GroupRows.{most_sets, most_groups}
+use Rattle.table_drawing.specs.Tables.{tables_of}
+use Rattle.table_soundness.proofs.SoundFacts.{sound-at}
+use Rattle.list_line.specs.Line.{line_length}
+use Rattle.list_lines.specs.List.{lines_for}
+use Rattle.list_lines.proofs.LinesGathered.{sorted-low}
+use Rattle.list_objects.proofs.KeysByTops.{in_order_lem}
+use Rattle.list_objects.proofs.TopsByIndex.{tops-aimed, creates-held}
+use Rattle.list_print.specs.Printing.{joined}
+use Rattle.list_print.specs.PrintForms.{Behind}
+use Rattle.list_print.proofs.BytesBehind.{fewer-behind, no-piece, piece-behind}
+use Rattle.list_print.proofs.LinesJoined.{sorted-lines}
+use Rattle.list_line.specs.LineForms.{pieces, piece_length, Kept}
+use Rattle.list_line.proofs.KeptPieces.{none_kept}
+use borrow.Author.Rules.{rules}
+use Rattle.list_print.proofs.all_lines.put_objects.Given as goal
+
+abbrev pub invariant-loop-i : goal.invariant-loop-i
+invariant-loop-i l =
+    (l.i ≤ l.m)
+    × (length l.out ≡ length l.initial.out)
+    × (length l.line ≡ length l.initial.line)
+    × (length l.disputes ≡ most_sets)
+    × (length l.stamps ≡ most_sets)
+    × (length l.versions ≡ most_groups)
+    × Kept l.texts l.lens l.told
+    × Behind l.initial.out l.n (joined (map (λ o. joined (lines_for (tables_of l.c l.records l.objects l.groups) o)) (take l.i l.order)))
+    (l.i * (most_groups * line_length)) l.out l.w
+
+abbrev pub decreases-loop-i : goal.decreases-loop-i
+decreases-loop-i l =
+    l.m - l.i
