@@ -10,6 +10,7 @@ use Rattle.list_print.specs.Printing.{list_of, listing_of}
 use Rattle.list_print.proofs.LinesJoined.{list-no-room, list_put}
 use borrow.Author.Rules.{rules}
 use Rattle.list_print.proofs.print_list.Goals as goal
+use Rattle.list_print.proofs.print_list.Goals.{then-not-has_room+else-not-has_room-2, else-not-has_room}
 
 pub returns-then-not-is_sound_with : goal.returns-then-not-is_sound_with
 unfolding listing_of
@@ -33,26 +34,26 @@ returns-then-not-has_room-2 c =
 pub slice_bounds-put_list_by-count : goal.slice_bounds-put_list_by-count
 slice_bounds-put_list_by-count c =
     let longest = sym c.has_room.ensures in
-    ⊎_elim
-    (λ v.
-    let room = sym v.3.ensures ∙ not-false _ v.4.left in
-    omega (arith, leb-true, room))
-    (λ v.
-    let room = longest ∙ not-false _ v.left in
-    omega (arith, leb-true, room))
-    c.if-not-has_room.branch
+    elim c.if-not-has_room.branch [
+        then-not-has_room+else-not-has_room-2 v ↦
+        let room = sym v.has_room-then-not-has_room.ensures ∙ v.if-not-has_room-2.false in
+        omega (arith, leb-true, room)
+      | else-not-has_room v ↦
+        let room = longest ∙ v.if-not-has_room.false in
+        omega (arith, leb-true, room)
+    ]
 
 pub slice_bounds-put_list_by-start : goal.slice_bounds-put_list_by-start
 slice_bounds-put_list_by-start c =
     let longest = sym c.has_room.ensures in
-    ⊎_elim
-    (λ v.
-    let room = sym v.3.ensures ∙ not-false _ v.4.left in
-    omega (arith, leb-true, room))
-    (λ v.
-    let room = longest ∙ not-false _ v.left in
-    omega (arith, leb-true, room))
-    c.if-not-has_room.branch
+    elim c.if-not-has_room.branch [
+        then-not-has_room+else-not-has_room-2 v ↦
+        let room = sym v.has_room-then-not-has_room.ensures ∙ v.if-not-has_room-2.false in
+        omega (arith, leb-true, room)
+      | else-not-has_room v ↦
+        let room = longest ∙ v.if-not-has_room.false in
+        omega (arith, leb-true, room)
+    ]
 
 pub put_list_by-bytes-requires : goal.put_list_by-bytes-requires
 put_list_by-bytes-requires c =
@@ -70,13 +71,13 @@ returns c =
     let done = put.put_list_by-bytes.ensures in
     let longest = sym joined.has_room.ensures in
     let fits : a.start + length (list_of t) ≤ length a.out.now =
-    ⊎_elim
-    (λ v.
-    let room = sym v.3.ensures ∙ not-false _ v.4.left in
-    omega (arith, leb-true, room, v.2.ensures))
-    (λ v.
-    let room = longest ∙ not-false _ v.left in
-    omega (arith, leb-true, room, done.few))
-    joined.if-not-has_room.branch in
+    elim c.if-not-has_room.branch [
+        then-not-has_room+else-not-has_room-2 v ↦
+        let room = sym v.has_room-then-not-has_room.ensures ∙ v.if-not-has_room-2.false in
+        omega (arith, leb-true, room, v.list_bytes-least.ensures)
+      | else-not-has_room v ↦
+        let room = longest ∙ v.if-not-has_room.false in
+        omega (arith, leb-true, room, done.few)
+    ] in
     list_put t (sym s9.is_sound_with.ensures.0 ∙ joined.if-not-is_sound_with.false) a.out.now
     a.start fits done

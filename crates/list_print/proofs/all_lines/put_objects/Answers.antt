@@ -90,13 +90,13 @@ loop-i-preserved c =
     let l = c.loop-i in
     let more = c.loop-i-test.true in
     let few = (sound-at t start.requires.0).few-objects in
-    let work = p.auto.1.1.1.1.1 in (
+    (
       omega (arith, more),
-      p.auto.out ∙ l.inv.1,
-      p.auto.line ∙ l.inv.2,
-      work.0 ∙ l.inv.3,
-      work.1.0 ∙ l.inv.4,
-      work.1.1.0 ∙ l.inv.5,
+      p.auto.out ∙ l.invariant.1,
+      p.auto.line ∙ l.invariant.2,
+      p.auto.disputes ∙ l.invariant.3,
+      p.auto.stamps ∙ l.invariant.4,
+      p.auto.versions ∙ l.invariant.5,
       p.ensures.1,
       piece-behind (λ o. joined (lines_for t o)) (most_groups * line_length) a.out.now _ a.n l.i
           (omega (
@@ -104,7 +104,7 @@ loop-i-preserved c =
             few,
             more,
             c.sort_objects.auto.out,
-          )) l.inv.7 p.ensures.0,
+          )) l.invariant.7 p.ensures.0,
     )
 
 pub shape_of-out : goal.shape_of-out
