@@ -2,13 +2,11 @@
 use mathlib.Core.Path.{◌≡◌, sym, ◌∙◌}
 use Prim.Native.Nat.{◌-◌}
 use lib.ListN.{take, drop}
-use borrow.Author.Tests.{not-true, not-false}
 use Rattle.table_drawing.specs.Tables.{tables_of}
 use Rattle.table_drawing.specs.AnswerNumbers.{number_of}
 use Rattle.block_trailer.specs.Locating.{located}
 use Rattle.block_trailer.proofs.LocatingOutcomes.{start-before-end, end-inside, stretch-is}
 use Rattle.block_store.proofs.ReadingOutcomes.{wrong-lengths, file-refused, ready-to-read, file-read}
-use borrow.Author.Rules.{rules}
 use Rattle.block_store.proofs.read_file.Lts
 use Rattle.block_store.proofs.read_file.Tie
 use Rattle.block_store.proofs.read_file.Reads

@@ -1,6 +1,5 @@
 -- `block_store::read_records` meets its contract. Assumes nothing.
 use mathlib.Core.Path.{◌≡◌, sym, ◌∙◌}
-use borrow.Author.Rules.{rules}
 use Rattle.table_given.proofs.ReplayGoes.{opened}
 use Rattle.table_drawing.specs.AnswerNumbers.{number_of}
 use Rattle.block_store.proofs.ReadingOutcomes.{all-taken, one-refused, lengths-stay}

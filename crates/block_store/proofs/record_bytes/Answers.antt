@@ -1,10 +1,8 @@
 -- `block_store::record_bytes` meets its contract: `bytes` is the length of the first i records. Assumes nothing.
 use mathlib.Core.Path.{◌≡◌, refl}
-use Prim.Native.Nat.{◌-◌, ◌≤◌}
+use Prim.Native.Nat.{◌-◌}
 use native.Mathlib.Numerals.{add-one}
 use native.Mathlib.Omega.{arith}
-use lib.ListN.{length}
-use borrow.Author.Rules.{rules}
 use Rattle.edit_form.specs.OldForm.{chained}
 use Rattle.edit_form.proofs.Stretches.{chained-inside}
 use Rattle.edit_history.specs.EditsHeld.{bytes_at}

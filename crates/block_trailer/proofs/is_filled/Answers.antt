@@ -1,12 +1,11 @@
 -- `block_trailer::is_filled` meets its contract: `at` is where record i starts, and a record that starts past the end
 -- has none behind it that starts at the end. Assumes nothing.
 use mathlib.Core.Path.{◌≡◌, refl, sym, ap, ◌∙◌}
-use Prim.Native.Nat.{ℕ, ◌-◌, ◌≤◌}
+use Prim.Native.Nat.{ℕ, ◌-◌}
 use native.Mathlib.Numerals.{add-one}
 use native.Mathlib.Omega.{arith}
 use lib.ListN.{length}
 use lib.Dec.{eqb}
-use borrow.Author.Rules.{rules}
 use borrow.Author.Tests.{ne_eqb}
 use Rattle.edit_form.specs.OldForm.{start_of}
 use Rattle.edit_form.proofs.Stretches.{ends-before, next_start, few_bytes}

@@ -1,6 +1,5 @@
 -- `block_trailer::locate` meets its contract: the stretch ends where the trailer starts, or is empty at the file's
 -- start. Assumes nothing.
-use borrow.Author.Rules.{rules}
 use Rattle.block_trailer.proofs.LocatingOutcomes.{start-before-end, end-inside, stretch-is}
 use Rattle.block_trailer.proofs.locate.Goals as goal
 

@@ -2,7 +2,6 @@
 use mathlib.Core.Path.{◌≡◌, sym, ap, ◌∙◌}
 use Prim.Native.Nat.{ℕ}
 use mathlib.Core.Bool.{true, false}
-use borrow.Author.Rules.{rules}
 use Rattle.block_trailer.specs.Locating.{Found, found, Located, refused_with, sites_fit}
 use Rattle.block_trailer.proofs.LocatingOutcomes.{sites-tested, over-limit, unfit-refused, sites-refused}
 use Rattle.block_trailer.proofs.LocatingOutcomes.{fit_at, accepted}

@@ -1,7 +1,6 @@
 -- `block_trailer::stretch_end` meets its contract: the answer's number decides. Assumes nothing.
 use mathlib.Core.Path.{◌∙◌}
 use borrow.Author.Tests.{eq-eqb, ne_eqb}
-use borrow.Author.Rules.{rules}
 use Rattle.block_trailer.proofs.stretch_end.Goals as goal
 
 pub returns-then-number-eq0 : goal.returns-then-number-eq0

@@ -1,5 +1,4 @@
 -- `edit_causal::are_sets_on_one` meets its contract. Assumes nothing.
-use borrow.Author.Rules.{rules}
 use Rattle.edit_causal.proofs.are_sets_on_one.Goals as goal
 
 pub returns : goal.returns

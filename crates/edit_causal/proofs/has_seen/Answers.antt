@@ -1,5 +1,4 @@
 -- `edit_causal::has_seen` meets its contract. Assumes nothing.
-use borrow.Author.Rules.{rules}
 use Rattle.edit_causal.proofs.has_seen.Goals as goal
 
 pub returns : goal.returns

@@ -1,5 +1,4 @@
 -- `edit_causal::is_before` meets its contract. Assumes nothing.
-use borrow.Author.Rules.{rules}
 use Rattle.edit_causal.proofs.is_before.Goals as goal
 
 pub returns : goal.returns

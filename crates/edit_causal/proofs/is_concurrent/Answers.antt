@@ -1,5 +1,4 @@
 -- `edit_causal::is_concurrent` meets its contract. Assumes nothing.
-use borrow.Author.Rules.{rules}
 use Rattle.edit_causal.proofs.is_concurrent.Goals as goal
 
 pub returns : goal.returns

@@ -1,8 +1,7 @@
 -- `edit_causal::is_conflict_in` meets its contract. Assumes nothing.
-use mathlib.Core.Path.{◌≡◌, sym, ◌∙◌}
-use mathlib.Core.Bool.{Bool, not, ◌&&◌, and-true, and-false}
+use mathlib.Core.Path.{◌≡◌}
+use mathlib.Core.Bool.{not, ◌&&◌, and-true, and-false}
 use lib.Dec.{eqb}
-use borrow.Author.Rules.{rules}
 use borrow.Author.Tests.{eq-eqb, ne_eqb}
 use Rattle.math_lists.proofs.Booleans.{and-turn}
 use Rattle.edit_record.specs.declared.Edit.{Edit}

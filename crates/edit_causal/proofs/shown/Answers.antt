@@ -1,5 +1,4 @@
 -- `edit_causal::shown` meets its contract. Assumes nothing.
-use borrow.Author.Rules.{rules}
 use borrow.Author.Tests.{lt-ltb, le-ltb}
 use native.Mathlib.Omega.{arith}
 use Rattle.edit_causal.specs.ShownValue.{square_keys}

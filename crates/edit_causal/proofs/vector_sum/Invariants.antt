@@ -2,15 +2,9 @@
 -- nothing.
 use mathlib.Core.Path.{◌≡◌}
 use Prim.Native.Nat.{◌≤◌, ◌-◌, ◌*◌}
-use native.Mathlib.Numerals.{add-one}
-use native.Mathlib.Omega.{arith}
 use lib.ListN.{get_or}
-use mir.Syntax.{w16}
-use mir.Val.{Fits}
-use borrow.Author.Rules.{rules}
 use Rattle.edit_record.specs.Layout.{most_sites}
 use Rattle.math_lists.specs.NumbersBelow.{sum}
-use Rattle.edit_causal.specs.TotalOrder.{vector_sum}
 use Rattle.edit_causal.proofs.vector_sum.Given as goal
 
 abbrev pub invariant-loop-i : goal.invariant-loop-i

@@ -4,7 +4,6 @@ use Prim.Native.Nat.{◌+◌, ◌≤◌}
 use native.Mathlib.Omega.{arith}
 use lib.Seq.{set_out}
 use lib.ListN.{get_or, length}
-use borrow.Author.Rules.{rules}
 use Rattle.edit_history.proofs.bumped.Goals as goal
 
 pub returns-else-i-lt-SITES : goal.returns-else-i-lt-SITES

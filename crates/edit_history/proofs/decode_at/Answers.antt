@@ -4,7 +4,6 @@ use Prim.Native.Nat.{◌*◌, ◌-◌}
 use native.Mathlib.Omega.{arith}
 use lib.Seq.{take_all}
 use lib.ListN.{length, drop, length-drop, drop_of_length-le}
-use borrow.Author.Rules.{rules}
 use Rattle.edit_record.specs.RecordBytes.{decode_of}
 use Rattle.edit_record.specs.Layout.{place_length}
 use Rattle.edit_history.proofs.decode_at.Goals as goal

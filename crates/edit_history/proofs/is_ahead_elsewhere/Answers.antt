@@ -1,12 +1,9 @@
 -- `edit_history::is_ahead_elsewhere` meets its contract: `found` is what the definition says of the first t entries.
 -- Assumes nothing.
-use mathlib.Core.Bool.{not, ◌&&◌}
 use mathlib.Core.Path.{◌≡◌}
-use Prim.Native.Nat.{◌≤◌, ◌-◌}
+use Prim.Native.Nat.{◌-◌}
 use native.Mathlib.Numerals.{add-one}
 use native.Mathlib.Omega.{arith}
-use lib.ListN.{get_or}
-use lib.Dec.{eqb, ltb}
 use borrow.Author.Rules.{rules}
 use Rattle.math_lists.specs.NumbersBelow.{some}
 use Rattle.edit_record.specs.Layout.{most_sites}

@@ -3,14 +3,10 @@
 use mathlib.Core.Bool.{not, ◌&&◌}
 use mathlib.Core.Path.{◌≡◌}
 use Prim.Native.Nat.{◌≤◌, ◌-◌}
-use native.Mathlib.Numerals.{add-one}
-use native.Mathlib.Omega.{arith}
 use lib.ListN.{get_or}
 use lib.Dec.{eqb, ltb}
-use borrow.Author.Rules.{rules}
 use Rattle.math_lists.specs.NumbersBelow.{some}
 use Rattle.edit_record.specs.Layout.{most_sites}
-use Rattle.edit_history.specs.SurveyForms.{ahead_elsewhere}
 use Rattle.edit_history.proofs.is_ahead_elsewhere.Given as goal
 
 abbrev pub invariant-loop-t : goal.invariant-loop-t

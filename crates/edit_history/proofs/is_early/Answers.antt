@@ -1,5 +1,4 @@
 -- `edit_history::is_early` meets its contract. Assumes nothing.
-use borrow.Author.Rules.{rules}
 use Rattle.edit_history.proofs.is_early.Goals as goal
 
 pub returns : goal.returns

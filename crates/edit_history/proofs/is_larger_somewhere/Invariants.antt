@@ -2,14 +2,10 @@
 -- Assumes nothing.
 use mathlib.Core.Path.{◌≡◌}
 use Prim.Native.Nat.{◌≤◌, ◌-◌}
-use native.Mathlib.Numerals.{add-one}
-use native.Mathlib.Omega.{arith}
 use lib.ListN.{get_or}
 use lib.Dec.{ltb}
-use borrow.Author.Rules.{rules}
 use Rattle.math_lists.specs.NumbersBelow.{some}
 use Rattle.edit_record.specs.Layout.{most_sites}
-use Rattle.edit_history.specs.Answers2to5.{larger_somewhere}
 use Rattle.edit_history.proofs.is_larger_somewhere.Given as goal
 
 abbrev pub invariant-loop-s : goal.invariant-loop-s

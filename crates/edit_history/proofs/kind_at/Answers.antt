@@ -1,6 +1,5 @@
 -- `edit_history::kind_at` meets its contract: the kind is one byte of the table. Assumes nothing.
 use mathlib.Core.Path.{sym, ◌∙◌}
-use borrow.Author.Rules.{rules}
 use Rattle.edit_history.proofs.FieldsInPlace.{kind-in-place}
 use Rattle.edit_history.proofs.kind_at.Goals as goal
 

@@ -5,8 +5,7 @@ use mathlib.Core.Bool.{true}
 use Prim.Native.Nat.{◌<◌, ◌+◌, ◌*◌}
 use native.Mathlib.Omega.{arith}
 use lib.ListN.{get_or}
-use borrow.Author.Tests.{not-true, not-false, ltb-true, ltb-false}
-use borrow.Author.Rules.{rules}
+use borrow.Author.Tests.{ltb-true, ltb-false}
 use Rattle.math_lists.proofs.Booleans.{clash}
 use Rattle.edit_record.specs.Layout.{most_sites, place_length, site_at}
 use Rattle.edit_history.specs.EditsHeld.{record_at}

@@ -1,6 +1,5 @@
 -- `edit_next::is_fit_and_aimed` meets its contract. Assumes nothing.
 use mathlib.Core.Path.{sym, ◌∙◌}
-use borrow.Author.Rules.{rules}
 use Rattle.math_lists.proofs.Booleans.{not-not}
 use Rattle.edit_next.proofs.is_fit_and_aimed.Goals as goal
 

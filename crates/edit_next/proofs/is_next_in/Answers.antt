@@ -6,7 +6,6 @@ use native.Mathlib.Omega.{arith}
 use lib.Dec.{eqb}
 use lib.ListN.{get_or}
 use borrow.Author.Tests.{eq-eqb}
-use borrow.Author.Rules.{rules}
 use Rattle.math_lists.proofs.Booleans.{clash, and-on}
 use Rattle.edit_record.specs.Layout.{place_length, site_at}
 use Rattle.edit_history.specs.EditsHeld.{record_at}

@@ -1,5 +1,4 @@
 -- `edit_next::is_next_to` meets its contract. Assumes nothing.
-use borrow.Author.Rules.{rules}
 use borrow.Author.Tests.{eq-eqb, ne_eqb}
 use Rattle.edit_walk.specs.WalkForms.{is_next}
 use Rattle.edit_next.proofs.is_next_to.Goals as goal

@@ -2,7 +2,6 @@
 -- Assumes nothing.
 use Rattle.edit_record.specs.RecordBytes.{decode_of}
 use Rattle.edit_next.proofs.NextDecides.{next-tells}
-use borrow.Author.Rules.{rules}
 use Rattle.edit_next.proofs.is_passing_after.Goals as goal
 
 pub is_next_at-requires : goal.is_next_at-requires

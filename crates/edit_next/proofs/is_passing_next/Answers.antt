@@ -4,7 +4,6 @@ use Prim.Native.Nat.{◌*◌}
 use Rattle.edit_record.specs.Layout.{place_length}
 use Rattle.edit_history.specs.EditsHeld.{record_at}
 use Rattle.edit_next.proofs.NextDecides.{from_place, next-tells}
-use borrow.Author.Rules.{rules}
 use Rattle.edit_next.proofs.is_passing_next.Goals as goal
 
 pub returns-then-rec-eq-SET : goal.returns-then-rec-eq-SET

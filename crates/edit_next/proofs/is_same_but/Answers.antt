@@ -1,20 +1,13 @@
 -- `edit_next::is_same_but` meets its contract: `same` is what the definition says of the first t entries. Assumes
 -- nothing.
 use mathlib.Core.Path.{◌≡◌, refl}
-use mathlib.Core.Bool.{Bool, ◌||◌}
-use mathlib.Core.List.{List}
-use Prim.Native.Nat.{ℕ, ◌≤◌, ◌-◌}
+use Prim.Native.Nat.{◌-◌}
 use native.Mathlib.Numerals.{add-one}
 use native.Mathlib.Omega.{arith}
-use lib.Dec.{eqb}
-use lib.ListN.{get_or}
-use borrow.Author.Rules.{rules}
 use Rattle.math_lists.specs.NumbersBelow.{all}
 use Rattle.edit_record.specs.Layout.{most_sites}
-use Rattle.edit_record.specs.RecordBytes.{decode_of}
 use Rattle.edit_record.proofs.NumbersInBytes.{entry-in-record}
 use Rattle.edit_walk.specs.WalkForms.{same_but}
-use Rattle.edit_next.proofs.is_same_but.Invariants.{is_told}
 use Rattle.edit_next.proofs.is_same_but.Goals as goal
 
 pub loop-t-init : goal.loop-t-init

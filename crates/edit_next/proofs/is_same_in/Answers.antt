@@ -1,20 +1,13 @@
 -- `edit_next::is_same_in` meets its contract: `same` is what the definition says of the first t entries. Assumes
 -- nothing.
 use mathlib.Core.Path.{◌≡◌, refl}
-use mathlib.Core.Bool.{Bool, ◌||◌}
-use mathlib.Core.List.{List}
-use Prim.Native.Nat.{ℕ, ◌≤◌, ◌-◌, ◌*◌}
+use Prim.Native.Nat.{◌-◌}
 use native.Mathlib.Numerals.{add-one}
 use native.Mathlib.Omega.{arith}
-use lib.Dec.{eqb}
-use lib.ListN.{get_or}
-use borrow.Author.Rules.{rules}
 use Rattle.math_lists.specs.NumbersBelow.{all}
-use Rattle.edit_record.specs.Layout.{most_sites, place_length}
-use Rattle.edit_history.specs.EditsHeld.{record_at}
+use Rattle.edit_record.specs.Layout.{most_sites}
 use Rattle.edit_history.proofs.FieldsInPlace.{entry-in-place}
 use Rattle.edit_walk.specs.WalkForms.{same_but}
-use Rattle.edit_next.proofs.is_same_in.Invariants.{is_told}
 use Rattle.edit_next.proofs.is_same_in.Goals as goal
 
 pub loop-t-init : goal.loop-t-init

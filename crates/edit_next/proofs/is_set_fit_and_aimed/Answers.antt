@@ -3,7 +3,6 @@ use mathlib.Core.Path.{◌≡◌, refl, sym, ◌∙◌}
 use mathlib.Core.Bool.{true}
 use Rattle.edit_record.specs.RecordBytes.{decode_of}
 use Rattle.edit_record.specs.Answer1.{is_aimed}
-use borrow.Author.Rules.{rules}
 use Rattle.math_lists.proofs.Booleans.{not-not}
 use Rattle.edit_next.proofs.is_set_fit_and_aimed.Goals as goal
 

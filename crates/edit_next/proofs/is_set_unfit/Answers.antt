@@ -6,7 +6,6 @@ use borrow.Author.Tests.{lt-leb}
 use Rattle.edit_record.specs.RecordBytes.{decode_of}
 use Rattle.edit_record.specs.Answer1.{unfit}
 use Rattle.edit_record.proofs.WellFormed.{outside-unfit}
-use borrow.Author.Rules.{rules}
 use Rattle.edit_next.proofs.is_set_unfit.Goals as goal
 
 nothing-more : (b : Bool) → b ≡ (b || false || false || false)

@@ -6,7 +6,6 @@ use Rattle.edit_record.specs.RecordBytes.{decode_of}
 use Rattle.edit_history.specs.EditsHeld.{edits_of}
 use Rattle.edit_walk.specs.WalkForms.{torn_by_news}
 use Rattle.edit_walk.proofs.NewsDecide.{turn-against, news-same}
-use borrow.Author.Rules.{rules}
 use Rattle.edit_next.proofs.is_torn_next.Goals as goal
 
 pub returns : goal.returns

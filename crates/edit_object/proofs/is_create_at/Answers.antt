@@ -1,6 +1,5 @@
 -- `edit_object::is_create_at` meets its contract: the kind and the name are read where they stand. Assumes nothing.
 use Rattle.edit_history.proofs.FieldsInPlace.{kind-in-place, site-in-place, seq-in-place}
-use borrow.Author.Rules.{rules}
 use Rattle.edit_object.proofs.is_create_at.Goals as goal
 
 pub returns : goal.returns

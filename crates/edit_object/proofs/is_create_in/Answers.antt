@@ -1,7 +1,6 @@
 -- `edit_object::is_create_in` meets its contract. Assumes nothing.
 use native.Mathlib.Omega.{arith}
 use borrow.Author.Tests.{lt-ltb, le-ltb}
-use borrow.Author.Rules.{rules}
 use Rattle.edit_object.proofs.is_create_in.Goals as goal
 
 pub returns-then-n-p : goal.returns-then-n-p

@@ -8,7 +8,6 @@ use lib.ListN.{length, drop, length-drop}
 use Rattle.edit_record.specs.Layout.{place_length}
 use Rattle.edit_record.specs.RecordBytes.{decode_of}
 use Rattle.edit_history.specs.EditsHeld.{is_set_on}
-use borrow.Author.Rules.{rules}
 use Rattle.edit_object.proofs.is_set_at.Goals as goal
 
 pub returns-then-at-recs : goal.returns-then-at-recs

@@ -1,5 +1,4 @@
 -- `edit_object::is_set_in` meets its contract. Assumes nothing.
-use borrow.Author.Rules.{rules}
 use Rattle.edit_object.proofs.is_set_in.Goals as goal
 
 pub returns : goal.returns

@@ -1,9 +1,8 @@
 -- `edit_object::put_places` meets its contract: the places of the Sets passed stand at the front, and there is room
 -- for one more as long as one is left. Assumes nothing.
 use mathlib.Core.Path.{◌≡◌, refl, sym, ap, subst, ◌∙◌}
-use mathlib.Core.Logic.{⊎_elim}
 use mathlib.Core.List.{List, map}
-use Prim.Native.Nat.{ℕ, ◌-◌, ◌≤◌}
+use Prim.Native.Nat.{ℕ, ◌-◌}
 use native.Mathlib.Omega.{arith}
 use borrow.Author.Rules.{rules}
 use lib.ListN.{length, take, length-set}
@@ -55,19 +54,22 @@ loop-i-preserved c =
     let rs = a.recs.now in
     let on = is_set_on a.s a.q in
     let e = sym c.is_set_at.ensures in
-    elim c.if-is_set_at.branch [ then-is_set_at v ↦     let is = e ∙ v.if-is_set_at.true in
-    let room = some_left rs on l.i a.n (omega arith) is in
-    rw (v.out-is, v.w-is) (
-      omega arith,
-      simp length-set l.invariant.1,
-      place-more rs on l.out l.w l.i (omega arith) is l.invariant.2,
-      omega (arith, one-counted rs on l.i is),
-    ) | else-is_set_at v ↦ rw (v.out-is, v.w-is, no-place-more rs on l.i (e ∙ v.if-is_set_at.false)) (
-      omega arith,
-      l.invariant.1,
-      l.invariant.2,
-      l.invariant.3,
-    ) ]
+    elim c.if-is_set_at.branch [
+      | then-is_set_at v ↦ let is = e ∙ v.if-is_set_at.true in
+          let room = some_left rs on l.i a.n (omega arith) is in
+          rw (v.out-is, v.w-is) (
+            omega arith,
+            simp length-set l.invariant.1,
+            place-more rs on l.out l.w l.i (omega arith) is l.invariant.2,
+            omega (arith, one-counted rs on l.i is),
+          )
+      | else-is_set_at v ↦ rw (v.out-is, v.w-is, no-place-more rs on l.i (e ∙ v.if-is_set_at.false)) (
+        omega arith,
+        l.invariant.1,
+        l.invariant.2,
+        l.invariant.3,
+      )
+    ]
 
 pub shape_of-out : goal.shape_of-out
 shape_of-out c = c.loop-i.invariant.1

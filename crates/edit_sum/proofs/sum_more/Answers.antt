@@ -1,6 +1,6 @@
 -- `edit_sum::sum_more` meets its contract: the part of the table from the place on is handed to the sum of its record.
 -- Assumes nothing.
-use Rattle.std.proofs.Common.{◌≡◌, ℕ, ◌-◌, ◌*◌, List, length, take, drop, add-one, arith, length-drop, take_all, rules}
+use Rattle.std.proofs.Common.{◌≡◌, ℕ, ◌-◌, ◌*◌, List, length, take, drop, add-one, arith, length-drop, take_all}
 use Rattle.edit_record.specs.Layout.{place_length}
 use Rattle.edit_record.proofs.RecordSpans.{span-most}
 use Rattle.edit_sum.proofs.WordsAdded.{record-more}

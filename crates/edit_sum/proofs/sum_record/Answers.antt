@@ -1,6 +1,6 @@
 -- `edit_sum::sum_record` meets its contract: a record that is no limited Set has the words of the fields. Assumes
 -- nothing.
-use Rattle.std.proofs.Common.{◌∙◌, arith, rules}
+use Rattle.std.proofs.Common.{◌∙◌, arith}
 use Rattle.edit_record.proofs.AgreeingBytes.{limits-off, span-plain}
 use Rattle.edit_sum.proofs.sum_record.Goals as goal
 

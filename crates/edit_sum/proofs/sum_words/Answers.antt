@@ -1,5 +1,5 @@
 -- `edit_sum::sum_words` meets its contract: `sum` is the sum of the first i words. Assumes nothing.
-use Rattle.std.proofs.Common.{◌≡◌, ◌-◌, ◌≤◌, refl, add-one, arith, rules}
+use Rattle.std.proofs.Common.{◌≡◌, ◌-◌, refl, add-one, arith}
 use Rattle.math_lists.specs.NumbersBelow.{sum}
 use Rattle.edit_sum.specs.WordSum.{sum_of}
 use Rattle.edit_sum.proofs.WordsAdded.{sum_more}

@@ -1,16 +1,13 @@
 -- `edit_walk::count_sites` meets its contract: after i records the counts are theirs. A site without an entry is
 -- counted nowhere. Assumes nothing.
 use mathlib.Core.Path.{◌≡◌, sym, ◌∙◌}
-use mathlib.Core.Logic.{⊎_elim}
-use Prim.Native.Nat.{◌+◌, ◌-◌, ◌≤◌}
+use Prim.Native.Nat.{◌+◌, ◌-◌}
 use native.Mathlib.Numerals.{add-one}
 use native.Mathlib.Omega.{arith}
-use lib.ListN.{length, get_or, set, length-set}
+use lib.ListN.{get_or, set, length-set}
 use lib.Seq.{set_out}
 use borrow.Author.Rules.{rules}
-use Rattle.edit_record.specs.Layout.{most_sites}
 use Rattle.edit_history.specs.EditsHeld.{record_at, edits_of}
-use Rattle.edit_history.specs.SurveyForms.{Counted}
 use Rattle.edit_history.proofs.EditsHeld.{edits-length}
 use Rattle.edit_history.proofs.FieldsInPlace.{site-in-place}
 use Rattle.edit_history.proofs.ByCounts.{counted_none, counted-few, counted-more}
@@ -39,7 +36,7 @@ loop-i-preserved c =
     let more = get_or l.counts site 0 + 1 in
     let e : c.if-site-lt-SITES.counts ≡ set l.counts site more
     = elim c.if-site-lt-SITES.branch [
-        then-site-lt-SITES w ↦ w.counts-is
+      | then-site-lt-SITES w ↦ w.counts-is
       | else-site-lt-SITES w ↦ w.counts-is ∙ sym (set_out l.counts site more (omega arith))
     ] in (
       omega arith,

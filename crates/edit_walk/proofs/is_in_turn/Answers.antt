@@ -1,8 +1,6 @@
 -- `edit_walk::is_in_turn` meets its contract. Assumes nothing.
 use mathlib.Core.Path.{◌≡◌, sym, ◌∙◌}
 use mathlib.Core.Bool.{true, false}
-use borrow.Author.Rules.{rules}
-use borrow.Author.Tests.{not-false}
 use Rattle.edit_record.specs.RecordBytes.{decode_of}
 use Rattle.edit_record.specs.Answer1.{unfit}
 use Rattle.edit_walk.specs.WalkForms.{in_turn_against}

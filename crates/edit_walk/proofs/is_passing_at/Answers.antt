@@ -1,12 +1,11 @@
 -- `edit_walk::is_passing_at` meets its contract: the part of the table from a place on has the place's record. Assumes
 -- nothing.
-use mathlib.Core.Path.{◌≡◌, ap, ◌∙◌}
+use mathlib.Core.Path.{ap, ◌∙◌}
 use mathlib.Core.List.{List}
 use Prim.Native.Nat.{ℕ, ◌*◌, ◌-◌}
 use native.Mathlib.Omega.{arith}
 use lib.Seq.{take_all}
 use lib.ListN.{length, drop, length-drop}
-use borrow.Author.Rules.{rules}
 use Rattle.edit_record.specs.Layout.{place_length}
 use Rattle.edit_record.specs.RecordBytes.{decode_of}
 use Rattle.edit_walk.specs.WalkForms.{passes_against}

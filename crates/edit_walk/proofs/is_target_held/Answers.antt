@@ -1,5 +1,4 @@
 -- `edit_walk::is_target_held` meets its contract. Assumes nothing.
-use borrow.Author.Rules.{rules}
 use Rattle.edit_walk.specs.WalkForms.{target_held}
 use Rattle.edit_walk.proofs.is_target_held.Goals as goal
 

@@ -1,7 +1,6 @@
 -- `edit_walk::is_torn_at` meets its contract. Assumes nothing.
 use mathlib.Core.Path.{◌≡◌}
 use native.Mathlib.Omega.{arith}
-use borrow.Author.Rules.{rules}
 use borrow.Author.Tests.{ne_eqb}
 use Rattle.edit_walk.specs.WalkForms.{torn_by}
 use Rattle.edit_walk.proofs.is_torn_at.Goals as goal

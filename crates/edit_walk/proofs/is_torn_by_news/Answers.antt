@@ -1,19 +1,15 @@
 -- `edit_walk::is_torn_by_news` meets its contract. Assumes nothing.
 use mathlib.Core.Path.{◌≡◌, sym, ap, ◌∙◌}
-use mathlib.Core.Logic.{⊎_elim}
-use mathlib.Core.Bool.{Bool, not, ◌&&◌, ◌||◌, or-false, or_assoc}
+use mathlib.Core.Bool.{◌||◌, or-false, or_assoc}
 use mathlib.Core.List.{List}
-use Prim.Native.Nat.{ℕ, ◌≤◌, ◌-◌}
+use Prim.Native.Nat.{ℕ, ◌-◌}
 use native.Mathlib.Numerals.{add-one}
 use native.Mathlib.Omega.{arith}
-use lib.ListN.{get_or}
-use lib.Dec.{eqb}
-use borrow.Author.Rules.{rules}
 use borrow.Author.Tests.{eq-eqb, ne_eqb}
 use Rattle.math_lists.specs.NumbersBelow.{some}
 use Rattle.edit_record.specs.Layout.{most_sites}
 use Rattle.edit_history.specs.Answers2to5.{larger_somewhere}
-use Rattle.edit_walk.specs.WalkForms.{seen_before, torn_by, vector_by, seen_by_last, torn_by_news}
+use Rattle.edit_walk.specs.WalkForms.{seen_before, vector_by, seen_by_last, torn_by_news}
 use Rattle.edit_walk.proofs.is_torn_by_news.Invariants.{is_news}
 use Rattle.edit_walk.proofs.is_torn_by_news.Goals as goal
 use Rattle.edit_walk.proofs.is_torn_by_news.Goals.{then-q-was, else-q-was}
@@ -41,7 +37,7 @@ loop-t-preserved c =
     let e : c.if-q-was.found ≡ (l.found || is_news rs ps a.w seen was l.t)
     = rw (← q)
     (elim c.if-q-was.branch [
-        then-q-was w ↦ w.found-is ∙ rw (ne_eqb _ _ w.if-q-was.true, w.is_torn_at-found.ensures)
+      | then-q-was w ↦ w.found-is ∙ rw (ne_eqb _ _ w.if-q-was.true, w.is_torn_at-found.ensures)
       | else-q-was w ↦ w.found-is ∙ rw (eq-eqb _ _ w.if-q-was.false) (sym (or-false l.found))
     ]) in (
       omega arith,

@@ -1,19 +1,14 @@
 -- `edit_walk::is_torn_by_news` meets its contract. Assumes nothing.
-use mathlib.Core.Path.{◌≡◌, sym, ap, ◌∙◌}
-use mathlib.Core.Logic.{⊎_elim}
-use mathlib.Core.Bool.{Bool, not, ◌&&◌, ◌||◌, or-false, or_assoc}
+use mathlib.Core.Path.{◌≡◌}
+use mathlib.Core.Bool.{Bool, not, ◌&&◌, ◌||◌}
 use mathlib.Core.List.{List}
 use Prim.Native.Nat.{ℕ, ◌≤◌, ◌-◌}
-use native.Mathlib.Numerals.{add-one}
-use native.Mathlib.Omega.{arith}
 use lib.ListN.{get_or}
 use lib.Dec.{eqb}
-use borrow.Author.Rules.{rules}
-use borrow.Author.Tests.{eq-eqb, ne_eqb}
 use Rattle.math_lists.specs.NumbersBelow.{some}
 use Rattle.edit_record.specs.Layout.{most_sites}
 use Rattle.edit_history.specs.Answers2to5.{larger_somewhere}
-use Rattle.edit_walk.specs.WalkForms.{seen_before, torn_by, vector_by, seen_by_last, torn_by_news}
+use Rattle.edit_walk.specs.WalkForms.{seen_before, torn_by}
 use Rattle.edit_walk.proofs.is_torn_by_news.Given as goal
 
 -- the latest edit of site t that was seen is news, and tears the vector w

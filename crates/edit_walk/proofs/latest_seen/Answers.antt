@@ -6,7 +6,6 @@ use native.Mathlib.Omega.{arith}
 use native.Mathlib.Decide.{dec_lt}
 use lib.ListN.{length, get_or, set, get_or-eq_default}
 use lib.Seq.{get_or-set_same, get_or-set_other, set_out}
-use borrow.Author.Rules.{rules}
 use Rattle.edit_walk.proofs.latest_seen.Goals as goal
 
 -- an entry that is one less

@@ -1,5 +1,4 @@
 -- `edit_walk::place_at` meets its contract. Assumes nothing.
-use borrow.Author.Rules.{rules}
 use Rattle.edit_walk.proofs.place_at.Goals as goal
 
 pub returns : goal.returns

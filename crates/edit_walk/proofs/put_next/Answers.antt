@@ -6,7 +6,6 @@ use Prim.Native.Nat.{ℕ, ◌+◌, ◌*◌, ◌<◌}
 use native.Mathlib.Numerals.{add-one}
 use native.Mathlib.Omega.{arith}
 use lib.ListN.{length, get_or}
-use borrow.Author.Rules.{rules}
 use Rattle.edit_record.specs.Layout.{most_sites, place_length, site_at, seq_at}
 use Rattle.edit_record.specs.RecordBytes.{two}
 use Rattle.edit_history.proofs.FieldsInPlace.{site-in-place, seq-in-place}

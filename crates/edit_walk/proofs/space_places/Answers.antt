@@ -1,17 +1,15 @@
 -- `edit_walk::space_places` meets its contract: the sites below s have their starts, and `at` is the next one. Assumes
 -- nothing.
 use mathlib.Core.Path.{◌≡◌}
-use mathlib.Core.List.{List}
-use Prim.Native.Nat.{ℕ, ◌+◌, ◌≤◌, ◌-◌}
+use Prim.Native.Nat.{◌-◌}
 use native.Mathlib.Numerals.{add-one}
 use native.Mathlib.Omega.{arith}
-use lib.ListN.{length, get_or, length-set}
+use lib.ListN.{length-set}
 use borrow.Author.Rules.{rules}
 use Rattle.math_lists.specs.NumbersBelow.{sum}
 use Rattle.math_lists.proofs.NumbersBelow.{sum_past}
 use Rattle.edit_record.specs.Layout.{most_sites}
-use Rattle.edit_walk.specs.WalkForms.{places_length}
-use Rattle.edit_walk.proofs.RoomInIndex.{Started, started-more, starts-spaced}
+use Rattle.edit_walk.proofs.RoomInIndex.{started-more, starts-spaced}
 use Rattle.edit_walk.proofs.space_places.Invariants.{room_of}
 use Rattle.edit_walk.proofs.space_places.Goals as goal
 

@@ -3,15 +3,11 @@
 use mathlib.Core.Path.{◌≡◌}
 use mathlib.Core.List.{List}
 use Prim.Native.Nat.{ℕ, ◌+◌, ◌≤◌, ◌-◌}
-use native.Mathlib.Numerals.{add-one}
-use native.Mathlib.Omega.{arith}
-use lib.ListN.{length, get_or, length-set}
-use borrow.Author.Rules.{rules}
+use lib.ListN.{length, get_or}
 use Rattle.math_lists.specs.NumbersBelow.{sum}
-use Rattle.math_lists.proofs.NumbersBelow.{sum_past}
 use Rattle.edit_record.specs.Layout.{most_sites}
 use Rattle.edit_walk.specs.WalkForms.{places_length}
-use Rattle.edit_walk.proofs.RoomInIndex.{Started, started-more, starts-spaced}
+use Rattle.edit_walk.proofs.RoomInIndex.{Started}
 use Rattle.edit_walk.proofs.space_places.Given as goal
 
 abbrev pub room_of : List ℕ → ℕ → ℕ

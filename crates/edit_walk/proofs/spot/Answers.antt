@@ -1,7 +1,6 @@
 -- `edit_walk::spot` meets its contract: the site and the sequence number are three bytes of the table. Assumes
 -- nothing.
 use Rattle.edit_history.proofs.FieldsInPlace.{site-in-place, seq-in-place}
-use borrow.Author.Rules.{rules}
 use Rattle.edit_walk.proofs.spot.Goals as goal
 
 pub returns : goal.returns

@@ -2,7 +2,6 @@
 -- the edits. Assumes nothing.
 use native.Mathlib.Omega.{arith}
 use lib.ListN.{get_or}
-use borrow.Author.Rules.{rules}
 use Rattle.edit_history.specs.EditsHeld.{edits_of}
 use Rattle.edit_history.proofs.EditsHeld.{edits-length}
 use Rattle.edit_walk.specs.WalkForms.{count_in}

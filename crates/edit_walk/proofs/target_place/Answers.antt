@@ -1,6 +1,5 @@
 -- `edit_walk::target_place` meets its contract: the target's site and sequence number are three bytes of the table.
 -- Assumes nothing.
-use borrow.Author.Rules.{rules}
 use Rattle.edit_history.proofs.FieldsInPlace.{target-in-place, target-seq-in-place}
 use Rattle.edit_walk.proofs.target_place.Goals as goal
 

@@ -1,7 +1,6 @@
 -- `edit_walk::vector_by` meets its contract. Assumes nothing.
 use mathlib.Core.Path.{◌≡◌}
 use native.Mathlib.Omega.{arith}
-use borrow.Author.Rules.{rules}
 use borrow.Author.Tests.{ne_eqb}
 use Rattle.edit_walk.specs.WalkForms.{vector_by}
 use Rattle.edit_walk.proofs.vector_by.Goals as goal

@@ -8,7 +8,6 @@ use Rattle.math_lists.proofs.Booleans.{and-true}
 use Rattle.math_maximal.specs.Groups.{bit}
 use Rattle.math_maximal.proofs.Bits.{bit-and}
 use Rattle.group_context.proofs.MaskFromBits.{first-bits}
-use borrow.Author.Rules.{rules}
 use Rattle.group_context.proofs.among_first.Goals as goal
 
 pub overflow_sub-result : goal.overflow_sub-result

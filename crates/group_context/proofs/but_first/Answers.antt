@@ -1,6 +1,5 @@
 -- `group_context::but_first` meets its contract. Assumes nothing.
 use native.Mathlib.Omega.{arith}
-use borrow.Author.Rules.{rules}
 use Rattle.group_context.proofs.ButFirst.{but_first}
 use Rattle.group_context.proofs.but_first.Goals as goal
 

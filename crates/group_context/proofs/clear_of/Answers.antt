@@ -1,19 +1,17 @@
 -- `group_context::clear_of` meets its contract: of the members of v that are gone through, those are kept whose number
 -- has no member of m. Assumes nothing.
-use mathlib.Core.Path.{◌≡◌, sym, ap, ◌∙◌}
-use mathlib.Core.Bool.{Bool, true}
-use Prim.Native.Nat.{ℕ, ◌+◌, ◌^◌, ◌≤◌}
+use mathlib.Core.Path.{sym, ap, ◌∙◌}
+use mathlib.Core.Bool.{Bool}
+use Prim.Native.Nat.{ℕ, ◌^◌}
 use native.Mathlib.Omega.{arith}
 use borrow.Author.Tests.{eq-eqb, ne_eqb}
 use lib.Bits.{or_add_and}
 use lib.Count.{count_trailing_zeros}
 use lib.ListN.{get_or}
-use Rattle.math_maximal.specs.Groups.{bit}
 use Rattle.math_maximal.specs.Step.{compatible}
 use Rattle.math_maximal.proofs.OneMemberLess.{first-left, less-left, still-left}
 use Rattle.group_context.proofs.ButFirst.{own_first}
-use Rattle.group_context.proofs.MembersGone.{is_kept, kept-first, kept-last, one_kept, one-passed}
-use borrow.Author.Rules.{rules}
+use Rattle.group_context.proofs.MembersGone.{kept-first, kept-last, one_kept, one-passed}
 use Rattle.group_context.proofs.clear_of.Goals as goal
 
 pub loop-left-init : goal.loop-left-init

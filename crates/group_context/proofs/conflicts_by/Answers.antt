@@ -1,7 +1,6 @@
 -- `group_context::conflicts_by` meets its contract. Assumes nothing.
 use mathlib.Core.Path.{ap, ◌∙◌}
 use Prim.Native.Nat.{ℕ}
-use borrow.Author.Rules.{rules}
 use lib.Bits.{bit_or}
 use Rattle.group_context.specs.RowForms.{reaching}
 use Rattle.group_context.proofs.conflicts_by.Goals as goal

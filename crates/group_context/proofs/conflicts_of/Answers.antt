@@ -2,7 +2,6 @@
 use mathlib.Core.Path.{ap, ◌∙◌}
 use Prim.Native.Nat.{ℕ, ◌^◌, ◌<◌}
 use lib.Bits.{bit_or}
-use borrow.Author.Rules.{rules}
 use Rattle.math_contexts.proofs.ContextMembers.{context-below}
 use Rattle.group_context.specs.RowForms.{reaching, conflicts_of}
 use Rattle.group_context.proofs.MetByRows.{union-is}

@@ -1,16 +1,11 @@
 -- `group_context::foes_of` meets its contract: of the members of m that are gone through, the rows are told. Assumes
 -- nothing.
-use mathlib.Core.Path.{◌≡◌, sym, ap, ap₂, ◌∙◌}
-use mathlib.Core.Bool.{Bool, true, ◌||◌}
+use mathlib.Core.Path.{◌≡◌}
+use mathlib.Core.Bool.{true}
 use Prim.Native.Nat.{ℕ, ◌≤◌}
-use native.Mathlib.Omega.{arith}
-use lib.Count.{count_trailing_zeros}
 use lib.ListN.{get_or}
 use Rattle.math_maximal.specs.Groups.{bit}
-use Rattle.math_maximal.proofs.OneMemberLess.{first-left, less-left, still-left}
-use Rattle.math_maximal.proofs.Bits.{bit-none, bit-or}
-use Rattle.group_context.proofs.MembersGone.{some_gone, none-gone, all-gone, some_more}
-use borrow.Author.Rules.{rules}
+use Rattle.group_context.proofs.MembersGone.{some_gone}
 use Rattle.group_context.proofs.foes_of.Given as goal
 
 abbrev pub invariant-loop-left : goal.invariant-loop-left

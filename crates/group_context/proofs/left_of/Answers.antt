@@ -4,12 +4,10 @@ use mathlib.Core.Bool.{true, false, ◌&&◌}
 use Prim.Native.Nat.{ℕ, ◌-◌, ◌≤◌}
 use lib.Bits.{bit_and}
 use lib.ListN.{get_or}
-use borrow.Author.Tests.{not-true, not-false}
 use Rattle.math_maximal.specs.Groups.{bit}
 use Rattle.math_maximal.specs.Step.{compatible}
 use Rattle.group_context.specs.RowsOfBox.{NextOf, what_is_left}
 use Rattle.group_context.proofs.ListedByRows.{left_is}
-use borrow.Author.Rules.{rules}
 use Rattle.group_context.proofs.left_of.Goals as goal
 
 pub returns-then-not-limited : goal.returns-then-not-limited

@@ -1,8 +1,7 @@
 -- `group_context::meeting_rows` meets its contract: those found are those passed whose number has a member of m.
 -- Assumes nothing.
 use mathlib.Core.Path.{◌≡◌, refl, ap, ◌∙◌}
-use mathlib.Core.Logic.{⊎_elim}
-use Prim.Native.Nat.{ℕ, ◌-◌, ◌≤◌}
+use Prim.Native.Nat.{ℕ, ◌-◌}
 use native.Mathlib.Omega.{arith}
 use borrow.Author.Rules.{rules}
 use Rattle.math_lists.specs.NumbersBelow.{sum, mask}
@@ -22,7 +21,7 @@ loop-j-preserved c =
     let s = a.rows.now in (
       omega arith,
       elim c.if-rows-j-ne0.branch [
-          then-rows-j-ne0 v ↦ v.found-is ∙ one_more_lem s a.m l.found l.j l.invariant.1 _ v.only-found.ensures v.if-rows-j-ne0.true
+        | then-rows-j-ne0 v ↦ v.found-is ∙ one_more_lem s a.m l.found l.j l.invariant.1 _ v.only-found.ensures v.if-rows-j-ne0.true
         | else-rows-j-ne0 v ↦ v.found-is ∙ none_more s a.m l.found l.j l.invariant.1 v.if-rows-j-ne0.false
       ],
     )

@@ -1,13 +1,8 @@
 -- `group_context::meeting_rows` meets its contract: those found are those passed whose number has a member of m.
 -- Assumes nothing.
-use mathlib.Core.Path.{◌≡◌, refl, ap, ◌∙◌}
-use mathlib.Core.Logic.{⊎_elim}
-use Prim.Native.Nat.{ℕ, ◌-◌, ◌≤◌}
-use native.Mathlib.Omega.{arith}
-use borrow.Author.Rules.{rules}
-use Rattle.math_lists.specs.NumbersBelow.{sum, mask}
+use mathlib.Core.Path.{◌≡◌}
+use Prim.Native.Nat.{◌-◌, ◌≤◌}
 use Rattle.group_context.specs.RowForms.{meeting}
-use Rattle.group_context.proofs.MeetingRows.{one_more_lem, none_more}
 use Rattle.group_context.proofs.meeting_rows.Given as goal
 
 abbrev pub invariant-loop-j : goal.invariant-loop-j

@@ -2,12 +2,10 @@
 use mathlib.Core.Path.{◌≡◌, subst, sym, ap, ◌∙◌}
 use mathlib.Core.Bool.{true, false}
 use lib.Dec.{eqb}
-use borrow.Author.Tests.{not-true, not-false}
 use Rattle.math_contexts.specs.MaskForms.{mask_names}
 use Rattle.group_context.specs.RowsOfBox.{NextOf, what_is_left}
 use Rattle.group_context.proofs.ContextByListed.{names-by-listed}
 use Rattle.group_context.proofs.ListedByRows.{listed-is}
-use borrow.Author.Rules.{rules}
 use Rattle.group_context.proofs.names_version.Goals as goal
 
 pub returns-then-not-limited : goal.returns-then-not-limited

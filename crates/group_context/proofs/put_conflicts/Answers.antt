@@ -1,11 +1,11 @@
 -- `group_context::put_conflicts` meets its contract: the conflicts of each of the Sets passed stand in its place.
 -- Assumes nothing.
-use mathlib.Core.Path.{◌≡◌, refl, ap, ◌∙◌}
-use Prim.Native.Nat.{ℕ, ◌-◌, ◌≤◌, ◌<◌}
+use mathlib.Core.Path.{refl, ap, ◌∙◌}
+use Prim.Native.Nat.{ℕ, ◌-◌}
 use native.Mathlib.Omega.{arith}
 use borrow.Author.Rules.{rules}
 use lib.Bits.{bit_or}
-use lib.ListN.{length, get_or, length-set}
+use lib.ListN.{get_or, length-set}
 use Rattle.group_context.specs.RowForms.{conflicts_of}
 use Rattle.group_context.proofs.ConflictRows.{conflict_row, conflict-row, one-row-more}
 use Rattle.group_context.proofs.put_conflicts.Goals as goal

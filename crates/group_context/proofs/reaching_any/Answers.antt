@@ -1,6 +1,5 @@
 -- `group_context::reaching_any` meets its contract. Assumes nothing.
 use mathlib.Core.Path.{ap}
-use borrow.Author.Rules.{rules}
 use lib.Bits.{bit_or}
 use Rattle.group_context.proofs.reaching_any.Goals as goal
 

@@ -2,7 +2,6 @@
 use mathlib.Core.Path.{sym}
 use native.Mathlib.Omega.{arith}
 use lib.ListN.{get_or-eq_default}
-use borrow.Author.Rules.{rules}
 use Rattle.group_context.proofs.row_at.Goals as goal
 
 pub returns-else-j-rows : goal.returns-else-j-rows

@@ -5,7 +5,6 @@ use lib.ListN.{length, length-append}
 use Rattle.edit_record.specs.RecordBytes.{decode_of}
 use Rattle.group_limited.proofs.NamedInTurn.{first-proper}
 use Rattle.group_kept.proofs.OneSetMore.{lawful-one-more, names-one-more}
-use borrow.Author.Rules.{rules}
 use Rattle.group_kept.proofs.judge.Goals as goal
 
 pub returns-then-k-lt-SETS : goal.returns-then-k-lt-SETS

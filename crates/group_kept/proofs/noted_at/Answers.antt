@@ -10,7 +10,6 @@ use Rattle.group_limited.specs.LimitedForms.{RowsTell}
 use Rattle.group_sight.specs.SightForms.{sets_in, SeesTell}
 use Rattle.group_kept.specs.KeptForms.{contexts_at, sees_at}
 use Rattle.group_kept.proofs.OneSetMore.{rest-is, lawful-one-more, left-one-more}
-use borrow.Author.Rules.{rules}
 use Rattle.group_kept.proofs.noted_at.Goals as goal
 
 pub returns : goal.returns

@@ -8,7 +8,6 @@ use lib.Seq.{length-take-le}
 use Rattle.group_sight.specs.SightForms.{most_recent}
 use Rattle.group_kept.specs.KeptForms.{contexts_at, sees_at}
 use Rattle.group_kept.proofs.OneSetMore.{kept-one-more}
-use borrow.Author.Rules.{rules}
 use Rattle.group_kept.proofs.put_down.Goals as goal
 
 pub slice_bounds-put_row-end-2 : goal.slice_bounds-put_row-end-2

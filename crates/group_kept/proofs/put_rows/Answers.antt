@@ -2,7 +2,7 @@
 -- proper. Assumes nothing.
 use mathlib.Core.Path.{◌≡◌, refl, sym, ap, subst, ◌∙◌}
 use mathlib.Core.List.{List, [], ◌∷◌}
-use Prim.Native.Nat.{◌-◌, ◌≤◌, ◌<◌}
+use Prim.Native.Nat.{◌-◌, ◌<◌}
 use native.Mathlib.Numerals.{add-one}
 use native.Mathlib.Omega.{arith}
 use lib.ListN.{length, get_or, drop}
@@ -15,7 +15,6 @@ use Rattle.group_sight.proofs.OneMoreTaken.{sets_more}
 use Rattle.group_limited.proofs.NamedInTurn.{first-proper}
 use Rattle.group_limited.proofs.RowsInPlaces.{no_rows, none-sees}
 use Rattle.group_kept.specs.KeptForms.{contexts_at, sees_at, RowsKept}
-use borrow.Author.Rules.{rules}
 use Rattle.group_kept.proofs.put_rows.Goals as goal
 
 pub loop-i-init : goal.loop-i-init

@@ -1,21 +1,11 @@
 -- `group_kept::put_rows` meets its contract: after i places, the rows of their Sets are put down, where these are
 -- proper. Assumes nothing.
-use mathlib.Core.Path.{◌≡◌, refl, sym, ap, subst, ◌∙◌}
-use mathlib.Core.List.{List, [], ◌∷◌}
-use Prim.Native.Nat.{◌-◌, ◌≤◌, ◌<◌}
-use native.Mathlib.Numerals.{add-one}
-use native.Mathlib.Omega.{arith}
-use lib.ListN.{length, get_or, drop}
-use Rattle.edit_record.specs.declared.Edit.{Edit}
+use mathlib.Core.Path.{◌≡◌}
+use Prim.Native.Nat.{◌-◌, ◌≤◌}
+use lib.ListN.{length}
 use Rattle.edit_causal.specs.ConflictForms.{Proper}
-use Rattle.edit_history.specs.EditsHeld.{record_at}
-use Rattle.edit_history.proofs.EditsInPlaces.{sets-length}
 use Rattle.group_sight.specs.SightForms.{sets_in}
-use Rattle.group_sight.proofs.OneMoreTaken.{sets_more}
-use Rattle.group_limited.proofs.NamedInTurn.{first-proper}
-use Rattle.group_limited.proofs.RowsInPlaces.{no_rows, none-sees}
-use Rattle.group_kept.specs.KeptForms.{contexts_at, sees_at, RowsKept}
-use borrow.Author.Rules.{rules}
+use Rattle.group_kept.specs.KeptForms.{RowsKept}
 use Rattle.group_kept.proofs.put_rows.Given as goal
 
 abbrev pub invariant-loop-i : goal.invariant-loop-i

@@ -4,7 +4,6 @@ use Rattle.group_limited.specs.LimitedForms.{RowsTell}
 use Rattle.group_sight.specs.SightForms.{SeesTell}
 use Rattle.group_kept.specs.KeptForms.{contexts_at, sees_at}
 use Rattle.group_kept.proofs.OneSetMore.{rest-is}
-use borrow.Author.Rules.{rules}
 use Rattle.group_kept.proofs.told_with.Goals as goal
 
 pub returns : goal.returns

@@ -1,21 +1,16 @@
 -- `group_limited::are_named_with` meets its contract: 16 is given to none of the Sets passed, whose rows are put down.
 -- Assumes nothing.
 use mathlib.Core.Path.{◌≡◌, refl, sym, ◌∙◌}
-use mathlib.Core.Bool.{false}
-use Prim.Native.Nat.{ℕ, ◌-◌, ◌%◌, ◌≤◌, ◌<◌}
+use Prim.Native.Nat.{◌-◌, ◌%◌, ◌≤◌, ◌<◌}
 use native.Mathlib.Omega.{arith}
 use lib.ListN.{length, get_or, length-set}
 use Rattle.math_lists.proofs.Booleans.{clash}
-use Rattle.math_contexts.specs.Box.{Lawful}
-use Rattle.edit_causal.specs.Conflict.{box_on}
 use Rattle.edit_history.specs.EditsHeld.{record_at}
 use Rattle.edit_history.proofs.EditsInPlaces.{sets-length}
-use Rattle.group_limited.specs.LimitedForms.{RowsTell}
-use Rattle.group_sight.specs.SightForms.{sets_in, most_recent, SeesTell}
+use Rattle.group_sight.specs.SightForms.{most_recent}
 use Rattle.group_limited.proofs.RowsInPlaces.{no_rows, rows_more, none-sees, sees_more}
-use Rattle.group_limited.proofs.NamedInTurn.{nameless, lawful-to, left-where-named}
+use Rattle.group_limited.proofs.NamedInTurn.{lawful-to, left-where-named}
 use Rattle.group_limited.proofs.NamedInTurn.{named-where-told, in-turn-on, in-turn-off, passed-one-more}
-use borrow.Author.Rules.{rules}
 use Rattle.group_limited.proofs.are_named_with.Goals as goal
 
 pub loop-i-init : goal.loop-i-init

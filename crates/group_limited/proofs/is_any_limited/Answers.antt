@@ -1,6 +1,6 @@
 -- `group_limited::is_any_limited` meets its contract: whether one of the Sets passed is limited. Assumes nothing.
 use mathlib.Core.Path.{◌≡◌, ap, ◌∙◌}
-use Prim.Native.Nat.{ℕ, ◌≤◌, ◌-◌}
+use Prim.Native.Nat.{ℕ, ◌-◌}
 use native.Mathlib.Numerals.{add-one}
 use native.Mathlib.Omega.{arith}
 use Rattle.math_lists.specs.SortedLists.{any}

@@ -1,14 +1,9 @@
 -- `group_limited::is_any_limited` meets its contract: whether one of the Sets passed is limited. Assumes nothing.
-use mathlib.Core.Path.{◌≡◌, ap, ◌∙◌}
-use Prim.Native.Nat.{ℕ, ◌≤◌, ◌-◌}
-use native.Mathlib.Numerals.{add-one}
-use native.Mathlib.Omega.{arith}
+use mathlib.Core.Path.{◌≡◌}
+use Prim.Native.Nat.{◌≤◌, ◌-◌}
 use Rattle.math_lists.specs.SortedLists.{any}
 use Rattle.edit_record.specs.Answer1.{is_limited}
-use Rattle.edit_history.specs.EditsHeld.{record_at}
 use Rattle.group_sight.specs.SightForms.{sets_in}
-use Rattle.group_sight.proofs.OneMoreTaken.{any-more}
-use borrow.Author.Rules.{rules}
 use Rattle.group_limited.proofs.is_any_limited.Given as goal
 
 abbrev pub invariant-loop-i : goal.invariant-loop-i

@@ -1,6 +1,5 @@
 -- `group_limited::is_nameless` meets its contract. Assumes nothing.
 use Rattle.group_limited.proofs.ToldByRows.{next-by-sight, nameless-by-sight}
-use borrow.Author.Rules.{rules}
 use Rattle.group_limited.proofs.is_nameless.Goals as goal
 
 pub returns : goal.returns

@@ -1,6 +1,5 @@
 -- `group_limited::judge` meets its contract. Assumes nothing.
 use Rattle.edit_history.proofs.EditsInPlaces.{sets-length}
-use borrow.Author.Rules.{rules}
 use Rattle.group_limited.proofs.judge.Goals as goal
 
 pub returns : goal.returns

@@ -1,6 +1,5 @@
 -- `group_limited::left_by` meets its contract. Assumes nothing.
 use Rattle.group_limited.proofs.ToldByRows.{next-by-sight}
-use borrow.Author.Rules.{rules}
 use Rattle.group_limited.proofs.left_by.Goals as goal
 
 pub returns : goal.returns

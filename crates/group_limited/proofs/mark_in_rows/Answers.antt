@@ -1,13 +1,10 @@
 -- `group_limited::mark_in_rows` meets its contract: what is gone through is marked, and the rest is as it was. Assumes
 -- nothing.
-use mathlib.Core.Path.{◌≡◌, refl}
-use Prim.Native.Nat.{◌≤◌}
+use mathlib.Core.Path.{refl}
 use native.Mathlib.Omega.{arith}
-use lib.ListN.{length, length-set}
+use lib.ListN.{length-set}
 use Rattle.math_maximal.proofs.OneMemberLess.{first-left, less-left}
-use Rattle.group_limited.proofs.MarkedRows.{MarkedBut}
 use Rattle.group_limited.proofs.MarkedRows.{none-marked-yet, marked-one-more, all-marked}
-use borrow.Author.Rules.{rules}
 use Rattle.group_limited.proofs.mark_in_rows.Goals as goal
 
 pub loop-left-init : goal.loop-left-init

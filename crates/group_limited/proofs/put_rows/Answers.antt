@@ -6,14 +6,12 @@ use native.Mathlib.Omega.{arith}
 use lib.ListN.{length, get_or, length-set}
 use Rattle.math_contexts.specs.Box.{Lawful}
 use Rattle.edit_causal.specs.Conflict.{box_on}
-use Rattle.edit_causal.specs.ConflictForms.{Proper}
 use Rattle.edit_history.specs.EditsHeld.{record_at}
 use Rattle.edit_history.proofs.EditsInPlaces.{sets-length}
 use Rattle.group_limited.specs.LimitedForms.{RowsTell}
 use Rattle.group_sight.specs.SightForms.{sets_in, most_recent, SeesTell}
 use Rattle.group_limited.proofs.RowsInPlaces.{no_rows, rows_more, none-sees, sees_more}
 use Rattle.group_limited.proofs.NamedInTurn.{lawful-to, left-where-proper}
-use borrow.Author.Rules.{rules}
 use Rattle.group_limited.proofs.put_rows.Goals as goal
 
 pub loop-i-init : goal.loop-i-init

@@ -1,7 +1,6 @@
 -- `group_limited::put_told` meets its contract. Assumes nothing.
 use native.Mathlib.Omega.{arith}
 use Rattle.group_limited.proofs.RowsOneMore.{tell-one-more}
-use borrow.Author.Rules.{rules}
 use Rattle.group_limited.proofs.put_told.Goals as goal
 
 pub returns : goal.returns

@@ -9,7 +9,6 @@ use Rattle.edit_record.specs.Layout.{place_length}
 use Rattle.edit_record.specs.RecordBytes.{decode_of}
 use Rattle.group_limited.specs.LimitedForms.{SightOf}
 use Rattle.group_sight.specs.SightForms.{sets_in, SightedTo}
-use borrow.Author.Rules.{rules}
 use Rattle.group_limited.proofs.sight_at.Goals as goal
 
 pub returns-then-at-recs : goal.returns-then-at-recs

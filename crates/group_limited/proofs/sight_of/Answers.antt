@@ -10,7 +10,6 @@ use Rattle.edit_record.specs.Layout.{limited_kind}
 use Rattle.edit_history.proofs.EditsInPlaces.{sets-length}
 use Rattle.group_sight.specs.declared.Marks.{Marks}
 use Rattle.group_sight.proofs.NamesOfSets.{names-there}
-use borrow.Author.Rules.{rules}
 use Rattle.group_limited.proofs.sight_of.Goals as goal
 
 -- the whole of what is lent is lent on as a part

@@ -2,7 +2,6 @@
 use mathlib.Core.Path.{refl}
 use native.Mathlib.Omega.{arith}
 use Rattle.group_limited.proofs.ToldByRows.{told-by-sight}
-use borrow.Author.Rules.{rules}
 use Rattle.group_limited.proofs.told_by.Goals as goal
 
 pub returns : goal.returns

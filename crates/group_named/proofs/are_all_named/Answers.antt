@@ -4,7 +4,7 @@ use mathlib.Core.Path.{◌≡◌, sym, ◌∙◌}
 use mathlib.Core.Bool.{false, not}
 use Prim.Native.Nat.{◌<◌}
 use native.Mathlib.Omega.{arith}
-use borrow.Author.Tests.{not-true, not-false}
+use borrow.Author.Tests.{not-false}
 use Rattle.group_named.proofs.BoxesNamed.{none-limited, some-limited}
 use borrow.Author.Rules.{rules}
 use Rattle.group_named.proofs.are_all_named.Lts

@@ -19,7 +19,6 @@ use Rattle.group_limited.specs.LimitedForms.{named_in_turn}
 use Rattle.group_named.specs.NamedForms.{is_named_at}
 use Rattle.group_named.proofs.SetsGathered.{gathered, told_of}
 use Rattle.group_named.proofs.BoxesNamed.{plain-in-turn}
-use borrow.Author.Rules.{rules}
 use Rattle.group_named.proofs.are_named_at.Goals as goal
 
 pub returns-then-kind_at-ne-CREATE : goal.returns-then-kind_at-ne-CREATE

@@ -1,17 +1,13 @@
 -- `group_named::are_named_each` meets its contract: whether each of those passed is named, and what is put down last.
 -- Assumes nothing.
 use mathlib.Core.Path.{◌≡◌, refl, ap, subst, ◌∙◌}
-use mathlib.Core.Bool.{true}
-use Prim.Native.Nat.{ℕ, ◌≤◌, ◌-◌}
+use Prim.Native.Nat.{ℕ, ◌-◌}
 use native.Mathlib.Numerals.{add-one}
 use native.Mathlib.Omega.{arith}
-use lib.ListN.{length}
 use borrow.Author.Tests.{eq-eqb}
 use Rattle.math_lists.specs.NumbersBelow.{all}
 use Rattle.math_lists.proofs.Booleans.{both}
-use Rattle.edit_history.specs.EditsHeld.{edits_of}
-use Rattle.group_named.specs.ChainForms.{ByteChained}
-use Rattle.group_named.specs.NamedForms.{LawfulSets, is_named_at, swap_of, BoxTold}
+use Rattle.group_named.specs.NamedForms.{is_named_at, swap_of, BoxTold}
 use Rattle.group_named.proofs.SwappedPlaces.{swap-first, swap-below, all-swapped}
 use borrow.Author.Rules.{rules}
 use Rattle.group_named.proofs.are_named_each.Goals as goal

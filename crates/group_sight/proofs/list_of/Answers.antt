@@ -12,7 +12,6 @@ use Rattle.edit_record.specs.RecordBytes.{decode_of, no_edit}
 use Rattle.edit_record.specs.Answer1.{is_limited, name_of}
 use Rattle.edit_causal.specs.Conflict.{listed_by}
 use Rattle.group_sight.proofs.MarksOfSets.{plain-names-none, marks-named, any-strange}
-use borrow.Author.Rules.{rules}
 use Rattle.group_sight.proofs.list_of.Goals as goal
 
 pub returns-then-byte_at-ne-LIMITED : goal.returns-then-byte_at-ne-LIMITED

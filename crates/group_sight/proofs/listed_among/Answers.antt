@@ -1,7 +1,7 @@
 -- `group_sight::listed_among` meets its contract: after i members, those of them are told. Assumes nothing.
 use mathlib.Core.Path.{◌≡◌, refl, sym, ap, ap₂, ◌∙◌}
 use mathlib.Core.List.{List, map}
-use Prim.Native.Nat.{ℕ, ◌-◌, ◌≤◌, ◌<◌}
+use Prim.Native.Nat.{ℕ, ◌-◌, ◌<◌}
 use native.Mathlib.Numerals.{add-one}
 use native.Mathlib.Omega.{arith}
 use lib.Bits.{bit_or}
@@ -14,7 +14,6 @@ use Rattle.group_sight.specs.SightForms.{marks_of_name, is_unseen}
 use Rattle.group_sight.proofs.NamesOfSets.{count-there, members-length}
 use Rattle.group_sight.proofs.OneMoreTaken.{any-more}
 use Rattle.group_sight.proofs.MarksOfSets.{listed_more, none-listed}
-use borrow.Author.Rules.{rules}
 use Rattle.group_sight.proofs.listed_among.Goals as goal
 
 pub loop-i-init : goal.loop-i-init

@@ -1,20 +1,13 @@
 -- `group_sight::listed_among` meets its contract: after i members, those of them are told. Assumes nothing.
-use mathlib.Core.Path.{◌≡◌, refl, sym, ap, ap₂, ◌∙◌}
-use mathlib.Core.List.{List, map}
-use Prim.Native.Nat.{ℕ, ◌-◌, ◌≤◌, ◌<◌}
-use native.Mathlib.Numerals.{add-one}
-use native.Mathlib.Omega.{arith}
-use lib.Bits.{bit_or}
-use lib.ListN.{length, get_or, take}
+use mathlib.Core.Path.{◌≡◌}
+use mathlib.Core.List.{map}
+use Prim.Native.Nat.{◌-◌, ◌≤◌}
+use lib.ListN.{get_or, take}
 use Rattle.math_lists.specs.NumbersBelow.{mask}
 use Rattle.math_lists.specs.SortedLists.{any, elem}
 use Rattle.edit_record.specs.RecordBytes.{decode_of}
 use Rattle.edit_record.specs.Answer1.{name_in}
-use Rattle.group_sight.specs.SightForms.{marks_of_name, is_unseen}
-use Rattle.group_sight.proofs.NamesOfSets.{count-there, members-length}
-use Rattle.group_sight.proofs.OneMoreTaken.{any-more}
-use Rattle.group_sight.proofs.MarksOfSets.{listed_more, none-listed}
-use borrow.Author.Rules.{rules}
+use Rattle.group_sight.specs.SightForms.{is_unseen}
 use Rattle.group_sight.proofs.listed_among.Given as goal
 
 abbrev pub invariant-loop-i : goal.invariant-loop-i

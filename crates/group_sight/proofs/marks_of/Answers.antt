@@ -14,7 +14,6 @@ use Rattle.edit_history.proofs.EditsInPlaces.{sets-length, set-place}
 use Rattle.group_sight.specs.SightForms.{sets_in, NameOf, NamesOf, is_foe}
 use Rattle.group_sight.proofs.FoesConflict.{foe-conflicts}
 use Rattle.group_sight.proofs.SeenThrough.{plain-of-others}
-use borrow.Author.Rules.{rules}
 use Rattle.group_sight.proofs.marks_of.Goals as goal
 
 pub foes_among-plain-requires : goal.foes_among-plain-requires

@@ -5,7 +5,6 @@ use Prim.Native.Nat.{ℕ, ◌+◌, ◌-◌, ◌*◌, ◌/◌, ◌^◌}
 use native.Mathlib.Omega.{arith}
 use Rattle.group_sight.specs.SightForms.{found}
 use Rattle.group_sight.proofs.NamesOfSets.{none-marked-by-sum, one-marked-by-sum}
-use borrow.Author.Rules.{rules}
 use Rattle.group_sight.proofs.marks_of_name.Goals as goal
 
 pub overflow_mul-m : goal.overflow_mul-m

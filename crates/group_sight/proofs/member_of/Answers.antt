@@ -2,7 +2,6 @@
 use mathlib.Core.Path.{◌∙◌}
 use native.Mathlib.Omega.{arith}
 use Rattle.group_sight.proofs.NamesOfSets.{member-there, member-past}
-use borrow.Author.Rules.{rules}
 use Rattle.group_sight.proofs.member_of.Goals as goal
 
 pub returns-then-count-i : goal.returns-then-count-i

@@ -1,13 +1,11 @@
 -- `group_sight::sum_of_name` meets its contract: after i names, the sum is that of the places of those that
 -- are x. Assumes nothing.
 use mathlib.Core.Path.{◌≡◌, refl}
-use Prim.Native.Nat.{◌-◌, ◌*◌, ◌≤◌}
+use Prim.Native.Nat.{◌-◌}
 use native.Mathlib.Omega.{arith}
-use mathlib.Core.Logic.{⊎_elim}
 use Rattle.math_lists.specs.NumbersBelow.{sum}
-use Rattle.group_sight.specs.SightForms.{found, sum_of_name}
+use Rattle.group_sight.specs.SightForms.{sum_of_name}
 use Rattle.group_sight.proofs.NamesOfSets.{sum-found, sum-skipped}
-use borrow.Author.Rules.{rules}
 use Rattle.group_sight.proofs.sum_of_name.Goals as goal
 use Rattle.group_sight.proofs.sum_of_name.Goals.{then-names-i, else-names-i}
 
@@ -35,15 +33,18 @@ loop-i-preserved c =
     let a = c.args in
     let l = c.loop-i in
     let ns = a.names.now in
-    elim c.if-names-i.branch [ then-names-i v ↦ (
-      omega (arith, c.loop-i-test.true),
-      rw (v.t-is, l.invariant.1) (sum-found ns a.x l.i v.if-names-i.true),
-      omega (arith, v.t-is, l.invariant.2, c.loop-i-test.true, c.requires.0),
-    ) | else-names-i v ↦ (
-      omega (arith, c.loop-i-test.true),
-      rw (v.t-is, l.invariant.1) (sum-skipped ns a.x l.i v.if-names-i.false),
-      omega (arith, v.t-is, l.invariant.2),
-    ) ]
+    elim c.if-names-i.branch [
+      | then-names-i v ↦ (
+        omega (arith, c.loop-i-test.true),
+        rw (v.t-is, l.invariant.1) (sum-found ns a.x l.i v.if-names-i.true),
+        omega (arith, v.t-is, l.invariant.2, c.loop-i-test.true, c.requires.0),
+      )
+      | else-names-i v ↦ (
+        omega (arith, c.loop-i-test.true),
+        rw (v.t-is, l.invariant.1) (sum-skipped ns a.x l.i v.if-names-i.false),
+        omega (arith, v.t-is, l.invariant.2),
+      )
+    ]
 
 pub returns : goal.returns
 returns c =

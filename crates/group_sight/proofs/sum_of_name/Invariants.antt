@@ -1,13 +1,8 @@
 -- `group_sight::sum_of_name` meets its contract: after i names, the sum is that of the places of those that
 -- are x. Assumes nothing.
-use mathlib.Core.Path.{◌≡◌, refl}
+use mathlib.Core.Path.{◌≡◌}
 use Prim.Native.Nat.{◌-◌, ◌*◌, ◌≤◌}
-use native.Mathlib.Omega.{arith}
-use mathlib.Core.Logic.{⊎_elim}
-use Rattle.math_lists.specs.NumbersBelow.{sum}
 use Rattle.group_sight.specs.SightForms.{found, sum_of_name}
-use Rattle.group_sight.proofs.NamesOfSets.{sum-found, sum-skipped}
-use borrow.Author.Rules.{rules}
 use Rattle.group_sight.proofs.sum_of_name.Given as goal
 
 abbrev pub invariant-loop-i : goal.invariant-loop-i

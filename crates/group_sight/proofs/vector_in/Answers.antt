@@ -1,7 +1,6 @@
 -- `group_sight::vector_in` meets its contract. Assumes nothing.
 use mathlib.Core.Path.{ap}
 use Rattle.edit_record.specs.declared.Edit.{Edit}
-use borrow.Author.Rules.{rules}
 use Rattle.group_sight.proofs.vector_in.Goals as goal
 
 pub returns-then-rec-ge-RECORD : goal.returns-then-rec-ge-RECORD

@@ -5,7 +5,6 @@ use native.Mathlib.Omega.{arith}
 use Rattle.table_drawing.specs.AnswerNumbers.{number_of}
 use Rattle.table_drawing.specs.Tables.{empty_drawing}
 use Rattle.list_file.proofs.PrintedFile.{refusal-printed, list-printed, tables-sound, in-front}
-use borrow.Author.Rules.{rules}
 use Rattle.list_file.proofs.print_file.Goals as goal
 
 pub returns-then-number-ne0 : goal.returns-then-number-ne0

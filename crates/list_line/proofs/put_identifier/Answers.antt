@@ -9,7 +9,6 @@ use Rattle.list_text.proofs.PiecesBehind.{two}
 use Rattle.list_version.specs.VersionForms.{identifier_by}
 use Rattle.list_line.specs.Line.{identifier_text}
 use Rattle.list_line.proofs.LineTurns.{none-marked, first-mark-spaced}
-use borrow.Author.Rules.{rules}
 use Rattle.list_line.proofs.put_identifier.Goals as goal
 
 pub returns-then-w-n : goal.returns-then-w-n

@@ -11,7 +11,6 @@ use Rattle.list_text.proofs.PiecesBehind.{four}
 use Rattle.list_version.specs.VersionForms.{identifier_by}
 use Rattle.list_line.specs.Line.{identifier_text}
 use Rattle.list_line.specs.LineForms.{settings_by, line_by}
-use borrow.Author.Rules.{rules}
 use Rattle.list_line.proofs.put_line.Goals as goal
 
 pub returns : goal.returns

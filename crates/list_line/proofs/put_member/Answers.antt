@@ -3,9 +3,7 @@ use mathlib.Core.Path.{◌≡◌, sym, ◌∙◌}
 use mathlib.Core.Bool.{true, false}
 use mathlib.Core.List.{append-nil}
 use native.Mathlib.Omega.{arith}
-use borrow.Author.Tests.{not-true, not-false}
 use Rattle.list_version.specs.VersionForms.{is_in}
-use borrow.Author.Rules.{rules}
 use Rattle.list_line.proofs.put_member.Goals as goal
 
 pub returns-then-not-is_member : goal.returns-then-not-is_member

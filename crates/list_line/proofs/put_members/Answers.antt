@@ -1,16 +1,11 @@
 -- `list_line::put_members` meets its contract: the names of the members passed stand behind the first n bytes. Assumes
 -- nothing.
 use mathlib.Core.Path.{◌≡◌, refl, ◌∙◌}
-use mathlib.Core.List.{◌∷◌, ◌++◌, flat_map}
-use Prim.Native.Nat.{◌+◌, ◌-◌, ◌*◌, ◌≤◌}
+use Prim.Native.Nat.{◌-◌}
 use native.Mathlib.Omega.{arith}
-use lib.ListN.{length, take}
-use Rattle.list_text.specs.Pieces.{plus, dotted_length}
-use Rattle.list_version.specs.VersionForms.{identifier_by}
-use Rattle.list_line.specs.Line.{name_text}
+use lib.ListN.{take}
 use Rattle.list_line.proofs.LineTurns.{no_member, member-more}
 use Rattle.list_line.proofs.KeptPieces.{kept-name-at}
-use borrow.Author.Rules.{rules}
 use Rattle.list_line.proofs.put_members.Goals as goal
 
 pub loop-i-init : goal.loop-i-init

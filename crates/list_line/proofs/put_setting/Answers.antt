@@ -6,7 +6,6 @@ use native.Mathlib.Omega.{arith}
 use borrow.Author.Tests.{eq-eqb}
 use Rattle.list_line.specs.LineForms.{pieces}
 use Rattle.list_line.proofs.KeptPieces.{stands}
-use borrow.Author.Rules.{rules}
 use Rattle.list_line.proofs.put_setting.Goals as goal
 
 pub returns-then-s-eq0 : goal.returns-then-s-eq0

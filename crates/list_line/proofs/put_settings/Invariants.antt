@@ -1,15 +1,12 @@
 -- `list_line::put_settings` meets its contract: the settings of the keys passed stand behind the first n bytes.
 -- Assumes nothing.
-use mathlib.Core.Path.{◌≡◌, refl, sym, ◌∙◌}
+use mathlib.Core.Path.{◌≡◌}
 use mathlib.Core.List.{◌++◌}
 use Prim.Native.Nat.{◌+◌, ◌-◌, ◌*◌, ◌≤◌}
-use native.Mathlib.Omega.{arith}
 use lib.ListN.{length, take}
 use Rattle.edit_record.specs.Layout.{keys}
 use Rattle.list_text.specs.Pieces.{equated_length}
 use Rattle.list_line.specs.LineForms.{settings_by, Kept, SameNames}
-use Rattle.list_line.proofs.LineTurns.{no_keys, key_more}
-use borrow.Author.Rules.{rules}
 use Rattle.list_line.proofs.put_settings.Given as goal
 
 abbrev pub invariant-loop-k : goal.invariant-loop-k

@@ -1,7 +1,6 @@
 -- `list_lines::head` meets its contract: line 0 with the total that was counted. Assumes nothing.
 use mathlib.Core.Path.{◌∙◌}
 use native.Mathlib.Omega.{arith}
-use borrow.Author.Rules.{rules}
 use Rattle.list_lines.proofs.head.Goals as goal
 
 pub returns : goal.returns

@@ -9,7 +9,6 @@ use Rattle.group_step.specs.GroupRows.{most_sets, most_groups}
 use Rattle.table_drawing.specs.Tables.{tables_of}
 use Rattle.table_soundness.proofs.SoundFacts.{sound-at}
 use Rattle.list_lines.proofs.LinesGathered.{gathered-ready, gathered-count, gathered-line}
-use borrow.Author.Rules.{rules}
 use Rattle.list_lines.proofs.put_found.Goals as goal
 
 pub put_version-requires : goal.put_version-requires

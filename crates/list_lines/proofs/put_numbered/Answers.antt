@@ -5,7 +5,6 @@ use borrow.Author.Tests.{not-true, not-false}
 use Rattle.table_drawing.specs.Tables.{tables_of}
 use Rattle.table_soundness.proofs.SoundFacts.{sound-at}
 use Rattle.list_lines.proofs.LineFound.{numbered-head, not-numbered, numbered}
-use borrow.Author.Rules.{rules}
 use Rattle.list_lines.proofs.put_numbered.Goals as goal
 
 pub head-bytes-requires : goal.head-bytes-requires

@@ -1,6 +1,5 @@
 -- `list_lines::put_version` meets its contract: the line by the stamps of the Sets. Assumes nothing.
 use native.Mathlib.Omega.{arith}
-use borrow.Author.Rules.{rules}
 use Rattle.list_lines.proofs.put_version.Goals as goal
 
 pub put_lone_line-requires : goal.put_lone_line-requires

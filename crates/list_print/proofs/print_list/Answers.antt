@@ -1,14 +1,12 @@
 -- `list_print::print_list` meets its contract: each of its three ends is that outcome. Assumes nothing.
 use mathlib.Core.Path.{sym, ◌∙◌}
-use mathlib.Core.Logic.{⊎_elim}
 use Prim.Native.Nat.{◌+◌, ◌≤◌}
 use native.Mathlib.Omega.{arith}
 use lib.ListN.{length}
-use borrow.Author.Tests.{leb-true, not-true, not-false}
+use borrow.Author.Tests.{leb-true}
 use Rattle.table_drawing.specs.Tables.{tables_of}
 use Rattle.list_print.specs.Printing.{list_of, listing_of}
 use Rattle.list_print.proofs.LinesJoined.{list-no-room, list_put}
-use borrow.Author.Rules.{rules}
 use Rattle.list_print.proofs.print_list.Goals as goal
 use Rattle.list_print.proofs.print_list.Goals.{then-not-has_room+else-not-has_room-2, else-not-has_room}
 
@@ -35,24 +33,24 @@ pub slice_bounds-put_list_by-count : goal.slice_bounds-put_list_by-count
 slice_bounds-put_list_by-count c =
     let longest = sym c.has_room.ensures in
     elim c.if-not-has_room.branch [
-        then-not-has_room+else-not-has_room-2 v ↦
-        let room = sym v.has_room-then-not-has_room.ensures ∙ v.if-not-has_room-2.false in
-        omega (arith, leb-true, room)
+      | then-not-has_room+else-not-has_room-2 v ↦
+          let room = sym v.has_room-then-not-has_room.ensures ∙ v.if-not-has_room-2.false in
+          omega (arith, leb-true, room)
       | else-not-has_room v ↦
-        let room = longest ∙ v.if-not-has_room.false in
-        omega (arith, leb-true, room)
+          let room = longest ∙ v.if-not-has_room.false in
+          omega (arith, leb-true, room)
     ]
 
 pub slice_bounds-put_list_by-start : goal.slice_bounds-put_list_by-start
 slice_bounds-put_list_by-start c =
     let longest = sym c.has_room.ensures in
     elim c.if-not-has_room.branch [
-        then-not-has_room+else-not-has_room-2 v ↦
-        let room = sym v.has_room-then-not-has_room.ensures ∙ v.if-not-has_room-2.false in
-        omega (arith, leb-true, room)
+      | then-not-has_room+else-not-has_room-2 v ↦
+          let room = sym v.has_room-then-not-has_room.ensures ∙ v.if-not-has_room-2.false in
+          omega (arith, leb-true, room)
       | else-not-has_room v ↦
-        let room = longest ∙ v.if-not-has_room.false in
-        omega (arith, leb-true, room)
+          let room = longest ∙ v.if-not-has_room.false in
+          omega (arith, leb-true, room)
     ]
 
 pub put_list_by-bytes-requires : goal.put_list_by-bytes-requires
@@ -72,12 +70,12 @@ returns c =
     let longest = sym joined.has_room.ensures in
     let fits : a.start + length (list_of t) ≤ length a.out.now =
     elim c.if-not-has_room.branch [
-        then-not-has_room+else-not-has_room-2 v ↦
-        let room = sym v.has_room-then-not-has_room.ensures ∙ v.if-not-has_room-2.false in
-        omega (arith, leb-true, room, v.list_bytes-least.ensures)
+      | then-not-has_room+else-not-has_room-2 v ↦
+          let room = sym v.has_room-then-not-has_room.ensures ∙ v.if-not-has_room-2.false in
+          omega (arith, leb-true, room, v.list_bytes-least.ensures)
       | else-not-has_room v ↦
-        let room = longest ∙ v.if-not-has_room.false in
-        omega (arith, leb-true, room, done.few)
+          let room = longest ∙ v.if-not-has_room.false in
+          omega (arith, leb-true, room, done.few)
     ] in
     list_put t (sym s9.is_sound_with.ensures.0 ∙ joined.if-not-is_sound_with.false) a.out.now
     a.start fits done

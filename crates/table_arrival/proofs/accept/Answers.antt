@@ -1,13 +1,11 @@
 -- `table_arrival::accept` meets its contract. Assumes nothing.
 use mathlib.Core.Path.{◌≡◌, sym, ◌∙◌}
 use mathlib.Core.Bool.{true, false}
-use borrow.Author.Rules.{rules}
 use borrow.Author.Tests.{eq-eqb, ne_eqb}
 use Rattle.edit_record.specs.Layout.{create_kind}
 use Rattle.edit_record.specs.RecordBytes.{decode_of}
 use Rattle.edit_record.specs.Answer1.{is_create, is_set}
 use Rattle.table_drawing.specs.Tables.{tables_of}
-use Rattle.table_drawing.specs.AnswerNumbers.{number_of}
 use Rattle.table_arrival.specs.ArrivalForms.{first_to_six}
 use Rattle.table_arrival.proofs.CodeInHand.{first-is, create-given, create-taken, layer-given, layer-taken}
 use Rattle.table_arrival.proofs.CodeOutcomes.{refused-is}

@@ -1,11 +1,10 @@
 -- `table_arrival::copy_record` meets its contract. Assumes nothing.
-use mathlib.Core.List.{◌++◌, append-nil}
+use mathlib.Core.List.{append-nil}
 use mathlib.Core.Path.{◌≡◌}
-use Prim.Native.Nat.{◌≤◌, ◌-◌}
+use Prim.Native.Nat.{◌-◌}
 use native.Mathlib.Omega.{arith}
 use lib.Seq.{take_all}
-use lib.ListN.{length, take, drop, length-set, drop_of_length-le}
-use borrow.Author.Rules.{rules}
+use lib.ListN.{length, length-set, drop_of_length-le}
 use Rattle.math_lists.proofs.ReplacedPart.{copy_more}
 use Rattle.table_arrival.proofs.copy_record.Goals as goal
 

@@ -1,5 +1,4 @@
 -- `table_arrival::counted_with` meets its contract. Assumes nothing.
-use borrow.Author.Rules.{rules}
 use Rattle.table_arrival.proofs.counted_with.Goals as goal
 
 pub returns : goal.returns

@@ -1,5 +1,4 @@
 -- `table_arrival::is_full` meets its contract. Assumes nothing.
-use borrow.Author.Rules.{rules}
 use Rattle.table_arrival.proofs.is_full.Goals as goal
 
 pub returns : goal.returns

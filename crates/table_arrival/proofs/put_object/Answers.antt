@@ -1,7 +1,6 @@
 -- `table_arrival::put_object` meets its contract. Assumes nothing.
 use native.Mathlib.Omega.{arith}
 use lib.ListN.{length-set}
-use borrow.Author.Rules.{rules}
 use Rattle.table_arrival.proofs.put_object.Goals as goal
 
 pub bounds-objects-at-2 : goal.bounds-objects-at-2

@@ -5,7 +5,6 @@ use Prim.Native.Nat.{ℕ, ◌+◌, ◌*◌}
 use native.Mathlib.Omega.{arith}
 use lib.ListN.{length, take, drop}
 use borrow.Rule.Slice.PartMut.{Post-is}
-use borrow.Author.Rules.{rules}
 use Rattle.edit_record.specs.Layout.{place_length}
 use Rattle.table_arrival.proofs.put_record.Goals as goal
 

@@ -1,12 +1,8 @@
 -- `table_arrival::put_whole` meets its contract. Assumes nothing.
-use mathlib.Core.List.{◌++◌, append-nil}
+use mathlib.Core.List.{◌++◌}
 use mathlib.Core.Path.{◌≡◌}
 use Prim.Native.Nat.{◌≤◌, ◌-◌}
-use native.Mathlib.Omega.{arith}
-use lib.Seq.{take_all}
-use lib.ListN.{length, take, drop, length-set, drop_of_length-le}
-use borrow.Author.Rules.{rules}
-use Rattle.math_lists.proofs.ReplacedPart.{copy_more}
+use lib.ListN.{length, take, drop}
 use Rattle.edit_record.specs.Layout.{record_length}
 use Rattle.table_arrival.proofs.put_whole.Given as goal
 

@@ -1,5 +1,4 @@
 -- `table_arrival::refusal` meets its contract. Assumes nothing.
-use borrow.Author.Rules.{rules}
 use Rattle.table_arrival.proofs.refusal.Goals as goal
 
 pub returns : goal.returns

@@ -2,7 +2,6 @@
 use Prim.Native.Nat.{◌≤◌, ◌<◌}
 use native.Mathlib.Omega.{arith}
 use lib.ListN.{length}
-use borrow.Author.Rules.{rules}
 use Rattle.table_drawing.specs.Tables.{tables_of}
 use Rattle.group_step.specs.GroupRows.{most_groups}
 use Rattle.table_arrival.proofs.SetReady.{step_by, GivenSet, set_given, set_apart, set-refused, set-stored}

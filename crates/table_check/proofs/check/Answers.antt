@@ -1,8 +1,6 @@
 -- `table_check::check` meets its contract. Assumes nothing.
 use mathlib.Core.Path.{sym, ◌∙◌}
 use mathlib.Core.Bool.{true, false}
-use borrow.Author.Tests.{not-true, not-false}
-use borrow.Author.Rules.{rules}
 use Rattle.table_drawing.specs.Tables.{tables_of}
 use Rattle.table_check.proofs.TrueExactly.{not_sound, rows-decide}
 use Rattle.table_check.proofs.check.Goals as goal

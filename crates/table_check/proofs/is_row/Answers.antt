@@ -6,7 +6,6 @@ use lib.ListN.{take}
 use lib.Seq.{length-take-le}
 use Rattle.math_lists.specs.NumbersBelow.{same_list}
 use Rattle.table_check.proofs.RowWorkedOut.{part-is}
-use borrow.Author.Rules.{rules}
 use Rattle.table_check.proofs.is_row.Goals as goal
 
 pub slice_bounds-is_same-end-2 : goal.slice_bounds-is_same-end-2

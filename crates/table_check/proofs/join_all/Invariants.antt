@@ -1,14 +1,10 @@
 -- `table_check::join_all` meets its contract: those passed have the members of m, and the rest is as it was. Assumes
 -- nothing.
-use mathlib.Core.Path.{◌≡◌, refl}
+use mathlib.Core.Path.{◌≡◌}
 use mathlib.Core.List.{◌++◌, map}
-use Prim.Native.Nat.{ℕ, ◌-◌, ◌≤◌}
-use native.Mathlib.Omega.{arith}
+use Prim.Native.Nat.{◌-◌, ◌≤◌}
 use lib.Bits.{bit_or}
-use lib.ListN.{length, take, drop, length-set}
-use borrow.Author.Rules.{rules}
-use Rattle.group_step.proofs.LoopTurns.{made_more, made_all}
-use Rattle.table_check.proofs.JoinedLater.{joined-front}
+use lib.ListN.{length, take, drop}
 use Rattle.table_check.proofs.join_all.Given as goal
 
 abbrev pub invariant-loop-i : goal.invariant-loop-i

@@ -6,7 +6,6 @@ use lib.Bits.{bit_or}
 use lib.ListN.{length, take}
 use lib.Seq.{length-take-le}
 use Prim.Native.Nat.{ℕ}
-use borrow.Author.Rules.{rules}
 use Rattle.math_maximal.specs.Step.{step}
 use Rattle.table_check.specs.CheckForms.{joined_with}
 use Rattle.table_check.proofs.RowWorkedOut.{settled-front}

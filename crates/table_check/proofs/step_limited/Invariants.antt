@@ -1,26 +1,14 @@
 -- `table_check::step_limited` meets its contract: after i Sets, their groups stand in front and their rows are put
 -- down. Assumes nothing.
-use mathlib.Core.Path.{◌≡◌, refl, sym, ap, ◌∙◌}
+use mathlib.Core.Path.{◌≡◌}
 use mathlib.Core.Bool.{false}
-use Prim.Native.Nat.{ℕ, ◌+◌, ◌-◌, ◌%◌, ◌≤◌, ◌<◌}
-use native.Mathlib.Omega.{arith}
-use lib.ListN.{length, get_or, take, length-set}
-use Rattle.math_lists.proofs.Booleans.{clash}
-use Rattle.edit_causal.proofs.ConflictsAmongSets.{none-itself}
-use Rattle.edit_history.specs.EditsHeld.{record_at}
+use Prim.Native.Nat.{ℕ, ◌-◌, ◌≤◌, ◌<◌}
+use lib.ListN.{length, take}
 use Rattle.group_step.specs.GroupRows.{most_groups}
-use Rattle.group_limited.specs.LimitedForms.{RowsTell, ToldOf}
-use Rattle.group_sight.specs.SightForms.{sets_in, most_recent, SeesTell}
-use Rattle.group_limited.proofs.RowsInPlaces.{no_rows, rows_more, none-sees, sees_more}
-use Rattle.group_limited.proofs.NamedInTurn.{nameless, lawful-to}
+use Rattle.group_limited.specs.LimitedForms.{RowsTell}
+use Rattle.group_sight.specs.SightForms.{sets_in, SeesTell}
+use Rattle.group_limited.proofs.NamedInTurn.{nameless}
 use Rattle.table_check.specs.CheckForms.{groups_in}
-use Rattle.table_check.proofs.RowWorkedOut.{groups_none, stepped, in-ascending, in-below, in-apart, in-more}
-use Rattle.table_check.proofs.RowWorkedOut.{settled-front}
-use Rattle.table_check.proofs.SetsInTurn.{TakenInTurn, taken, next-nameless, turn-to}
-use borrow.Author.Rules.{rules}
-use Rattle.table_check.proofs.step_limited.Lts
-use Rattle.table_check.proofs.step_limited.Tie
-use Rattle.table_check.proofs.step_limited.Reads
 use Rattle.table_check.proofs.step_limited.Given as goal
 
 abbrev pub invariant-loop-i : goal.invariant-loop-i

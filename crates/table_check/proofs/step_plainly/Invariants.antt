@@ -1,20 +1,11 @@
 -- `table_check::step_plainly` meets its contract: after i Sets, their groups stand in front. Assumes nothing.
-use mathlib.Core.Path.{◌≡◌, refl, sym, ap, ◌∙◌}
-use Prim.Native.Nat.{◌+◌, ◌-◌, ◌≤◌}
-use native.Mathlib.Omega.{arith}
-use lib.ListN.{length, get_or, take, get_or-replicate}
-use Rattle.edit_causal.proofs.ConflictsAmongSets.{none-itself}
-use Rattle.edit_history.specs.EditsHeld.{record_at}
+use mathlib.Core.Path.{◌≡◌}
+use Prim.Native.Nat.{◌-◌, ◌≤◌}
+use lib.ListN.{length, take}
 use Rattle.edit_record.specs.Layout.{keys}
 use Rattle.group_step.specs.GroupRows.{most_groups, most_sets}
 use Rattle.table_sets.specs.MaskForms.{MaskedTo}
-use Rattle.table_sets.proofs.MarksByMask.{masked-none}
 use Rattle.table_check.specs.CheckForms.{groups_in, joined_with}
-use Rattle.table_check.proofs.RowWorkedOut.{groups_none, stepped-on, in-ascending, in-below, in-apart}
-use Rattle.table_check.proofs.RowWorkedOut.{in-more}
-use Rattle.table_check.proofs.JoinedLater.{joined-none}
-use Rattle.table_check.proofs.SetsInTurn.{plain-are-all}
-use borrow.Author.Rules.{rules}
 use Rattle.table_check.proofs.step_plainly.Given as goal
 
 abbrev pub invariant-loop-i : goal.invariant-loop-i

@@ -3,7 +3,6 @@ use mathlib.Core.Path.{sym, ◌∙◌}
 use native.Mathlib.Omega.{arith}
 use lib.ListN.{length-set}
 use lib.Seq.{take-suc-set}
-use borrow.Author.Tests.{not-true}
 use Rattle.table_check.proofs.SetsInTurn.{none-limited-turn}
 use borrow.Author.Rules.{rules}
 use Rattle.table_check.proofs.work_out.Goals as goal

@@ -1,7 +1,5 @@
 -- `table_drawing::open` meets its contract: each of its three ends is that outcome. Assumes nothing.
 use mathlib.Core.Path.{sym, ◌∙◌}
-use borrow.Author.Tests.{not-true, not-false}
-use borrow.Author.Rules.{rules}
 use Rattle.table_drawing.specs.Tables.{tables_of}
 use Rattle.table_drawing.proofs.OpeningOutcomes.{refused-lengths, refused-sites, opened}
 use Rattle.table_drawing.proofs.open.Goals as goal

@@ -14,7 +14,6 @@ use Rattle.table_arrival.proofs.ProperWith.{proper-held}
 use Rattle.table_engine.specs.EngineForms.{found_as}
 use Rattle.table_engine.proofs.MasksOfSets.{masks-fit, masks-groups}
 use Rattle.table_engine.proofs.EnumerationOutcomes.{none_left, refused-with, found-with}
-use borrow.Author.Rules.{rules}
 use Rattle.table_engine.proofs.enumerate_groups.Goals as goal
 
 pub returns-then-number-ne0 : goal.returns-then-number-ne0

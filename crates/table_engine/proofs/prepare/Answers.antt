@@ -1,7 +1,6 @@
 -- `table_engine::prepare` meets its contract. Assumes nothing.
 use mathlib.Core.Path.{refl, sym, subst, ◌∙◌}
 use mathlib.Core.Bool.{Bool}
-use borrow.Author.Tests.{not-true, not-false}
 use Rattle.edit_history.specs.EditsHeld.{edits_of}
 use Rattle.table_drawing.specs.Tables.{tables_of}
 use Rattle.table_soundness.specs.Sound.{sound}
@@ -9,7 +8,6 @@ use Rattle.table_soundness.proofs.SoundFacts.{but-at, but-off, named-decides}
 use Rattle.table_arrival.proofs.CodeInHand.{but-holds}
 use Rattle.table_engine.specs.EngineForms.{PreparedFor}
 use Rattle.table_engine.proofs.BoxPrepared.{unsound-prepared}
-use borrow.Author.Rules.{rules}
 use Rattle.table_engine.proofs.prepare.Goals as goal
 
 pub returns-then-not-is_sound_but_named : goal.returns-then-not-is_sound_but_named

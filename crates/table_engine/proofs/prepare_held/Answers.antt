@@ -2,11 +2,9 @@
 use mathlib.Core.Path.{sym, ap, ◌∙◌}
 use mathlib.Core.Bool.{Bool, false}
 use native.Mathlib.Omega.{arith}
-use borrow.Author.Tests.{not-true, not-false}
 use Rattle.table_engine.specs.EngineForms.{refusal_of}
 use Rattle.table_engine.proofs.BoxPrepared.{held-there, place-below, create-there, sets-there}
 use Rattle.table_engine.proofs.BoxPrepared.{none-prepared, box-prepared}
-use borrow.Author.Rules.{rules}
 use Rattle.table_engine.proofs.prepare_held.Goals as goal
 
 pub returns-then-not-is_create_in : goal.returns-then-not-is_create_in

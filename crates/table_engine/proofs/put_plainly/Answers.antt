@@ -1,7 +1,7 @@
 -- `table_engine::put_plainly` meets its contract: after i places their Sets have their masks, and stand among those of
 -- their keys. Assumes nothing.
 use mathlib.Core.Path.{◌≡◌, refl, sym, ap, ◌∙◌}
-use Prim.Native.Nat.{ℕ, ◌-◌, ◌≤◌}
+use Prim.Native.Nat.{ℕ, ◌-◌}
 use native.Mathlib.Omega.{arith}
 use lib.ListN.{length, get_or-replicate}
 use Rattle.math_lists.specs.NumbersBelow.{mask}
@@ -9,13 +9,9 @@ use Rattle.edit_record.specs.Layout.{keys}
 use Rattle.edit_causal.specs.Conflict.{conflicts_in}
 use Rattle.edit_history.proofs.EditsInPlaces.{sets-length}
 use Rattle.group_sight.specs.SightForms.{sets_in}
-use Rattle.table_sets.specs.MaskForms.{MaskedTo}
 use Rattle.table_sets.proofs.MarksByMask.{masked-none}
 use Rattle.table_sets.proofs.SetsTold.{tells-in-places}
-use Rattle.table_engine.specs.Enumeration.{most_decided}
-use Rattle.table_engine.specs.EngineForms.{MaskedFirst}
 use Rattle.table_engine.proofs.MasksOfSets.{row_small, masked-more}
-use borrow.Author.Rules.{rules}
 use Rattle.table_engine.proofs.put_plainly.Goals as goal
 
 pub loop-i-init : goal.loop-i-init

@@ -1,6 +1,6 @@
 -- `table_engine::refusal` meets its contract. Assumes nothing.
 use native.Mathlib.Omega.{arith}
-use borrow.Author.Tests.{not-true, not-false, ne_eqb, eq-eqb, lt-ltb, le-ltb}
+use borrow.Author.Tests.{ne_eqb, eq-eqb, lt-ltb, le-ltb}
 use Rattle.group_step.specs.GroupRows.{most_groups}
 use Rattle.table_engine.specs.Enumeration.{most_decided}
 use Rattle.table_engine.specs.EngineForms.{refusal_of}

@@ -2,7 +2,6 @@
 use native.Mathlib.Omega.{arith}
 use Rattle.group_engine.specs.SearchForms.{by_masks}
 use Rattle.table_engine.proofs.EnumerationOutcomes.{too-many-groups, all-given}
-use borrow.Author.Rules.{rules}
 use Rattle.table_engine.proofs.search.Goals as goal
 
 pub returns-then-r-gt-GROUPS : goal.returns-then-r-gt-GROUPS

@@ -8,7 +8,7 @@ use native.Mathlib.Numerals.{add-one}
 use native.Mathlib.Omega.{arith}
 use lib.Dec.{eqb}
 use lib.ListN.{get_or, set}
-use borrow.Author.Tests.{eq-eqb, ne_eqb, not-true, not-false}
+use borrow.Author.Tests.{eq-eqb, ne_eqb, not-false}
 use Rattle.edit_record.specs.Layout.{create_kind, set_kind, limited_kind}
 use Rattle.edit_record.specs.Answer1.{is_create, is_set}
 use Rattle.edit_history.specs.EditsHeld.{record_at}

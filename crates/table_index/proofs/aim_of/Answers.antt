@@ -1,6 +1,5 @@
 -- `table_index::aim_of` meets its contract. Assumes nothing.
 use mathlib.Core.Path.{◌∙◌}
-use borrow.Author.Rules.{rules}
 use Rattle.edit_record.specs.RecordBytes.{decode_of}
 use Rattle.edit_walk.specs.WalkForms.{Passing}
 use Rattle.table_index.proofs.SurveyByIndex.{held-is}

@@ -1,12 +1,10 @@
 -- `table_index::build` meets its contract: after i records, the index is that of the first i. Assumes nothing.
 use mathlib.Core.Path.{◌≡◌, refl, sym, ◌∙◌}
-use Prim.Native.Nat.{◌+◌, ◌≤◌, ◌-◌}
+use Prim.Native.Nat.{◌+◌, ◌-◌}
 use native.Mathlib.Omega.{arith}
-use Rattle.edit_walk.specs.WalkForms.{Spaced, count_in}
+use Rattle.edit_walk.specs.WalkForms.{count_in}
 use Rattle.edit_walk.proofs.RoomInIndex.{spaced-before, spaced-same}
-use Rattle.table_index.specs.IndexForms.{number_at, IndexOf}
 use Rattle.table_index.proofs.OneRecordMore.{index-starts, none-numbered}
-use borrow.Author.Rules.{rules}
 use Rattle.table_index.proofs.build.Lts
 use Rattle.table_index.proofs.build.Tie
 use Rattle.table_index.proofs.build.Reads

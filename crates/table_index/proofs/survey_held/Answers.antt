@@ -4,7 +4,6 @@ use mathlib.Core.Bool.{not, cond}
 use Prim.Native.Nat.{ℕ}
 use lib.Dec.{eqb}
 use lib.ListN.{get_or}
-use borrow.Author.Rules.{rules}
 use Rattle.math_lists.specs.SortedLists.{any}
 use Rattle.edit_record.specs.RecordBytes.{decode_of}
 use Rattle.edit_record.specs.Answer1.{is_limited}

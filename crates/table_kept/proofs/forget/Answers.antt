@@ -3,7 +3,6 @@ use mathlib.Core.Path.{◌∙◌}
 use native.Mathlib.Omega.{arith}
 use lib.ListN.{length-set}
 use lib.Seq.{get_or-set_same}
-use borrow.Author.Rules.{rules}
 use Rattle.table_kept.specs.BoxForms.{told_at}
 use Rattle.table_kept.proofs.KeptAlong.{none_kept}
 use Rattle.table_kept.proofs.forget.Goals as goal

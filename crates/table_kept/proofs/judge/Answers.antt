@@ -8,7 +8,6 @@ use Rattle.edit_record.specs.RecordBytes.{decode_of}
 use Rattle.edit_history.specs.EditsHeld.{edits_of}
 use Rattle.table_arrival.proofs.JudgedPlainly.{judged-plainly}
 use Rattle.table_kept.proofs.KeptAlong.{kept_more}
-use borrow.Author.Rules.{rules}
 use Rattle.table_kept.proofs.judge.Goals as goal
 
 pub returns-then-not-v-limited : goal.returns-then-not-v-limited

@@ -10,7 +10,6 @@ use Rattle.edit_history.specs.EditsHeld.{edits_of, sets_on}
 use Rattle.group_step.specs.GroupRows.{most_sets}
 use Rattle.table_kept.specs.BoxForms.{boxed, TellOf, KeptFor}
 use Rattle.table_kept.proofs.KeptAlong.{surveyed-sets, kept-with}
-use borrow.Author.Rules.{rules}
 use Rattle.table_kept.proofs.judge_by_rows.Goals as goal
 
 pub make_ready-requires : goal.make_ready-requires

@@ -3,7 +3,6 @@ use mathlib.Core.Path.{◌≡◌, sym, ap, ap₂, subst, ◌∙◌}
 use mathlib.Core.List.{List, map}
 use Prim.Native.Nat.{ℕ, ◌≤◌}
 use lib.ListN.{length, length-map}
-use borrow.Author.Tests.{not-false}
 use Rattle.edit_record.specs.declared.Edit.{Edit}
 use Rattle.edit_record.specs.RecordBytes.{decode_of}
 use Rattle.edit_history.specs.EditsHeld.{record_at, edits_of, sets_on}

@@ -3,7 +3,6 @@ use mathlib.Core.Path.{ap, subst}
 use mathlib.Core.List.{List, map}
 use Prim.Native.Nat.{◌≤◌}
 use native.Mathlib.Omega.{arith}
-use borrow.Author.Rules.{rules}
 use Rattle.edit_record.specs.declared.Edit.{Edit}
 use Rattle.edit_history.specs.EditsHeld.{record_at}
 use Rattle.group_step.specs.GroupRows.{most_sets}

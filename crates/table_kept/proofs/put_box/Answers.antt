@@ -1,5 +1,4 @@
 -- `table_kept::put_box` meets its contract. Assumes nothing.
-use borrow.Author.Rules.{rules}
 use Rattle.table_kept.proofs.put_box.Goals as goal
 
 pub returns : goal.returns

@@ -4,7 +4,6 @@ use mathlib.Core.Path.{◌≡◌, refl, sym, ◌∙◌}
 use Prim.Native.Nat.{◌≤◌}
 use native.Mathlib.Omega.{arith}
 use lib.ListN.{length}
-use borrow.Author.Rules.{rules}
 use Rattle.edit_record.specs.Layout.{record_length}
 use Rattle.edit_record.specs.RecordBytes.{decode_of}
 use Rattle.edit_record.proofs.RecordSpans.{span-least}

@@ -1,12 +1,9 @@
 -- `table_output::copy_in` meets its contract: what is copied stands in front, and the rest is as it was. Assumes
 -- nothing.
-use mathlib.Core.Path.{◌≡◌, refl, ◌∙◌}
+use mathlib.Core.Path.{◌≡◌}
 use mathlib.Core.List.{◌++◌}
 use Prim.Native.Nat.{◌-◌, ◌≤◌}
-use native.Mathlib.Omega.{arith}
-use lib.ListN.{length, take, drop, length-set}
-use borrow.Author.Rules.{rules}
-use Rattle.math_lists.proofs.ReplacedPart.{copy_more}
+use lib.ListN.{length, take, drop}
 use Rattle.table_output.proofs.copy_in.Given as goal
 
 abbrev pub invariant-loop-i : goal.invariant-loop-i

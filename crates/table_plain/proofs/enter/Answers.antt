@@ -4,7 +4,6 @@ use Prim.Native.Nat.{ℕ}
 use lib.ListN.{get_or, set}
 use Rattle.edit_record.specs.Layout.{site_at}
 use Rattle.edit_walk.specs.WalkForms.{slot_of}
-use borrow.Author.Rules.{rules}
 use Rattle.table_plain.proofs.enter.Goals as goal
 
 pub returns : goal.returns

@@ -1,5 +1,4 @@
 -- `table_plain::step_in` meets its contract. Assumes nothing.
-use borrow.Author.Rules.{rules}
 use Rattle.table_plain.proofs.step_in.Goals as goal
 
 pub returns-then-m-eq0 : goal.returns-then-m-eq0

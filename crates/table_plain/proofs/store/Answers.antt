@@ -7,7 +7,6 @@ use Rattle.math_lists.proofs.Booleans.{clash}
 use Rattle.edit_record.specs.Layout.{create_kind, set_kind}
 use Rattle.edit_record.specs.RecordBytes.{decode_of}
 use Rattle.edit_record.specs.Answer1.{is_create}
-use borrow.Author.Rules.{rules}
 use Rattle.table_plain.proofs.store.Goals as goal
 
 pub store_set-requires : goal.store_set-requires

@@ -1,7 +1,6 @@
 -- `table_plain::store_set` meets its contract. Assumes nothing.
 use mathlib.Core.Path.{refl}
 use Rattle.math_lists.proofs.Booleans.{clash}
-use borrow.Author.Rules.{rules}
 use Rattle.table_plain.proofs.store_set.Goals as goal
 
 pub returns-then-w-gt-GROUPS : goal.returns-then-w-gt-GROUPS

@@ -2,7 +2,6 @@
 use mathlib.Core.Path.{◌≡◌, ap, ◌∙◌}
 use Prim.Native.Nat.{ℕ, ◌+◌}
 use native.Mathlib.Omega.{arith}
-use borrow.Author.Tests.{not-true, not-false}
 use Rattle.edit_sum.specs.WordSum.{wrapped}
 use Rattle.table_plain.proofs.JudgedGoes.{judged-there, judged-steps, judged-put, judged-crowded}
 use Rattle.table_plain.proofs.JudgedGoes.{judged-enters, judged-left}

@@ -5,12 +5,10 @@ use mathlib.Core.List.{List}
 use Prim.Native.Nat.{ℕ, ◌+◌, ◌≤◌}
 use native.Mathlib.Omega.{arith}
 use lib.ListN.{length}
-use borrow.Author.Tests.{not-true, not-false}
 use Rattle.edit_record.specs.Layout.{record_length}
 use Rattle.table_soundness.proofs.SoundFacts.{sound-at}
 use Rattle.table_arrival.specs.Arrival.{put_record}
 use Rattle.table_plain.proofs.PlainGoes.{span-is, long-is, store_asks, not-stored, enters, stored-left}
-use borrow.Author.Rules.{rules}
 use Rattle.table_plain.proofs.take_plain.Lts
 use Rattle.table_plain.proofs.take_plain.Tie
 use Rattle.table_plain.proofs.take_plain.Reads

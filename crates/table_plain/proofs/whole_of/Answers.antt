@@ -1,10 +1,10 @@
 -- `table_plain::whole_of` meets its contract: the first i bytes are copied. Assumes nothing.
-use mathlib.Core.List.{◌++◌, append-nil}
+use mathlib.Core.List.{append-nil}
 use mathlib.Core.Path.{◌≡◌}
-use Prim.Native.Nat.{◌≤◌, ◌-◌}
+use Prim.Native.Nat.{◌-◌}
 use native.Mathlib.Omega.{arith}
 use lib.Seq.{take_all}
-use lib.ListN.{length, take, drop, replicate, length-set}
+use lib.ListN.{replicate, length-set}
 use Rattle.math_lists.proofs.ReplacedPart.{copy_more}
 use Rattle.edit_record.specs.Layout.{record_length}
 use borrow.Author.Rules.{rules}

@@ -1,13 +1,9 @@
 -- `table_plain::whole_of` meets its contract: the first i bytes are copied. Assumes nothing.
-use mathlib.Core.List.{◌++◌, append-nil}
+use mathlib.Core.List.{◌++◌}
 use mathlib.Core.Path.{◌≡◌}
 use Prim.Native.Nat.{◌≤◌, ◌-◌}
-use native.Mathlib.Omega.{arith}
-use lib.Seq.{take_all}
-use lib.ListN.{length, take, drop, replicate, length-set}
-use Rattle.math_lists.proofs.ReplacedPart.{copy_more}
+use lib.ListN.{length, take, drop, replicate}
 use Rattle.edit_record.specs.Layout.{record_length}
-use borrow.Author.Rules.{rules}
 use Rattle.table_plain.proofs.whole_of.Given as goal
 
 abbrev pub invariant-loop-i : goal.invariant-loop-i

@@ -2,18 +2,16 @@
 -- counted nowhere. Assumes nothing.
 use mathlib.Core.Path.{◌≡◌, refl, sym, ap, ◌∙◌}
 use mathlib.Core.List.{List}
-use mathlib.Core.Logic.{⊎_elim}
 use Prim.Native.Nat.{ℕ, ◌+◌, ◌-◌, ◌≤◌}
 use native.Mathlib.Numerals.{add-one}
 use native.Mathlib.Omega.{arith}
 use lib.ListN.{length, get_or, set, length-set}
 use lib.Seq.{set_out}
 use borrow.Author.Rules.{rules}
-use Rattle.edit_record.specs.Layout.{most_sites, site_at}
+use Rattle.edit_record.specs.Layout.{site_at}
 use Rattle.edit_record.specs.RecordBytes.{decode_of}
 use Rattle.edit_form.specs.OldForm.{start_of, stored_in}
 use Rattle.edit_form.proofs.Stretches.{lent_is, next_start, start-inside, next-inside, lent-there}
-use Rattle.edit_history.specs.SurveyForms.{Counted}
 use Rattle.edit_history.proofs.ByCounts.{counted_none, counted-few, counted-more}
 use Rattle.table_given.specs.Replay.{edits_in}
 use Rattle.table_replay.proofs.RoomForAll.{edits-in-length}
@@ -89,7 +87,7 @@ loop-i-preserved c =
     let more = get_or l.counts site 0 + 1 in
     let e : c.if-site-lt-SITES.counts ≡ set l.counts site more
     = elim c.if-site-lt-SITES.branch [
-        then-site-lt-SITES w ↦ w.counts-is
+      | then-site-lt-SITES w ↦ w.counts-is
       | else-site-lt-SITES w ↦ w.counts-is ∙ sym (set_out l.counts site more (omega arith))
     ] in (
       omega arith,

@@ -1,6 +1,5 @@
 -- `table_replay::take_records` meets its contract. Assumes nothing.
 use mathlib.Core.Path.{◌≡◌, refl, sym, ap, subst, ◌∙◌}
-use mathlib.Core.Logic.{⊎_elim}
 use mathlib.Core.List.{List}
 use Prim.Native.Nat.{◌+◌, ◌<◌}
 use native.Mathlib.Numerals.{add-one}
@@ -36,10 +35,9 @@ use Rattle.edit_record.specs.RecordBytes.{span_of}
 use Rattle.edit_form.specs.OldForm.{length_from, long_from, start_of, stored_in}
 use Rattle.edit_form.proofs.OldRecords.{long-from-whole}
 use Rattle.edit_form.proofs.Stretches.{lent_is, start-inside, lent-there}
-use Rattle.edit_history.specs.EditsHeld.{edits_of, count_from}
+use Rattle.edit_history.specs.EditsHeld.{edits_of}
 use Rattle.table_drawing.specs.Tables.{Tables, tables_of, held_by}
 use Rattle.table_drawing.specs.AnswerNumbers.{outcome_of, number_of}
-use Rattle.edit_walk.specs.WalkForms.{Spaced}
 use Rattle.table_index.specs.IndexForms.{IndexOf, counters_of}
 use Rattle.table_plain.specs.TakingForms.{Takes, Leaves, TakesShort}
 use Rattle.table_given.proofs.OwnRecords.{holds, held-edits}
@@ -285,7 +283,7 @@ long-outcome m = (long-left m).outcome
 wide-long : (c : (Lts.Joined1 Tie.the-claims Reads.Pre Reads.Post goal.the-invariant-loop-i goal.the-decreases-loop-i)) → length c.if-form-eq-OLD.wide ≡ record_length
 wide-long c =
     elim c.if-form-eq-OLD.branch [
-        then-form-eq-OLD v ↦ rw v.wide-is (search rules)
+      | then-form-eq-OLD v ↦ rw v.wide-is (search rules)
       | else-form-eq-OLD v ↦ rw v.wide-is c.loop-i.invariant.6
     ]
 
@@ -297,8 +295,8 @@ widened c old =
     let r = c in
     let form = form_of c.before.before.before.before in
     elim c.if-form-eq-OLD.branch [
-        then-form-eq-OLD v ↦ v.wide-is ∙ v.widened_from-wide.ensures
-        ∙ sym (long-old form (rest_of c.before.before.before) (eq-eqb form old_form old))
+      | then-form-eq-OLD v ↦ v.wide-is ∙ v.widened_from-wide.ensures
+          ∙ sym (long-old form (rest_of c.before.before.before) (eq-eqb form old_form old))
       | else-form-eq-OLD v ↦ absurd (v.if-form-eq-OLD.false old)
     ]
 

@@ -3,16 +3,14 @@
 use mathlib.Core.Path.{◌≡◌, refl, sym, ap, subst, ◌∙◌}
 use mathlib.Core.Bool.{Bool, ◌||◌}
 use mathlib.Core.List.{List}
-use Prim.Native.Nat.{ℕ, ◌+◌, ◌-◌, ◌≤◌, ◌<◌}
+use Prim.Native.Nat.{ℕ, ◌+◌, ◌-◌, ◌<◌}
 use native.Mathlib.Omega.{arith}
-use lib.ListN.{length}
 use lib.Dec.{eqb}
 use Rattle.edit_record.specs.Layout.{set_kind, limited_kind}
 use Rattle.edit_record.specs.Answer1.{is_set}
 use Rattle.edit_history.specs.EditsHeld.{record_at}
 use Rattle.table_sets.proofs.OneSetLinked.{put, LinkedFrom, linked-none, linked-all, not-linked}
 use Rattle.table_sets.proofs.OneSetLinked.{aim-before, linked}
-use borrow.Author.Rules.{rules}
 use Rattle.table_sets.proofs.chain_sets.Goals as goal
 
 -- what the byte of the kind tells

@@ -1,10 +1,9 @@
 -- `table_sets::gather_sets` meets its contract: after i places the chain is followed so far. Assumes nothing.
-use mathlib.Core.Path.{◌≡◌, refl}
-use Prim.Native.Nat.{◌-◌, ◌≤◌}
+use mathlib.Core.Path.{refl}
+use Prim.Native.Nat.{◌-◌}
 use native.Mathlib.Omega.{arith}
-use lib.ListN.{length, length-set}
-use Rattle.table_sets.proofs.Followed.{FollowedTo, followed-more, followed-all}
-use borrow.Author.Rules.{rules}
+use lib.ListN.{length-set}
+use Rattle.table_sets.proofs.Followed.{followed-more, followed-all}
 use Rattle.table_sets.proofs.gather_sets.Goals as goal
 
 pub loop-i-init : goal.loop-i-init

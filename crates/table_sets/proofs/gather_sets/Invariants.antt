@@ -1,10 +1,8 @@
 -- `table_sets::gather_sets` meets its contract: after i places the chain is followed so far. Assumes nothing.
-use mathlib.Core.Path.{◌≡◌, refl}
+use mathlib.Core.Path.{◌≡◌}
 use Prim.Native.Nat.{◌-◌, ◌≤◌}
-use native.Mathlib.Omega.{arith}
-use lib.ListN.{length, length-set}
-use Rattle.table_sets.proofs.Followed.{FollowedTo, followed-more, followed-all}
-use borrow.Author.Rules.{rules}
+use lib.ListN.{length}
+use Rattle.table_sets.proofs.Followed.{FollowedTo}
 use Rattle.table_sets.proofs.gather_sets.Given as goal
 
 abbrev pub invariant-loop-i : goal.invariant-loop-i

@@ -1,11 +1,8 @@
 -- `table_soundness::counts_agree` meets its contract: `agree` is the test of the first s counts. Assumes nothing.
 use mathlib.Core.Path.{◌≡◌}
 use Prim.Native.Nat.{◌-◌, ◌≤◌}
-use native.Mathlib.Numerals.{add-one}
-use native.Mathlib.Omega.{arith}
 use lib.Dec.{eqb}
 use lib.ListN.{get_or}
-use borrow.Author.Rules.{rules}
 use Rattle.math_lists.specs.NumbersBelow.{all}
 use Rattle.edit_record.specs.Layout.{most_sites}
 use Rattle.table_soundness.proofs.counts_agree.Given as goal

@@ -1,5 +1,4 @@
 -- `table_soundness::is_room_enough` meets its contract. Assumes nothing.
-use borrow.Author.Rules.{rules}
 use Rattle.edit_causal.specs.TotalOrder.{vector_sum}
 use Rattle.table_soundness.proofs.is_room_enough.Goals as goal
 

@@ -1,5 +1,4 @@
 -- `table_soundness::is_sound` meets its contract. Assumes nothing.
-use borrow.Author.Rules.{rules}
 use Rattle.table_soundness.proofs.is_sound.Goals as goal
 
 pub returns : goal.returns

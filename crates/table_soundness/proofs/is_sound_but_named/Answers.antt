@@ -1,12 +1,11 @@
 -- `table_soundness::is_sound_but_named` meets its contract. Assumes nothing.
 use mathlib.Core.Bool.{true}
 use mathlib.Core.Path.{◌≡◌, refl, sym, ◌∙◌}
-use borrow.Author.Tests.{not-true, not-false, leb-true}
+use borrow.Author.Tests.{leb-true}
 use Rattle.math_lists.proofs.Booleans.{clash}
 use Rattle.table_soundness.proofs.SoundTests.{wrong-lengths, past-limits, crowded}
 use Rattle.table_soundness.specs.Sound.{within_limits}
 use Rattle.table_drawing.specs.Tables.{Tables, tables_of, lengths_right}
-use borrow.Author.Rules.{rules}
 use Rattle.table_soundness.proofs.is_sound_but_named.Lts
 use Rattle.table_soundness.proofs.is_sound_but_named.Tie
 use Rattle.table_soundness.proofs.is_sound_but_named.Reads

@@ -1,11 +1,9 @@
 -- `table_soundness::is_sound_with` meets its contract: 16 is the last of the tests. Assumes nothing.
 use mathlib.Core.Path.{refl, sym, ◌∙◌}
-use borrow.Author.Tests.{not-true, not-false}
 use Rattle.math_lists.proofs.Booleans.{clash}
 use Rattle.table_drawing.specs.Tables.{Tables, tables_of}
 use Rattle.table_soundness.proofs.SoundFacts.{but-at, but-off, named-decides, entered}
 use Rattle.table_soundness.proofs.ObjectsByNumber.{entered-sets-few}
-use borrow.Author.Rules.{rules}
 use Rattle.table_soundness.proofs.is_sound_with.Lts
 use Rattle.table_soundness.proofs.is_sound_with.Tie
 use Rattle.table_soundness.proofs.is_sound_with.Reads

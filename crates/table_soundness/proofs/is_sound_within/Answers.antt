@@ -2,7 +2,6 @@
 use mathlib.Core.Path.{refl, sym}
 use native.Mathlib.Omega.{arith}
 use borrow.Author.Tests.{not-true, not-false}
-use borrow.Author.Rules.{rules}
 use Rattle.math_lists.proofs.Booleans.{clash}
 use Rattle.table_drawing.specs.Tables.{Tables, tables_of}
 use Rattle.table_soundness.proofs.SoundTests.{few, few-sites, record-room, not_right}

@@ -1,7 +1,6 @@
 -- `table_soundness::rest_sound` meets its contract. Assumes nothing.
 use Rattle.table_drawing.specs.Tables.{tables_of}
 use Rattle.table_soundness.proofs.SoundTests.{few, group-room, rest-is}
-use borrow.Author.Rules.{rules}
 use Rattle.table_soundness.proofs.rest_sound.Goals as goal
 
 pub objects_sound-each-requires : goal.objects_sound-each-requires

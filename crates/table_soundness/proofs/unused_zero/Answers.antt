@@ -1,5 +1,4 @@
 -- `table_soundness::unused_zero` meets its contract. Assumes nothing.
-use borrow.Author.Rules.{rules}
 use Rattle.table_soundness.proofs.unused_zero.Goals as goal
 
 pub returns : goal.returns

@@ -1,5 +1,4 @@
 -- `table_soundness::within_limits` meets its contract. Assumes nothing.
-use borrow.Author.Rules.{rules}
 use Rattle.table_soundness.proofs.within_limits.Goals as goal
 
 pub returns : goal.returns

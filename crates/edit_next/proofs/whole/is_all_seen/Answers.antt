@@ -7,7 +7,6 @@ use borrow.Author.Tests.{eq-eqb}
 use Rattle.math_lists.proofs.Booleans.{clash, and-on}
 use Rattle.edit_record.specs.RecordBytes.{decode_of}
 use Rattle.edit_walk.specs.WalkForms.{same_but, sees_all}
-use borrow.Author.Rules.{rules}
 use Rattle.edit_next.proofs.whole.is_all_seen.Goals as goal
 
 pub returns-then-not-is_last_seen : goal.returns-then-not-is_last_seen

@@ -1,5 +1,4 @@
 -- `edit_next::whole::is_passing_with` meets its contract: where all is seen, 1 and 5 decide. Assumes nothing.
-use borrow.Author.Rules.{rules}
 use Rattle.edit_record.specs.RecordBytes.{decode_of}
 use Rattle.edit_next.proofs.AllSeen.{all-tells}
 use Rattle.edit_next.proofs.whole.is_passing_with.Goals as goal

@@ -2,13 +2,9 @@
 -- come. Assumes nothing.
 use mathlib.Core.Path.{◌≡◌, refl, sym, subst, ◌∙◌}
 use mathlib.Core.List.{List}
-use Prim.Native.Nat.{ℕ, ◌+◌, ◌-◌, ◌≤◌, ◌<◌}
+use Prim.Native.Nat.{ℕ, ◌+◌, ◌-◌, ◌<◌}
 use native.Mathlib.Omega.{arith}
-use lib.ListN.{length}
-use Rattle.edit_walk.specs.WalkForms.{Indexed}
-use Rattle.group_named.specs.ChainForms.{TargetsHeld}
 use Rattle.group_named.proofs.SetsChained.{ByteLinkedFrom, linked-none, linked-all, linked-with}
-use borrow.Author.Rules.{rules}
 use Rattle.group_named.proofs.chain.chain_sets.Goals as goal
 
 -- from the place before i

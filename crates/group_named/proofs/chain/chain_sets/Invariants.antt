@@ -1,14 +1,11 @@
 -- `group_named::chain::chain_sets` meets its contract: the chain goes through the Sets that stand behind those still to
 -- come. Assumes nothing.
-use mathlib.Core.Path.{◌≡◌, refl, sym, subst, ◌∙◌}
-use mathlib.Core.List.{List}
-use Prim.Native.Nat.{ℕ, ◌+◌, ◌-◌, ◌≤◌, ◌<◌}
-use native.Mathlib.Omega.{arith}
+use mathlib.Core.Path.{◌≡◌}
+use Prim.Native.Nat.{◌-◌, ◌≤◌}
 use lib.ListN.{length}
 use Rattle.edit_walk.specs.WalkForms.{Indexed}
 use Rattle.group_named.specs.ChainForms.{TargetsHeld}
-use Rattle.group_named.proofs.SetsChained.{ByteLinkedFrom, linked-none, linked-all, linked-with}
-use borrow.Author.Rules.{rules}
+use Rattle.group_named.proofs.SetsChained.{ByteLinkedFrom}
 use Rattle.group_named.proofs.chain.chain_sets.Given as goal
 
 abbrev pub invariant-loop-i : goal.invariant-loop-i

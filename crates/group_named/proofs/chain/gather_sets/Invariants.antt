@@ -1,15 +1,10 @@
 -- `group_named::chain::gather_sets` meets its contract: after k places, those that the chain went through are put down.
 -- Assumes nothing.
-use mathlib.Core.Path.{◌≡◌, refl, sym, subst}
-use mathlib.Core.Logic.{⊎_elim}
-use Prim.Native.Nat.{ℕ, ◌-◌, ◌≤◌, ◌<◌}
-use native.Mathlib.Omega.{arith}
-use lib.ListN.{length, length-set}
+use mathlib.Core.Path.{◌≡◌}
+use Prim.Native.Nat.{◌-◌, ◌≤◌, ◌<◌}
+use lib.ListN.{length}
 use Rattle.group_step.specs.GroupRows.{most_sets}
-use Rattle.group_named.specs.ChainForms.{Follows}
-use Rattle.group_named.proofs.SetsGathered.{ByteFollowedTo, goes_on, stops}
-use Rattle.group_named.proofs.SetsGathered.{followed-more, followed-end, followed-full}
-use borrow.Author.Rules.{rules}
+use Rattle.group_named.proofs.SetsGathered.{ByteFollowedTo}
 use Rattle.group_named.proofs.chain.gather_sets.Given as goal
 
 abbrev pub invariant-loop-at : goal.invariant-loop-at

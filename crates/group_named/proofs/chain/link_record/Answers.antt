@@ -11,7 +11,6 @@ use Rattle.edit_record.specs.Layout.{set_kind, limited_kind}
 use Rattle.edit_record.specs.Answer1.{is_set}
 use Rattle.edit_history.specs.EditsHeld.{record_at}
 use Rattle.group_named.specs.ChainForms.{put, aim_of, linked_with}
-use borrow.Author.Rules.{rules}
 use Rattle.group_named.proofs.chain.link_record.Goals as goal
 
 -- what was tested is what `linked_with` asks

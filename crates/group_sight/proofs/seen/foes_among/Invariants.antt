@@ -1,18 +1,12 @@
 -- `group_sight::seen::foes_among` meets its contract: of the Sets gone through, the foes are kept. Assumes nothing.
-use mathlib.Core.Path.{◌≡◌, sym, ◌∙◌}
-use mathlib.Core.Bool.{Bool, true}
-use Prim.Native.Nat.{ℕ, ◌+◌, ◌^◌, ◌≤◌}
-use native.Mathlib.Omega.{arith}
-use lib.Bits.{or_add_and}
-use lib.Count.{count_trailing_zeros}
-use lib.ListN.{length, get_or}
+use mathlib.Core.Path.{◌≡◌}
+use mathlib.Core.Bool.{true}
+use Prim.Native.Nat.{ℕ, ◌+◌, ◌≤◌}
+use lib.ListN.{get_or}
 use Rattle.math_maximal.specs.Groups.{bit}
-use Rattle.math_maximal.proofs.OneMemberLess.{first-left, less-left, still-left}
 use Rattle.edit_history.specs.EditsHeld.{record_at}
-use Rattle.group_context.proofs.ButFirst.{own_first}
-use Rattle.group_context.proofs.MembersGone.{is_kept, kept-first, kept-last, one_kept, one-passed}
+use Rattle.group_context.proofs.MembersGone.{is_kept}
 use Rattle.group_sight.specs.SightForms.{is_foe}
-use borrow.Author.Rules.{rules}
 use Rattle.group_sight.proofs.seen.foes_among.Given as goal
 
 abbrev pub invariant-loop-left : goal.invariant-loop-left

@@ -1,6 +1,5 @@
 -- `group_sight::seen::is_foe` meets its contract. Assumes nothing.
 use Rattle.group_sight.proofs.FoesConflict.{same-aim}
-use borrow.Author.Rules.{rules}
 use Rattle.group_sight.proofs.seen.is_foe.Goals as goal
 
 pub returns : goal.returns

@@ -8,7 +8,6 @@ use lib.ListN.{length, drop, length-drop}
 use Rattle.edit_record.specs.Layout.{place_length}
 use Rattle.edit_record.specs.RecordBytes.{decode_of}
 use Rattle.group_sight.specs.SightForms.{is_foe}
-use borrow.Author.Rules.{rules}
 use Rattle.group_sight.proofs.seen.is_foe_at.Goals as goal
 
 pub returns-then-at-recs : goal.returns-then-at-recs

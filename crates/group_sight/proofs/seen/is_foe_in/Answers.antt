@@ -1,7 +1,6 @@
 -- `group_sight::seen::is_foe_in` meets its contract. Assumes nothing.
 use mathlib.Core.Path.{refl, sym}
 use Rattle.edit_record.specs.RecordBytes.{decode_of}
-use borrow.Author.Rules.{rules}
 use Rattle.group_sight.proofs.seen.is_foe_in.Goals as goal
 
 pub returns : goal.returns

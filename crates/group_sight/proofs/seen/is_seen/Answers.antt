@@ -1,6 +1,5 @@
 -- `group_sight::seen::is_seen` meets its contract. Assumes nothing.
 use Rattle.group_sight.proofs.NamesOfSets.{same_name}
-use borrow.Author.Rules.{rules}
 use Rattle.group_sight.proofs.seen.is_seen.Goals as goal
 
 pub returns : goal.returns

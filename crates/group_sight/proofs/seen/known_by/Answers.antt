@@ -1,7 +1,6 @@
 -- `group_sight::seen::known_by` meets its contract. Assumes nothing.
 use native.Mathlib.Omega.{arith}
 use Rattle.group_sight.proofs.SeenThrough.{nothing-before, all-before}
-use borrow.Author.Rules.{rules}
 use Rattle.group_sight.proofs.seen.known_by.Goals as goal
 
 pub returns-then-i-k : goal.returns-then-i-k

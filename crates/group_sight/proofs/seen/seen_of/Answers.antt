@@ -2,23 +2,16 @@
 -- Assumes nothing.
 use mathlib.Core.Path.{◌≡◌, sym, ap, ◌∙◌}
 use mathlib.Core.Bool.{true}
-use mathlib.Core.List.{List, [], ◌∷◌, ◌++◌}
-use mathlib.Core.Logic.{⊎_elim}
-use Prim.Native.Nat.{ℕ, suc, ◌-◌, ◌^◌, ◌<◌}
+use Prim.Native.Nat.{ℕ, ◌-◌, ◌^◌, ◌<◌}
 use native.Mathlib.Omega.{arith}
 use lib.Bits.{bit_or}
 use lib.ListN.{length, get_or}
 use Rattle.math_lists.proofs.Booleans.{or_left, eqb-self}
 use Rattle.math_maximal.specs.Groups.{bit}
 use Rattle.math_maximal.proofs.Bits.{bit_below, bit-or, bit-power}
-use Rattle.math_contexts.specs.Box.{Lawful}
-use Rattle.edit_record.specs.declared.Edit.{Edit}
 use Rattle.edit_record.specs.RecordBytes.{no_edit}
-use Rattle.edit_causal.specs.Conflict.{box_on}
-use Rattle.group_sight.specs.SightForms.{NameOf, NamesOf, SeesTell}
-use Rattle.group_sight.proofs.SeenThrough.{fewer-left, Known, none-known, all_known}
+use Rattle.group_sight.proofs.SeenThrough.{fewer-left, none-known, all_known}
 use Rattle.group_sight.proofs.SeenThrough.{one_seen, one-unseen}
-use borrow.Author.Rules.{rules}
 use Rattle.group_sight.proofs.seen.seen_of.Goals as goal
 use Rattle.group_sight.proofs.seen.seen_of.Goals.{then-is_seen, else-is_seen}
 
@@ -56,7 +49,7 @@ loop-left-smaller c =
     let known = c.if-is_seen.known in
     let its : bit known i ≡ true =
     elim c.if-is_seen.branch [
-        then-is_seen v ↦ ap (λ (x : ℕ). bit x i) v.known-is ∙ bit-or _ _ i ∙ or_left _ _ own
+      | then-is_seen v ↦ ap (λ (x : ℕ). bit x i) v.known-is ∙ bit-or _ _ i ∙ or_left _ _ own
       | else-is_seen v ↦ ap (λ (x : ℕ). bit x i) v.known-is ∙ own
     ] in
     rw c.without-left.ensures (fewer-left l.left known i last.ensures.1 its)
@@ -77,14 +70,14 @@ loop-left-preserved c =
           let m : i < length ms = omega (arith, low, long) in
           let told = seen.ensures (get_or ms i no_edit) e (names i m) its vector in
           elim c.if-is_seen.branch [
-              then-is_seen v ↦ let row = v.known_by.result in
-              let known : c.if-is_seen.known ≡ bit_or (2 ^ i) row
-              = v.known-is ∙ ap (λ (x : ℕ). bit_or x row) own.ensures in
-              rw (c.without-left.ensures, v.seen-is, known, own.ensures)
-              (one_seen ms e law l.left l.seen i row m (sym told ∙ v.if-is_seen.true)
-              (v.known_by.ensures ms long low tell) before)
+            | then-is_seen v ↦ let row = v.known_by.result in
+                let known : c.if-is_seen.known ≡ bit_or (2 ^ i) row
+                = v.known-is ∙ ap (λ (x : ℕ). bit_or x row) own.ensures in
+                rw (c.without-left.ensures, v.seen-is, known, own.ensures)
+                (one_seen ms e law l.left l.seen i row m (sym told ∙ v.if-is_seen.true)
+                (v.known_by.ensures ms long low tell) before)
             | else-is_seen v ↦ rw (c.without-left.ensures, v.seen-is, v.known-is, own.ensures)
-              (one-unseen ms e l.left l.seen i (sym told ∙ v.if-is_seen.false) before)
+                (one-unseen ms e l.left l.seen i (sym told ∙ v.if-is_seen.false) before)
           ],
     )
 

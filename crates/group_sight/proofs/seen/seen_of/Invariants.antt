@@ -1,24 +1,14 @@
 -- `group_sight::seen::seen_of` meets its contract: of the Sets that are not left, those are found that were seen.
 -- Assumes nothing.
-use mathlib.Core.Path.{◌≡◌, sym, ap, ◌∙◌}
-use mathlib.Core.Bool.{true}
+use mathlib.Core.Path.{◌≡◌}
 use mathlib.Core.List.{List, [], ◌∷◌, ◌++◌}
-use mathlib.Core.Logic.{⊎_elim}
-use Prim.Native.Nat.{ℕ, suc, ◌-◌, ◌^◌, ◌<◌}
-use native.Mathlib.Omega.{arith}
-use lib.Bits.{bit_or}
-use lib.ListN.{length, get_or}
-use Rattle.math_lists.proofs.Booleans.{or_left, eqb-self}
-use Rattle.math_maximal.specs.Groups.{bit}
-use Rattle.math_maximal.proofs.Bits.{bit_below, bit-or, bit-power}
+use Prim.Native.Nat.{suc, ◌-◌, ◌^◌, ◌<◌}
+use lib.ListN.{length}
 use Rattle.math_contexts.specs.Box.{Lawful}
 use Rattle.edit_record.specs.declared.Edit.{Edit}
-use Rattle.edit_record.specs.RecordBytes.{no_edit}
 use Rattle.edit_causal.specs.Conflict.{box_on}
 use Rattle.group_sight.specs.SightForms.{NameOf, NamesOf, SeesTell}
-use Rattle.group_sight.proofs.SeenThrough.{fewer-left, Known, none-known, all_known}
-use Rattle.group_sight.proofs.SeenThrough.{one_seen, one-unseen}
-use borrow.Author.Rules.{rules}
+use Rattle.group_sight.proofs.SeenThrough.{Known}
 use Rattle.group_sight.proofs.seen.seen_of.Given as goal
 
 abbrev pub invariant-loop-left : goal.invariant-loop-left

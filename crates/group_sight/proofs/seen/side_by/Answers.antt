@@ -5,7 +5,6 @@ use Prim.Native.Nat.{ℕ}
 use lib.Dec.{eqb}
 use Rattle.edit_record.specs.Layout.{set_kind, limited_kind}
 use Rattle.edit_causal.specs.ShownValue.{shown_value}
-use borrow.Author.Rules.{rules}
 use Rattle.group_sight.proofs.seen.side_by.Goals as goal
 
 pub returns : goal.returns

@@ -3,7 +3,6 @@
 use mathlib.Core.Path.{◌≡◌, refl, sym, subst}
 use Rattle.edit_record.specs.RecordBytes.{decode_of}
 use Rattle.group_sight.specs.SightForms.{NameOf, SideOf}
-use borrow.Author.Rules.{rules}
 use Rattle.group_sight.proofs.seen.side_of.Goals as goal
 
 pub returns-then-rec-ge-RECORD : goal.returns-then-rec-ge-RECORD

@@ -1,15 +1,12 @@
 -- `list_line::alone::put_lone_names` meets its contract: the names of the members passed stand behind the first n
 -- bytes. Assumes nothing.
-use mathlib.Core.Path.{◌≡◌, refl, ◌∙◌}
+use mathlib.Core.Path.{◌≡◌}
 use mathlib.Core.List.{◌∷◌, ◌++◌, flat_map}
 use Prim.Native.Nat.{◌+◌, ◌-◌, ◌*◌, ◌≤◌}
-use native.Mathlib.Omega.{arith}
 use lib.ListN.{length, take}
 use Rattle.list_text.specs.Pieces.{plus, dotted_length}
 use Rattle.list_version.specs.VersionForms.{identifier_by}
 use Rattle.list_line.specs.Line.{name_text}
-use Rattle.list_line.proofs.LineTurns.{no_member, member-more}
-use borrow.Author.Rules.{rules}
 use Rattle.list_line.proofs.alone.put_lone_names.Given as goal
 
 abbrev pub invariant-loop-i : goal.invariant-loop-i

@@ -3,7 +3,6 @@ use mathlib.Core.Path.{sym}
 use mathlib.Core.List.{append-nil}
 use native.Mathlib.Omega.{arith}
 use borrow.Author.Tests.{eq-eqb}
-use borrow.Author.Rules.{rules}
 use Rattle.list_line.proofs.alone.put_lone_setting.Goals as goal
 
 pub returns-then-s-eq0 : goal.returns-then-s-eq0

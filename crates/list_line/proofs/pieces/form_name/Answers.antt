@@ -6,7 +6,6 @@ use Rattle.list_text.specs.Pieces.{plus}
 use Rattle.list_text.proofs.PiecesBehind.{two}
 use Rattle.list_line.specs.Line.{name_text}
 use Rattle.list_version.specs.VersionForms.{name_by}
-use borrow.Author.Rules.{rules}
 use Rattle.list_line.proofs.pieces.form_name.Goals as goal
 
 pub returns : goal.returns

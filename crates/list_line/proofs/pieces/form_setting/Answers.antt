@@ -5,7 +5,6 @@ use lib.ListN.{take}
 use borrow.Author.Tests.{ne_eqb}
 use Rattle.list_text.specs.Pieces.{space, equated}
 use Rattle.list_text.proofs.PiecesBehind.{two}
-use borrow.Author.Rules.{rules}
 use Rattle.list_line.proofs.pieces.form_setting.Goals as goal
 
 pub returns : goal.returns

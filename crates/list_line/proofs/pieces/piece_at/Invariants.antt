@@ -1,12 +1,8 @@
 -- `list_line::pieces::piece_at` meets its contract: the bytes passed stand at the front. Assumes nothing.
-use mathlib.Core.Path.{◌≡◌, refl, sym, ap, ◌∙◌}
-use Prim.Native.Nat.{ℕ, ◌+◌, ◌-◌, ◌*◌, ◌≤◌}
-use native.Mathlib.Numerals.{add-one}
-use native.Mathlib.Omega.{arith}
-use lib.ListN.{length, get_or, take, drop, length-set, length-drop}
-use lib.Seq.{take_all, take-suc, take-suc-set, get_or-drop}
+use mathlib.Core.Path.{◌≡◌}
+use Prim.Native.Nat.{◌-◌, ◌*◌, ◌≤◌}
+use lib.ListN.{length, take, drop}
 use Rattle.list_line.specs.LineForms.{piece_length}
-use borrow.Author.Rules.{rules}
 use Rattle.list_line.proofs.pieces.piece_at.Given as goal
 
 abbrev pub invariant-loop-i : goal.invariant-loop-i

@@ -1,7 +1,6 @@
 -- `list_line::pieces::put_anew` meets its contract: the piece is formed and then put. Assumes nothing.
 use mathlib.Core.Path.{◌∙◌}
 use native.Mathlib.Omega.{arith}
-use borrow.Author.Rules.{rules}
 use Rattle.list_line.proofs.pieces.put_anew.Goals as goal
 
 pub put_piece-requires : goal.put_piece-requires

@@ -7,7 +7,6 @@ use borrow.Rule.Slice.PartMut.{mid_len}
 use Rattle.edit_record.specs.Layout.{keys}
 use Rattle.list_line.specs.LineForms.{piece_length}
 use Rattle.list_line.proofs.KeptPieces.{name-more}
-use borrow.Author.Rules.{rules}
 use Rattle.list_line.proofs.pieces.put_name.Goals as goal
 
 pub returns : goal.returns

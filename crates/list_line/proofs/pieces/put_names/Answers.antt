@@ -1,12 +1,8 @@
 -- `list_line::pieces::put_names` meets its contract: the names passed stand in their places. Assumes nothing.
-use mathlib.Core.Path.{◌≡◌, ◌∙◌}
-use mathlib.Core.List.{List}
-use Prim.Native.Nat.{ℕ, ◌*◌, ◌-◌, ◌≤◌, ◌<◌}
+use mathlib.Core.Path.{◌∙◌}
+use Prim.Native.Nat.{◌-◌}
 use native.Mathlib.Omega.{arith}
-use lib.ListN.{length, get_or}
-use Rattle.list_line.specs.LineForms.{piece_length, pieces, Kept, NameIn}
 use Rattle.list_line.proofs.KeptPieces.{named_more, all-names-kept}
-use borrow.Author.Rules.{rules}
 use Rattle.list_line.proofs.pieces.put_names.Goals as goal
 
 pub loop-i-init : goal.loop-i-init

@@ -1,12 +1,9 @@
 -- `list_line::pieces::put_names` meets its contract: the names passed stand in their places. Assumes nothing.
-use mathlib.Core.Path.{◌≡◌, ◌∙◌}
+use mathlib.Core.Path.{◌≡◌}
 use mathlib.Core.List.{List}
 use Prim.Native.Nat.{ℕ, ◌*◌, ◌-◌, ◌≤◌, ◌<◌}
-use native.Mathlib.Omega.{arith}
 use lib.ListN.{length, get_or}
 use Rattle.list_line.specs.LineForms.{piece_length, pieces, Kept, NameIn}
-use Rattle.list_line.proofs.KeptPieces.{named_more, all-names-kept}
-use borrow.Author.Rules.{rules}
 use Rattle.list_line.proofs.pieces.put_names.Given as goal
 
 abbrev pub invariant-loop-i : goal.invariant-loop-i

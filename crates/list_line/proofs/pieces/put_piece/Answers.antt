@@ -6,7 +6,6 @@ use lib.ListN.{get_or, drop}
 use lib.Seq.{take-take}
 use Rattle.list_line.specs.LineForms.{piece_length}
 use Rattle.list_line.proofs.KeptPieces.{piece-behind}
-use borrow.Author.Rules.{rules}
 use Rattle.list_line.proofs.pieces.put_piece.Goals as goal
 
 pub overflow_cast-result : goal.overflow_cast-result

@@ -6,7 +6,6 @@ use borrow.Rule.Slice.PartMut.{mid_len}
 use Rattle.list_line.specs.LineForms.{piece_length}
 use native.Mathlib.Omega.{arith}
 use Rattle.list_line.proofs.KeptPieces.{renewed-piece, renewed-kept, names-stay}
-use borrow.Author.Rules.{rules}
 use Rattle.list_line.proofs.pieces.renew.Goals as goal
 
 pub overflow_cast-lens : goal.overflow_cast-lens

@@ -1,7 +1,6 @@
 -- `list_print::all_lines::put_head` meets its contract: line 0 is formed in a buffer of its own. Assumes nothing.
 use native.Mathlib.Omega.{arith}
 use Rattle.list_print.proofs.BytesBehind.{fewer-behind}
-use borrow.Author.Rules.{rules}
 use Rattle.list_print.proofs.all_lines.put_head.Goals as goal
 
 pub put_behind-requires : goal.put_behind-requires

@@ -3,7 +3,6 @@
 use mathlib.Core.Path.{refl}
 use Rattle.table_drawing.specs.Tables.{tables_of}
 use Rattle.table_arrival.proofs.CodeInHand.{holds}
-use borrow.Author.Rules.{rules}
 use Rattle.list_print.proofs.all_lines.put_list.Goals as goal
 
 pub build-requires : goal.build-requires

@@ -10,7 +10,6 @@ use Rattle.table_drawing.specs.Tables.{tables_of}
 use Rattle.table_soundness.proofs.SoundFacts.{sound-at}
 use Rattle.list_print.proofs.BytesBehind.{fewer-behind}
 use Rattle.list_lines.proofs.LinesGathered.{gathered-ready, gathered-lines}
-use borrow.Author.Rules.{rules}
 use Rattle.list_print.proofs.all_lines.put_object.Goals as goal
 
 pub gather-g-requires : goal.gather-g-requires

@@ -1,11 +1,10 @@
 -- `list_print::all_lines::put_objects` meets its contract: each turn puts the lines of one object behind those before
 -- it. Assumes nothing.
-use mathlib.Core.Path.{◌≡◌, refl, ◌∙◌}
-use mathlib.Core.List.{map}
-use Prim.Native.Nat.{ℕ, ◌-◌, ◌*◌, ◌≤◌}
+use mathlib.Core.Path.{refl, ◌∙◌}
+use Prim.Native.Nat.{ℕ, ◌-◌, ◌*◌}
 use native.Mathlib.Omega.{arith}
-use lib.ListN.{length, take, replicate, length-replicate}
-use Rattle.group_step.specs.GroupRows.{most_sets, most_groups}
+use lib.ListN.{replicate, length-replicate}
+use Rattle.group_step.specs.GroupRows.{most_groups}
 use Rattle.table_drawing.specs.Tables.{tables_of}
 use Rattle.table_soundness.proofs.SoundFacts.{sound-at}
 use Rattle.list_line.specs.Line.{line_length}
@@ -14,10 +13,9 @@ use Rattle.list_lines.proofs.LinesGathered.{sorted-low}
 use Rattle.list_objects.proofs.KeysByTops.{in_order_lem}
 use Rattle.list_objects.proofs.TopsByIndex.{tops-aimed, creates-held}
 use Rattle.list_print.specs.Printing.{joined}
-use Rattle.list_print.specs.PrintForms.{Behind}
 use Rattle.list_print.proofs.BytesBehind.{fewer-behind, no-piece, piece-behind}
 use Rattle.list_print.proofs.LinesJoined.{sorted-lines}
-use Rattle.list_line.specs.LineForms.{pieces, piece_length, Kept}
+use Rattle.list_line.specs.LineForms.{pieces, piece_length}
 use Rattle.list_line.proofs.KeptPieces.{none_kept}
 use borrow.Author.Rules.{rules}
 use Rattle.list_print.proofs.all_lines.put_objects.Goals as goal
@@ -89,8 +87,7 @@ loop-i-preserved c =
     let p = c.put_object-w in
     let l = c.loop-i in
     let more = c.loop-i-test.true in
-    let few = (sound-at t start.requires.0).few-objects in
-    (
+    let few = (sound-at t start.requires.0).few-objects in (
       omega (arith, more),
       p.auto.out ∙ l.invariant.1,
       p.auto.line ∙ l.invariant.2,

@@ -1,25 +1,16 @@
 -- `list_print::all_lines::put_objects` meets its contract: each turn puts the lines of one object behind those before
 -- it. Assumes nothing.
-use mathlib.Core.Path.{◌≡◌, refl, ◌∙◌}
+use mathlib.Core.Path.{◌≡◌}
 use mathlib.Core.List.{map}
-use Prim.Native.Nat.{ℕ, ◌-◌, ◌*◌, ◌≤◌}
-use native.Mathlib.Omega.{arith}
-use lib.ListN.{length, take, replicate, length-replicate}
+use Prim.Native.Nat.{◌-◌, ◌*◌, ◌≤◌}
+use lib.ListN.{length, take}
 use Rattle.group_step.specs.GroupRows.{most_sets, most_groups}
 use Rattle.table_drawing.specs.Tables.{tables_of}
-use Rattle.table_soundness.proofs.SoundFacts.{sound-at}
 use Rattle.list_line.specs.Line.{line_length}
 use Rattle.list_lines.specs.List.{lines_for}
-use Rattle.list_lines.proofs.LinesGathered.{sorted-low}
-use Rattle.list_objects.proofs.KeysByTops.{in_order_lem}
-use Rattle.list_objects.proofs.TopsByIndex.{tops-aimed, creates-held}
 use Rattle.list_print.specs.Printing.{joined}
 use Rattle.list_print.specs.PrintForms.{Behind}
-use Rattle.list_print.proofs.BytesBehind.{fewer-behind, no-piece, piece-behind}
-use Rattle.list_print.proofs.LinesJoined.{sorted-lines}
-use Rattle.list_line.specs.LineForms.{pieces, piece_length, Kept}
-use Rattle.list_line.proofs.KeptPieces.{none_kept}
-use borrow.Author.Rules.{rules}
+use Rattle.list_line.specs.LineForms.{Kept}
 use Rattle.list_print.proofs.all_lines.put_objects.Given as goal
 
 abbrev pub invariant-loop-i : goal.invariant-loop-i

@@ -1,6 +1,5 @@
 -- `list_print::object_lines::put_alone` meets its contract: the line is formed in a buffer of its own. Assumes nothing.
 use Rattle.list_print.proofs.BytesBehind.{fewer-behind}
-use borrow.Author.Rules.{rules}
 use Rattle.list_print.proofs.object_lines.put_alone.Goals as goal
 
 pub returns : goal.returns

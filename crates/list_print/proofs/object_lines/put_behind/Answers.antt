@@ -4,7 +4,7 @@ use mathlib.Core.Path.{sym, ◌∙◌}
 use Prim.Native.Nat.{◌+◌, ◌≤◌}
 use native.Mathlib.Omega.{arith}
 use lib.ListN.{length}
-use borrow.Author.Tests.{leb-true, not-true, not-false}
+use borrow.Author.Tests.{leb-true}
 use Rattle.list_print.proofs.BytesBehind.{copied_behind, left_out_lem}
 use borrow.Author.Rules.{rules}
 use Rattle.list_print.proofs.object_lines.put_behind.Goals as goal

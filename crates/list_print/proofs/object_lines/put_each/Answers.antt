@@ -1,15 +1,10 @@
 -- `list_print::object_lines::put_each` meets its contract: each turn puts one line behind those before it. Assumes
 -- nothing.
 use mathlib.Core.Path.{◌≡◌, refl, sym, ◌∙◌}
-use mathlib.Core.List.{map}
-use Prim.Native.Nat.{◌-◌, ◌*◌, ◌≤◌}
+use Prim.Native.Nat.{◌-◌}
 use native.Mathlib.Omega.{arith}
-use lib.ListN.{length, take}
 use Rattle.list_line.specs.Line.{line_length}
-use Rattle.list_line.specs.LineForms.{Kept, NamesKept}
 use Rattle.list_lines.specs.LinesForms.{line_in}
-use Rattle.list_print.specs.Printing.{joined}
-use Rattle.list_print.specs.PrintForms.{Behind}
 use Rattle.list_print.proofs.BytesBehind.{no-piece, piece-behind}
 use Rattle.list_print.proofs.object_lines.put_each.Goals as goal
 

@@ -2,7 +2,6 @@
 -- nothing.
 use native.Mathlib.Omega.{arith}
 use Rattle.list_print.proofs.BytesBehind.{fewer-behind}
-use borrow.Author.Rules.{rules}
 use Rattle.list_print.proofs.object_lines.put_version.Goals as goal
 
 pub bounds-versions-v : goal.bounds-versions-v

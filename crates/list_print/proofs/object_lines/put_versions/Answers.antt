@@ -10,7 +10,6 @@ use Rattle.list_lines.specs.LinesForms.{line_in}
 use Rattle.list_print.specs.Printing.{joined}
 use Rattle.list_print.specs.PrintForms.{Behind}
 use Rattle.list_print.proofs.BytesBehind.{no-piece, piece-behind}
-use borrow.Author.Rules.{rules}
 use Rattle.list_print.proofs.object_lines.put_versions.Goals as goal
 
 pub returns-then-g-eq1 : goal.returns-then-g-eq1

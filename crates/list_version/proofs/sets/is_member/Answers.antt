@@ -1,6 +1,5 @@
 -- `list_version::sets::is_member` meets its contract: the bit, shifted to the front. Assumes nothing.
 use mathlib.Core.Path.{refl}
-use borrow.Author.Rules.{rules}
 use Rattle.math_maximal.specs.Groups.{bit}
 use Rattle.list_version.proofs.sets.is_member.Goals as goal
 

@@ -1,16 +1,10 @@
 -- `list_version::values::last_of` meets its contract: with the largest stamp of those left, the one found is the
 -- largest. Assumes nothing.
-use mathlib.Core.Path.{◌≡◌, sym, ◌∙◌}
-use mathlib.Core.Bool.{true}
-use Prim.Native.Nat.{ℕ, ◌/◌, ◌<◌, max}
+use mathlib.Core.Path.{sym, ◌∙◌}
 use native.Mathlib.Omega.{arith}
-use lib.ListN.{get_or}
-use Rattle.math_maximal.specs.Groups.{bit}
 use Rattle.math_maximal.proofs.OneMemberLess.{less-left}
-use Rattle.list_version.specs.VersionForms.{placings}
-use Rattle.list_version.proofs.LargestWhere.{largest_where, most-is, having-alone, having-part}
+use Rattle.list_version.proofs.LargestWhere.{most-is, having-alone, having-part}
 use Rattle.list_version.proofs.LargestWhere.{none_left, part-on, goes_on, ends}
-use borrow.Author.Rules.{rules}
 use Rattle.list_version.proofs.values.last_of.Goals as goal
 
 pub loop-left-init : goal.loop-left-init

@@ -1,7 +1,6 @@
 -- `list_version::values::note` meets its contract. Assumes nothing.
 use native.Mathlib.Omega.{arith}
 use Rattle.list_version.proofs.StampsByKey.{keyed-below, keyed-above}
-use borrow.Author.Rules.{rules}
 use Rattle.list_version.proofs.values.note.Goals as goal
 
 pub returns-then-s-tops : goal.returns-then-s-tops

@@ -3,7 +3,6 @@
 use native.Mathlib.Omega.{arith}
 use Rattle.edit_history.specs.EditsHeld.{record_at}
 use Rattle.table_sets.proofs.FieldsCopied.{fields-in-part}
-use borrow.Author.Rules.{rules}
 use Rattle.list_version.proofs.values.stamp_at.Goals as goal
 
 pub returns-then-end-recs : goal.returns-then-end-recs

@@ -7,7 +7,6 @@ use borrow.Author.Tests.{lt-ltb, le-ltb}
 use Rattle.edit_record.specs.Layout.{most_sites, keys, two_bytes}
 use Rattle.edit_causal.specs.TotalOrder.{vector_sum}
 use Rattle.list_version.proofs.ValuesByStamps.{stamp-is}
-use borrow.Author.Rules.{rules}
 use Rattle.list_version.proofs.values.stamp_of.Goals as goal
 
 pub returns-then-key-ge-KEYS : goal.returns-then-key-ge-KEYS

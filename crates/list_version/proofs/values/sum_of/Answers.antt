@@ -1,13 +1,13 @@
 -- `list_version::values::sum_of` meets its contract: the total is the sum of the first 2 * i entries, each below
 -- 65,536. Assumes nothing.
 use mathlib.Core.Path.{◌≡◌}
-use Prim.Native.Nat.{ℕ, ◌*◌, ◌-◌, ◌≤◌, ◌<◌}
+use Prim.Native.Nat.{ℕ, ◌*◌, ◌-◌, ◌<◌}
 use native.Mathlib.Omega.{arith}
 use lib.ListN.{get_or}
 use Rattle.math_lists.specs.NumbersBelow.{sum}
 use Rattle.edit_record.specs.Layout.{most_sites}
 use Rattle.edit_causal.specs.TotalOrder.{vector_sum}
-use Rattle.list_version.proofs.SumByPairs.{entry_in, two-entries}
+use Rattle.list_version.proofs.SumByPairs.{two-entries}
 use borrow.Author.Rules.{rules}
 use Rattle.list_version.proofs.values.sum_of.Goals as goal
 

@@ -1,14 +1,10 @@
 -- `list_version::values::sum_of` meets its contract: the total is the sum of the first 2 * i entries, each below
 -- 65,536. Assumes nothing.
 use mathlib.Core.Path.{◌≡◌}
-use Prim.Native.Nat.{ℕ, ◌*◌, ◌-◌, ◌≤◌, ◌<◌}
-use native.Mathlib.Omega.{arith}
-use lib.ListN.{get_or}
+use Prim.Native.Nat.{◌*◌, ◌-◌, ◌≤◌}
 use Rattle.math_lists.specs.NumbersBelow.{sum}
 use Rattle.edit_record.specs.Layout.{most_sites}
-use Rattle.edit_causal.specs.TotalOrder.{vector_sum}
-use Rattle.list_version.proofs.SumByPairs.{entry_in, two-entries}
-use borrow.Author.Rules.{rules}
+use Rattle.list_version.proofs.SumByPairs.{entry_in}
 use Rattle.list_version.proofs.values.sum_of.Given as goal
 
 abbrev pub invariant-loop-i : goal.invariant-loop-i

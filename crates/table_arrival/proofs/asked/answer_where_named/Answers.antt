@@ -1,7 +1,6 @@
 -- `table_arrival::asked::answer_where_named` meets its contract. Assumes nothing.
 use mathlib.Core.Path.{◌≡◌, sym, ◌∙◌}
 use Rattle.edit_history.specs.Answer16.{records_named}
-use borrow.Author.Rules.{rules}
 use Rattle.table_arrival.proofs.asked.answer_where_named.Lts
 use Rattle.table_arrival.proofs.asked.answer_where_named.Tie
 use Rattle.table_arrival.proofs.asked.answer_where_named.Reads

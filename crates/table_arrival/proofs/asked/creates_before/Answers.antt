@@ -1,16 +1,14 @@
 -- `table_arrival::asked::creates_before` meets its contract. Assumes nothing.
-use mathlib.Core.Path.{◌≡◌, refl, sym, ap, ◌∙◌}
-use mathlib.Core.Logic.{⊎_elim}
+use mathlib.Core.Path.{◌≡◌, sym, ap, ◌∙◌}
 use mathlib.Core.Bool.{Bool, true, false, cond}
 use mathlib.Core.List.{List}
 use Prim.Native.Nat.{ℕ, suc, ◌+◌, ◌-◌, ◌≤◌}
 use native.Mathlib.Numerals.{add-one}
 use native.Mathlib.Omega.{arith}
-use borrow.Author.Rules.{rules}
 use borrow.Author.Tests.{eq-eqb, ne_eqb}
 use Rattle.edit_record.specs.Layout.{create_kind}
 use Rattle.edit_record.specs.Answer1.{is_create}
-use Rattle.edit_history.specs.EditsHeld.{record_at, edits_of, creates}
+use Rattle.edit_history.specs.EditsHeld.{record_at, creates}
 use Rattle.edit_history.proofs.EditsHeld.{chosen_more}
 use Rattle.table_index.specs.IndexForms.{number_at}
 use Rattle.table_index.proofs.OneRecordMore.{none-numbered}
@@ -35,12 +33,12 @@ loop-i-preserved c =
     let k = c.kind_at in
     let e : c.if-kind_at-eq-CREATE.count ≡ l.count + cond (is_create (record_at rs l.i)) 1 0
     = elim c.if-kind_at-eq-CREATE.branch [
-        then-kind_at-eq-CREATE w ↦ w.count-is
-        ∙ ap (λ (b : Bool). l.count + cond b 1 0)
-        (sym (eq-eqb (record_at rs l.i).kind create_kind (sym k.ensures ∙ w.if-kind_at-eq-CREATE.true)))
+      | then-kind_at-eq-CREATE w ↦ w.count-is
+          ∙ ap (λ (b : Bool). l.count + cond b 1 0)
+          (sym (eq-eqb (record_at rs l.i).kind create_kind (sym k.ensures ∙ w.if-kind_at-eq-CREATE.true)))
       | else-kind_at-eq-CREATE w ↦ w.count-is ∙ omega arith
-        ∙ ap (λ (b : Bool). l.count + cond b 1 0)
-        (sym (ne_eqb (record_at rs l.i).kind create_kind (λ y. w.if-kind_at-eq-CREATE.false (k.ensures ∙ y))))
+          ∙ ap (λ (b : Bool). l.count + cond b 1 0)
+          (sym (ne_eqb (record_at rs l.i).kind create_kind (λ y. w.if-kind_at-eq-CREATE.false (k.ensures ∙ y))))
     ] in (
       omega arith,
       at_most (is_create (record_at rs l.i)) e l.invariant.1,

@@ -1,19 +1,16 @@
 -- `table_arrival::asked::mates_on` meets its contract: after i records it is told of the Sets among them. Assumes
 -- nothing.
 use mathlib.Core.Path.{◌≡◌, sym, ap, ◌∙◌}
-use mathlib.Core.Logic.{⊎_elim}
 use mathlib.Core.Bool.{true}
 use mathlib.Core.List.{List}
-use Prim.Native.Nat.{ℕ, ◌*◌, ◌-◌, ◌≤◌, ◌<◌}
+use Prim.Native.Nat.{ℕ, ◌*◌, ◌-◌, ◌<◌}
 use native.Mathlib.Omega.{arith}
 use lib.ListN.{length, take, drop, length-drop}
 use lib.Seq.{take_all}
-use borrow.Author.Rules.{rules}
 use Rattle.edit_record.specs.Layout.{place_length}
 use Rattle.edit_record.specs.RecordBytes.{decode_of}
-use Rattle.edit_history.specs.EditsHeld.{record_at, edits_of, is_set_on, sets_on}
+use Rattle.edit_history.specs.EditsHeld.{record_at, is_set_on}
 use Rattle.group_step.specs.GroupRows.{most_sets}
-use Rattle.table_arrival.specs.ArrivalForms.{MatesOf}
 use Rattle.table_arrival.proofs.MatesFound.{mates-none, mates-below, mates-few, mate-found, no-mate-found}
 use Rattle.table_arrival.proofs.asked.mates_on.Lts
 use Rattle.table_arrival.proofs.asked.mates_on.Tie
@@ -69,16 +66,16 @@ loop-i-preserved c =
     let e = decode_of a.rec.now in
     let rs = a.recs.now in
     elim c.if-is_set_in.branch [
-        then-is_set_in v ↦
-        rw (v.sets-is, v.plain-is, v.limited-is, v.marked_if-plain.ensures, v.is_conflict_in-b.ensures, here c.before.before) (
-          omega arith,
-          mate-found e rs a.s a.q l.i _ l.invariant.1 (told c.before.before ∙ v.if-is_set_in.true),
-        )
+      | then-is_set_in v ↦
+          rw (v.sets-is, v.plain-is, v.limited-is, v.marked_if-plain.ensures, v.is_conflict_in-b.ensures, here c.before.before) (
+            omega arith,
+            mate-found e rs a.s a.q l.i _ l.invariant.1 (told c.before.before ∙ v.if-is_set_in.true),
+          )
       | else-is_set_in v ↦
-        rw (v.sets-is, v.plain-is, v.limited-is) (
-          omega arith,
-          no-mate-found e rs a.s a.q l.i _ l.invariant.1 (told c.before.before ∙ v.if-is_set_in.false),
-        )
+          rw (v.sets-is, v.plain-is, v.limited-is) (
+            omega arith,
+            no-mate-found e rs a.s a.q l.i _ l.invariant.1 (told c.before.before ∙ v.if-is_set_in.false),
+          )
     ]
 
 pub returns : goal.returns

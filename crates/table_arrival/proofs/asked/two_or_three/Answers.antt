@@ -1,9 +1,5 @@
 -- `table_arrival::asked::two_or_three` meets its contract. Assumes nothing.
-use mathlib.Core.Path.{◌≡◌, sym, ap, ◌∙◌}
-use mathlib.Core.Bool.{Bool, true, false}
-use mathlib.Core.List.{List}
-use Prim.Native.Nat.{ℕ}
-use borrow.Author.Rules.{rules}
+use mathlib.Core.Path.{◌≡◌, sym, ◌∙◌}
 use Rattle.edit_record.specs.RecordBytes.{decode_of}
 use Rattle.edit_history.specs.SurveyForms.{repeated_against, early_against}
 use Rattle.table_arrival.specs.Answers6and7.{first_of}

@@ -3,7 +3,6 @@ use mathlib.Core.Path.{◌≡◌, refl, sym, ap, ◌∙◌}
 use mathlib.Core.Bool.{Bool, true, false, not, ◌&&◌, ◌||◌}
 use Prim.Native.Nat.{ℕ}
 use lib.Dec.{eqb}
-use borrow.Author.Rules.{rules}
 use Rattle.edit_record.specs.Layout.{limited_kind}
 use Rattle.edit_record.specs.RecordBytes.{decode_of}
 use Rattle.edit_record.specs.Answer1.{is_limited}

@@ -3,7 +3,6 @@
 use mathlib.Core.Path.{◌≡◌, ap, ◌∙◌}
 use mathlib.Core.Bool.{true}
 use Prim.Native.Nat.{◌≤◌}
-use borrow.Author.Tests.{not-true, not-false}
 use Rattle.math_lists.proofs.Booleans.{clash}
 use Rattle.edit_record.specs.RecordBytes.{decode_of}
 use Rattle.edit_history.specs.EditsHeld.{edits_of, sets_on}

@@ -2,7 +2,6 @@
 use mathlib.Core.Path.{sym}
 use native.Mathlib.Omega.{arith}
 use lib.ListN.{get_or-eq_default}
-use borrow.Author.Rules.{rules}
 use Rattle.table_drawing.proofs.entries.at16.Goals as goal
 
 pub returns-else-i-s : goal.returns-else-i-s

@@ -1,13 +1,9 @@
 -- `table_drawing::entries::clear_groups` meets its contract: the first g entries are zero, and the rest are as they
 -- were. Assumes nothing.
-use mathlib.Core.Path.{◌≡◌, refl}
-use mathlib.Core.List.{◌++◌, append-nil}
+use mathlib.Core.Path.{◌≡◌}
+use mathlib.Core.List.{◌++◌}
 use Prim.Native.Nat.{◌-◌, ◌≤◌}
-use native.Mathlib.Omega.{arith}
-use lib.Seq.{drop-length}
-use lib.ListN.{length, drop, replicate, length-set}
-use borrow.Author.Fill.{fill_more}
-use borrow.Author.Rules.{rules}
+use lib.ListN.{length, drop, replicate}
 use Rattle.table_drawing.proofs.entries.clear_groups.Given as goal
 
 abbrev pub invariant-loop-g : goal.invariant-loop-g

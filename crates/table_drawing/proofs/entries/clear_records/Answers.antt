@@ -1,13 +1,12 @@
 -- `table_drawing::entries::clear_records` meets its contract: the first i entries are zero, and the rest are as they
 -- were. Assumes nothing.
 use mathlib.Core.Path.{◌≡◌, refl}
-use mathlib.Core.List.{◌++◌, append-nil}
-use Prim.Native.Nat.{◌-◌, ◌≤◌}
+use mathlib.Core.List.{append-nil}
+use Prim.Native.Nat.{◌-◌}
 use native.Mathlib.Omega.{arith}
 use lib.Seq.{drop-length}
-use lib.ListN.{length, drop, replicate, length-set}
+use lib.ListN.{length, replicate, length-set}
 use borrow.Author.Fill.{fill_more}
-use borrow.Author.Rules.{rules}
 use Rattle.table_drawing.proofs.entries.clear_records.Goals as goal
 
 pub loop-i-init : goal.loop-i-init

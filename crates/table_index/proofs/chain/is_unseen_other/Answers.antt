@@ -1,5 +1,4 @@
 -- `table_index::chain::is_unseen_other` meets its contract. Assumes nothing.
-use borrow.Author.Rules.{rules}
 use Rattle.table_index.proofs.chain.is_unseen_other.Goals as goal
 
 pub returns : goal.returns

@@ -1,7 +1,6 @@
 -- `table_index::chain::link_set` meets its contract. Assumes nothing.
 use native.Mathlib.Omega.{arith}
 use lib.ListN.{length-set}
-use borrow.Author.Rules.{rules}
 use Rattle.table_index.proofs.chain.link_set.Goals as goal
 
 pub bounds-chains-at-2 : goal.bounds-chains-at-2

@@ -1,7 +1,5 @@
 -- `table_index::chain::marks_for` meets its contract. Assumes nothing.
 use mathlib.Core.Path.{sym, ◌∙◌}
-use borrow.Author.Tests.{not-true, not-false}
-use borrow.Author.Rules.{rules}
 use Rattle.edit_record.specs.RecordBytes.{decode_of}
 use Rattle.table_index.proofs.ChainsOfSets.{marks-unset}
 use Rattle.table_index.proofs.chain.marks_for.Goals as goal

@@ -1,7 +1,6 @@
 -- `table_index::plain::marks_unless` meets its contract: who has seen all is in conflict with none. Assumes nothing.
 use mathlib.Core.Path.{sym, ap, ◌∙◌}
 use Prim.Native.Nat.{ℕ}
-use borrow.Author.Rules.{rules}
 use Rattle.edit_record.specs.RecordBytes.{decode_of}
 use Rattle.table_index.specs.IndexForms.{marks_on}
 use Rattle.table_index.proofs.SeesAll.{none-in-conflict}

@@ -1,17 +1,12 @@
 -- `table_kept::chained::put_chains` meets its contract: the Sets of the first y keys are put down. Assumes nothing.
-use mathlib.Core.Path.{◌≡◌, refl, ◌∙◌}
+use mathlib.Core.Path.{◌≡◌}
 use mathlib.Core.Bool.{true}
-use mathlib.Core.Logic.{inl, inr}
 use Prim.Native.Nat.{ℕ, ◌-◌, ◌≤◌, ◌<◌}
-use native.Mathlib.Omega.{arith}
 use lib.ListN.{length, get_or}
-use borrow.Author.Rules.{rules}
-use Rattle.math_lists.proofs.LastBelow.{last}
 use Rattle.edit_record.specs.Layout.{keys}
 use Rattle.edit_history.specs.EditsHeld.{record_at}
 use Rattle.table_index.specs.IndexForms.{is_on}
 use Rattle.table_kept.specs.ChainForms.{number_on}
-use Rattle.table_kept.proofs.AlongChains.{all-in-order}
 use Rattle.table_kept.proofs.chained.put_chains.Given as goal
 
 abbrev pub invariant-loop-y : goal.invariant-loop-y

@@ -5,7 +5,6 @@ use native.Mathlib.Omega.{arith}
 use borrow.Author.Tests.{not-true, not-false}
 use Rattle.math_lists.proofs.Booleans.{clash}
 use Rattle.table_next.proofs.LimitedTaken.{surveyed-so, indexed-so, judged-so}
-use borrow.Author.Rules.{rules}
 use Rattle.table_next.proofs.short.take_limited.Lts
 use Rattle.table_next.proofs.short.take_limited.Tie
 use Rattle.table_next.proofs.short.take_limited.Reads

@@ -6,7 +6,6 @@ use borrow.Author.Tests.{eq-eqb, ne_eqb}
 use Rattle.math_lists.proofs.Booleans.{and-true}
 use Rattle.edit_causal.specs.Causal.{has_seen}
 use Rattle.edit_causal.specs.ShownValue.{shown_value}
-use borrow.Author.Rules.{rules}
 use Rattle.table_sets.proofs.by_key.is_unlike.Goals as goal
 
 pub returns-then-x-y : goal.returns-then-x-y

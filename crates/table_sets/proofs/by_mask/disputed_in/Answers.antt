@@ -1,12 +1,10 @@
 -- `table_sets::by_mask::disputed_in` meets its contract: of the Sets passed, those in dispute among them are marked.
 -- Assumes nothing.
 use mathlib.Core.Path.{◌≡◌, refl, subst, ◌∙◌}
-use mathlib.Core.Logic.{⊎_elim}
-use Prim.Native.Nat.{ℕ, ◌-◌, ◌≤◌, ◌<◌}
+use Prim.Native.Nat.{ℕ, ◌-◌, ◌<◌}
 use native.Mathlib.Omega.{arith}
 use lib.ListN.{length, get_or-replicate}
 use Rattle.edit_record.specs.Layout.{keys}
-use Rattle.table_sets.specs.MaskForms.{MaskedTo}
 use Rattle.table_sets.proofs.MarksByKey.{shifted_one}
 use Rattle.table_sets.proofs.MarksByMask.{masked-none}
 use Rattle.table_sets.proofs.DisputesByMarks.{MarkedTo, marked-none, marked-low, marked-same, marked_more}
@@ -54,8 +52,8 @@ loop-i-preserved c =
       s.auto.tolds ∙ l.invariant.2,
       s.ensures.1,
       elim c.if-m-ne0.branch [
-          then-m-ne0 v ↦ rw (v.all-is, shifted_one l.i (omega (arith, p.1)))
-          (marked_more rs ps l.i s.result l.all fits l.invariant.4 s.ensures.0 v.if-m-ne0.true)
+        | then-m-ne0 v ↦ rw (v.all-is, shifted_one l.i (omega (arith, p.1)))
+            (marked_more rs ps l.i s.result l.all fits l.invariant.4 s.ensures.0 v.if-m-ne0.true)
         | else-m-ne0 v ↦ rw v.all-is (marked-same rs ps l.i s.result l.all fits l.invariant.4 s.ensures.0 v.if-m-ne0.false)
       ],
     )

@@ -1,16 +1,11 @@
 -- `table_sets::by_mask::disputed_in` meets its contract: of the Sets passed, those in dispute among them are marked.
 -- Assumes nothing.
-use mathlib.Core.Path.{◌≡◌, refl, subst, ◌∙◌}
-use mathlib.Core.Logic.{⊎_elim}
-use Prim.Native.Nat.{ℕ, ◌-◌, ◌≤◌, ◌<◌}
-use native.Mathlib.Omega.{arith}
-use lib.ListN.{length, get_or-replicate}
+use mathlib.Core.Path.{◌≡◌}
+use Prim.Native.Nat.{◌-◌, ◌≤◌}
+use lib.ListN.{length}
 use Rattle.edit_record.specs.Layout.{keys}
 use Rattle.table_sets.specs.MaskForms.{MaskedTo}
-use Rattle.table_sets.proofs.MarksByKey.{shifted_one}
-use Rattle.table_sets.proofs.MarksByMask.{masked-none}
-use Rattle.table_sets.proofs.DisputesByMarks.{MarkedTo, marked-none, marked-low, marked-same, marked_more}
-use borrow.Author.Rules.{rules}
+use Rattle.table_sets.proofs.DisputesByMarks.{MarkedTo}
 use Rattle.table_sets.proofs.by_mask.disputed_in.Given as goal
 
 abbrev pub invariant-loop-i : goal.invariant-loop-i

@@ -9,7 +9,6 @@ use Rattle.table_sets.specs.KeyForms.{set_at, chain_of}
 use Rattle.table_sets.specs.MaskForms.{SetsOf, MaskedTo}
 use Rattle.table_sets.proofs.MarksByKey.{all-marked}
 use Rattle.table_sets.proofs.MarksByMask.{masked-more}
-use borrow.Author.Rules.{rules}
 use Rattle.table_sets.proofs.by_mask.mark_bytes.Goals as goal
 
 pub marks_among-m-requires : goal.marks_among-m-requires

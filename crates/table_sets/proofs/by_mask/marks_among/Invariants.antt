@@ -1,18 +1,11 @@
 -- `table_sets::by_mask::marks_among` meets its contract: of the Sets gone through, those are kept that are unlike it.
 -- Assumes nothing.
-use mathlib.Core.Path.{◌≡◌, sym, ◌∙◌}
-use mathlib.Core.Bool.{Bool, true}
-use Prim.Native.Nat.{ℕ, ◌+◌, ◌^◌, ◌≤◌}
-use native.Mathlib.Omega.{arith}
-use lib.Bits.{or_add_and}
-use lib.Count.{count_trailing_zeros}
+use mathlib.Core.Path.{◌≡◌}
+use mathlib.Core.Bool.{true}
+use Prim.Native.Nat.{ℕ, ◌+◌, ◌≤◌}
 use Rattle.math_maximal.specs.Groups.{bit}
-use Rattle.math_maximal.proofs.OneMemberLess.{first-left, less-left, still-left}
-use Rattle.group_context.proofs.ButFirst.{own_first}
-use Rattle.group_context.proofs.MembersGone.{is_kept, kept-first, kept-last, one_kept, one-passed}
+use Rattle.group_context.proofs.MembersGone.{is_kept}
 use Rattle.table_sets.specs.KeyForms.{set_at, unlike}
-use Rattle.table_sets.proofs.MarksByMask.{among-all}
-use borrow.Author.Rules.{rules}
 use Rattle.table_sets.proofs.by_mask.marks_among.Given as goal
 
 abbrev pub invariant-loop-left : goal.invariant-loop-left

@@ -1,6 +1,5 @@
 -- `table_sets::copied::copy_at` meets its contract. Assumes nothing.
 use Rattle.table_sets.proofs.FieldsCopied.{fields_copied}
-use borrow.Author.Rules.{rules}
 use Rattle.table_sets.proofs.copied.copy_at.Goals as goal
 
 pub returns-then-at-recs : goal.returns-then-at-recs

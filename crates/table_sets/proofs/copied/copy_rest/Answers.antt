@@ -1,11 +1,9 @@
 -- `table_sets::copied::copy_rest` meets its contract: the bytes passed are copied. Assumes nothing.
-use mathlib.Core.Path.{◌≡◌, refl, ◌∙◌}
-use Prim.Native.Nat.{ℕ, ◌+◌, ◌-◌, ◌≤◌, ◌<◌}
+use mathlib.Core.Path.{refl, ◌∙◌}
+use Prim.Native.Nat.{◌-◌}
 use native.Mathlib.Omega.{arith}
-use lib.ListN.{length, get_or, length-set}
-use Rattle.edit_record.specs.Layout.{record_length}
+use lib.ListN.{length-set}
 use Rattle.table_sets.proofs.FieldsCopied.{copied_more}
-use borrow.Author.Rules.{rules}
 use Rattle.table_sets.proofs.copied.copy_rest.Goals as goal
 
 pub loop-i-init : goal.loop-i-init

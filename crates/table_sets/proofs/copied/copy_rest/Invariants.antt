@@ -1,11 +1,8 @@
 -- `table_sets::copied::copy_rest` meets its contract: the bytes passed are copied. Assumes nothing.
-use mathlib.Core.Path.{◌≡◌, refl, ◌∙◌}
+use mathlib.Core.Path.{◌≡◌}
 use Prim.Native.Nat.{ℕ, ◌+◌, ◌-◌, ◌≤◌, ◌<◌}
-use native.Mathlib.Omega.{arith}
-use lib.ListN.{length, get_or, length-set}
+use lib.ListN.{length, get_or}
 use Rattle.edit_record.specs.Layout.{record_length}
-use Rattle.table_sets.proofs.FieldsCopied.{copied_more}
-use borrow.Author.Rules.{rules}
 use Rattle.table_sets.proofs.copied.copy_rest.Given as goal
 
 abbrev pub invariant-loop-i : goal.invariant-loop-i

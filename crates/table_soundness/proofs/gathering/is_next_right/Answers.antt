@@ -1,7 +1,5 @@
 -- `table_soundness::gathering::is_next_right` meets its contract. Assumes nothing.
 use mathlib.Core.Path.{refl, sym, ◌∙◌}
-use borrow.Author.Tests.{not-true, not-false}
-use borrow.Author.Rules.{rules}
 use Rattle.math_lists.proofs.Booleans.{clash}
 use Rattle.math_lists.proofs.NumbersBelow.{all-at}
 use Rattle.table_soundness.specs.Sound.{rest_zero}

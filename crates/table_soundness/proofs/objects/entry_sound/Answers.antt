@@ -9,7 +9,6 @@ use Rattle.edit_history.specs.EditsHeld.{record_at, edits_of, creates, sets_on}
 use Rattle.group_step.specs.GroupRows.{most_sets}
 use Rattle.table_soundness.specs.Sound.{entry_sound}
 use Rattle.table_soundness.proofs.SoundTests.{where-first}
-use borrow.Author.Rules.{rules}
 use Rattle.table_soundness.proofs.objects.entry_sound.Goals as goal
 
 pub returns : goal.returns

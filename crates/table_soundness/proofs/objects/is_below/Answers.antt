@@ -1,6 +1,5 @@
 -- `table_soundness::objects::is_below` meets its contract: a group has no bit past its room. Assumes nothing.
 use native.Mathlib.Omega.{arith}
-use borrow.Author.Rules.{rules}
 use Rattle.table_soundness.proofs.GroupBelowPower.{no-bit-past, all-bits}
 use Rattle.table_soundness.proofs.objects.is_below.Goals as goal
 

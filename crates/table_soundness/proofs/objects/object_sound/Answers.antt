@@ -1,5 +1,4 @@
 -- `table_soundness::objects::object_sound` meets its contract. Assumes nothing.
-use borrow.Author.Rules.{rules}
 use Rattle.table_soundness.specs.Sound.{object_sound}
 use Rattle.table_soundness.proofs.objects.object_sound.Goals as goal
 

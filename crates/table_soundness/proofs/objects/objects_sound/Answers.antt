@@ -1,12 +1,11 @@
 -- `table_soundness::objects::objects_sound` meets its contract: `sound` is the test of the first o objects. Assumes
 -- nothing.
 use mathlib.Core.Path.{◌≡◌}
-use Prim.Native.Nat.{◌-◌, ◌≤◌}
+use Prim.Native.Nat.{◌-◌}
 use native.Mathlib.Numerals.{add-one}
 use native.Mathlib.Omega.{arith}
 use borrow.Author.Rules.{rules}
 use Rattle.math_lists.specs.NumbersBelow.{all}
-use Rattle.table_soundness.specs.Sound.{object_sound}
 use Rattle.table_soundness.proofs.objects.objects_sound.Goals as goal
 
 pub loop-o-init : goal.loop-o-init

@@ -2,9 +2,6 @@
 -- nothing.
 use mathlib.Core.Path.{◌≡◌}
 use Prim.Native.Nat.{◌-◌, ◌≤◌}
-use native.Mathlib.Numerals.{add-one}
-use native.Mathlib.Omega.{arith}
-use borrow.Author.Rules.{rules}
 use Rattle.math_lists.specs.NumbersBelow.{all}
 use Rattle.table_soundness.specs.Sound.{object_sound}
 use Rattle.table_soundness.proofs.objects.objects_sound.Given as goal

@@ -1,18 +1,10 @@
 -- `table_soundness::objects::row_sound` meets its contract: `sound` is the test of the first i places, of which those
 -- from g on are unused. Assumes nothing.
-use mathlib.Core.Path.{◌≡◌, refl, sym, ap}
-use mathlib.Core.Bool.{Bool, true, false, ◌&&◌, ◌||◌}
-use Prim.Native.Nat.{◌+◌, ◌-◌, ◌*◌, ◌^◌, ◌≤◌}
-use native.Mathlib.Numerals.{add-one}
-use native.Mathlib.Omega.{arith}
-use lib.Dec.{eqb, leb, ltb}
-use lib.ListN.{get_or}
-use borrow.Author.Rules.{rules}
-use borrow.Author.Tests.{not-true, not-false}
+use mathlib.Core.Path.{◌≡◌}
+use Prim.Native.Nat.{◌-◌, ◌≤◌}
 use Rattle.math_lists.specs.NumbersBelow.{all}
 use Rattle.group_step.specs.GroupRows.{most_groups}
-use Rattle.table_soundness.specs.Sound.{slot_sound, row_sound}
-use Rattle.table_soundness.proofs.SoundTests.{unused-place, few-groups}
+use Rattle.table_soundness.specs.Sound.{slot_sound}
 use Rattle.table_soundness.proofs.objects.row_sound.Given as goal
 
 abbrev pub invariant-loop-i : goal.invariant-loop-i

@@ -7,7 +7,6 @@ use lib.Dec.{eqb, leb, ltb}
 use lib.ListN.{get_or}
 use Rattle.group_step.specs.GroupRows.{most_groups}
 use Rattle.table_soundness.proofs.SoundTests.{used-place}
-use borrow.Author.Rules.{rules}
 use Rattle.table_soundness.proofs.objects.slot_sound.Goals as goal
 
 pub returns : goal.returns

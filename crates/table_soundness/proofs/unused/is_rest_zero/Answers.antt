@@ -8,7 +8,6 @@ use Rattle.edit_record.specs.Layout.{kind_at, place_length}
 use Rattle.edit_record.specs.RecordBytes.{span_of}
 use Rattle.edit_record.proofs.AgreeingBytes.{limits-off, span-plain}
 use Rattle.table_soundness.specs.Sound.{zero_from, rest_zero}
-use borrow.Author.Rules.{rules}
 use Rattle.table_soundness.proofs.unused.is_rest_zero.Goals as goal
 
 pub returns-then-place-eq-LIMITED : goal.returns-then-place-eq-LIMITED

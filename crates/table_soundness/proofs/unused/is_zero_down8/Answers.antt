@@ -1,13 +1,11 @@
 -- `table_soundness::unused::is_zero_down8` meets its contract: the entries from i on are zero if no bit was met.
 -- Assumes nothing.
 use mathlib.Core.Path.{◌≡◌, ◌∙◌, ap}
-use Prim.Native.Nat.{ℕ, ◌+◌, ◌-◌, ◌≤◌}
+use Prim.Native.Nat.{ℕ, ◌+◌, ◌-◌}
 use native.Mathlib.Omega.{arith}
 use lib.Dec.{eqb}
-use lib.ListN.{length}
 use Rattle.table_soundness.specs.Sound.{zero_from}
 use Rattle.table_soundness.proofs.ZeroFrom.{zero-past, zero-down, no-bit}
-use borrow.Author.Rules.{rules}
 use Rattle.table_soundness.proofs.unused.is_zero_down8.Goals as goal
 
 pub loop-i-init : goal.loop-i-init

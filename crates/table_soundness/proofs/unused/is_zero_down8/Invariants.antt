@@ -1,13 +1,10 @@
 -- `table_soundness::unused::is_zero_down8` meets its contract: the entries from i on are zero if no bit was met.
 -- Assumes nothing.
-use mathlib.Core.Path.{◌≡◌, ◌∙◌, ap}
-use Prim.Native.Nat.{ℕ, ◌+◌, ◌-◌, ◌≤◌}
-use native.Mathlib.Omega.{arith}
+use mathlib.Core.Path.{◌≡◌}
+use Prim.Native.Nat.{◌-◌, ◌≤◌}
 use lib.Dec.{eqb}
 use lib.ListN.{length}
 use Rattle.table_soundness.specs.Sound.{zero_from}
-use Rattle.table_soundness.proofs.ZeroFrom.{zero-past, zero-down, no-bit}
-use borrow.Author.Rules.{rules}
 use Rattle.table_soundness.proofs.unused.is_zero_down8.Given as goal
 
 abbrev pub invariant-loop-i : goal.invariant-loop-i

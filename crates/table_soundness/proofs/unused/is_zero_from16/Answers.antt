@@ -1,12 +1,9 @@
 -- `table_soundness::unused::is_zero_from16` meets its contract: `zero` is the test of the entries below i. Assumes
 -- nothing.
-use mathlib.Core.Path.{◌≡◌, ◌∙◌}
-use Prim.Native.Nat.{◌-◌, ◌≤◌}
+use mathlib.Core.Path.{◌∙◌}
+use Prim.Native.Nat.{◌-◌}
 use native.Mathlib.Omega.{arith}
-use lib.ListN.{length}
-use borrow.Author.Rules.{rules}
-use Rattle.math_lists.specs.NumbersBelow.{all}
-use Rattle.table_soundness.proofs.ZeroFrom.{zero_at, zero-start, zero_more, zero-end}
+use Rattle.table_soundness.proofs.ZeroFrom.{zero-start, zero_more, zero-end}
 use Rattle.table_soundness.proofs.unused.is_zero_from16.Goals as goal
 
 pub loop-i-init : goal.loop-i-init

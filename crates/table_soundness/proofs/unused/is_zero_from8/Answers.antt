@@ -1,13 +1,11 @@
 -- `table_soundness::unused::is_zero_from8` meets its contract: the first i entries of each of four parts are zero if no
 -- bit was met, and then all up to j. Assumes nothing.
 use mathlib.Core.Path.{◌≡◌, refl, ◌∙◌, ap}
-use Prim.Native.Nat.{ℕ, ◌+◌, ◌-◌, ◌*◌, ◌/◌, ◌≤◌}
+use Prim.Native.Nat.{ℕ, ◌-◌, ◌*◌, ◌/◌}
 use native.Mathlib.Omega.{arith}
-use lib.Dec.{eqb}
 use lib.ListN.{length}
-use borrow.Author.Rules.{rules}
 use Rattle.math_lists.specs.NumbersBelow.{all}
-use Rattle.table_soundness.proofs.ZeroFrom.{zero_at, zero_four, zero-past, four-end, zero-end, bits-more}
+use Rattle.table_soundness.proofs.ZeroFrom.{zero_four, zero-past, four-end, zero-end, bits-more}
 use Rattle.table_soundness.proofs.ZeroFrom.{four-bits-more}
 use Rattle.table_soundness.proofs.unused.is_zero_from8.Goals as goal
 
