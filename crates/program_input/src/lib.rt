@@ -11,19 +11,19 @@ use std::rt::Files;
 use std::str;
 
 // An argument that names a file has at most so many bytes, as a path has.
-const PATH: usize = 4096;
+pub const PATH: usize = 4096;
 
-// The argument i, where 0 is the program's name, or None past the last one. One that is too long for a path, or no UTF-8
-// text, names no file that can be opened, and is an error.
-pub fn argument<R: Env + AllocGlobal>(rt: &R, i: usize) -> io::Result<Option<String>> {
-    let mut bytes = [0u8; PATH];
-    match rt.arg(i, &mut bytes) {
-        Ok(n) => match str::from_utf8(&bytes[..n]) {
-            Ok(text) => Ok(Some(String::from_str(rt.alloc(), text)?)),
-            Err(_) => Err(io::Error::from(ErrorKind::InvalidData)),
-        },
-        Err(FillError::NotPresent) => Ok(None),
-        Err(FillError::TooLong) => Err(io::Error::from(ErrorKind::InvalidFilename)),
+// The argument i, where 0 is the program's name, or None past the last one; its bytes are put into `bytes`. One that is
+// too long for them, or no UTF-8 text, names no file that can be opened, and is an error.
+pub fn argument<'a, R: Env>(rt: &R, i: usize, bytes: &'a mut [u8]) -> io::Result<Option<&'a str>> {
+    let n = match rt.arg(i, bytes) {
+        Ok(n) => n,
+        Err(FillError::NotPresent) => return Ok(None),
+        Err(FillError::TooLong) => return Err(io::Error::from(ErrorKind::InvalidFilename)),
+    };
+    match str::from_utf8(&bytes[..n]) {
+        Ok(text) => Ok(Some(text)),
+        Err(_) => Err(io::Error::from(ErrorKind::InvalidData)),
     }
 }
 

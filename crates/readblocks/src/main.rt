@@ -77,9 +77,10 @@ fn open<R: Runtime + AllocGlobal>(rt: &R, path: &str) -> io::Result<()> {
 
 // Opens the file that the argument i names, and says whether there is one.
 fn open_argument<R: Runtime + AllocGlobal>(rt: &R, i: usize) -> io::Result<bool> {
-    match program_input::argument(rt, i) {
+    let mut bytes = [0u8; program_input::PATH];
+    match program_input::argument(rt, i, &mut bytes) {
         Ok(None) => return Ok(false),
-        Ok(Some(path)) => open(rt, path.as_str())?,
+        Ok(Some(path)) => open(rt, path)?,
         Err(error) => eprintln!(rt; "argument {i}: {error}")?,
     }
     Ok(true)
