@@ -39,10 +39,8 @@ fn put_lone_names(out: &mut [u8], n: usize, disputes: &[u64], d: usize, g: u64) 
         × (result ≤ n + d * (1 + dotted_length)) }
 {
     let mut w = n;
-    let mut i: usize = 0;
-    while i < d {
+    for i in 0..d {
         w = put_lone_name(out, w, disputes[i], g);
-        i += 1;
     }
     w
 }
@@ -99,11 +97,9 @@ fn put_lone_settings(
         × (result ≤ n + settings_length) }
 {
     let mut w = n;
-    let mut k: usize = 0;
-    while k < ALL_KEYS {
+    for k in 0..ALL_KEYS {
         let s = last_of(stamps, t, keyed, peaks, g, k);
         w = put_lone_setting(out, w, k, s);
-        k += 1;
     }
     w
 }

@@ -76,10 +76,8 @@ fn put_members(
         × (result ≤ n + d * (1 + dotted_length)) }
 {
     let mut w = n;
-    let mut i: usize = 0;
-    while i < d {
+    for i in 0..d {
         w = put_member(out, w, texts, lens, i, disputes[i], g);
-        i += 1;
     }
     w
 }
@@ -168,11 +166,9 @@ fn put_settings(
         × SameNames texts.old lens.old texts.new lens.new }
 {
     let mut w = n;
-    let mut k: usize = 0;
-    while k < ALL_KEYS {
+    for k in 0..ALL_KEYS {
         let s = last_of(stamps, t, keyed, peaks, g, k);
         w = put_setting(out, w, texts, lens, told, k, s);
-        k += 1;
     }
     w
 }

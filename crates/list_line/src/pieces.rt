@@ -96,10 +96,8 @@ pub fn put_names(texts: &mut [u8], lens: &mut [u8], disputes: &[u64], d: usize)
         Kept texts.new lens.new told
         × NamesKept texts.new lens.new (take d disputes.now) }
 {
-    let mut i: usize = 0;
-    while i < d {
+    for i in 0..d {
         put_name(texts, lens, i, disputes[i]);
-        i += 1;
     }
 }
 
@@ -110,10 +108,8 @@ fn piece_at(texts: &[u8], j: usize) -> [u8; PIECE]
 {
     let at = j * PIECE;
     let mut piece = [0u8; PIECE];
-    let mut i: usize = 0;
-    while i < PIECE {
+    for i in 0..PIECE {
         piece[i] = texts[at + i];
-        i += 1;
     }
     piece
 }

@@ -46,10 +46,8 @@ fn version_total(objects: &[u16], m: usize) -> u32
     ensures { result ≡ sum m (groups_at objects.now) }
 {
     let mut total: u32 = 0;
-    let mut o: usize = 0;
-    while o < m {
+    for o in 0..m {
         total = total + at16(objects, o * ENTRY + 2) as u32;
-        o += 1;
     }
     total
 }
@@ -86,8 +84,7 @@ fn find(
         places,
     );
     let mut left = k;
-    let mut i: usize = 0;
-    while i < c.objects as usize {
+    for i in 0..c.objects as usize {
         let o = at16(&order, i) as usize;
         let count = at16(objects, o * ENTRY + 2) as usize;
         if left < count {
@@ -98,7 +95,6 @@ fn find(
             };
         }
         left = left - count;
-        i += 1;
     }
     LinePlace {
         ok: false,

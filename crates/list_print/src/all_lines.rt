@@ -112,8 +112,7 @@ fn put_objects(
     let mut stamps = [1u64; SETS];
     let mut versions = [1u64; GROUPS];
     let mut w = n;
-    let mut i: usize = 0;
-    while i < m {
+    for i in 0..m {
         let o = order[i] as usize;
         w = put_object(
             out,
@@ -132,7 +131,6 @@ fn put_objects(
             chain,
             o,
         );
-        i += 1;
     }
     w
 }

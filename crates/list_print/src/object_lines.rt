@@ -99,12 +99,10 @@ fn put_each(
 {
     put_names(texts, lens, disputes, g.disputes);
     let mut w = n;
-    let mut v: usize = 0;
-    while v < g.count {
+    for v in 0..g.count {
         w = put_version(
             out, line, texts, lens, told, w, g, disputes, stamps, keyed, versions, v,
         );
-        v += 1;
     }
     w
 }

@@ -38,11 +38,9 @@ fn sum_of(rec: &[u8]) -> u32
         × (result ≤ most_sites * (two_bytes - 1)) }
 {
     let mut total: u32 = 0;
-    let mut i: usize = 0;
-    while i < SITES / 2 {
+    for i in 0..SITES / 2 {
         let both = edit_record::four_at(rec, AT_VECTOR + 4 * i);
         total = total + both % 65536 + both / 65536;
-        i += 1;
     }
     total
 }
@@ -105,12 +103,10 @@ pub fn put_stamps(out: &mut [u64], keyed: &mut [u64], recs: &[u8], places: &[u16
 {
     let mut tops = [0u64; ALL_KEYS];
     let mut peaks: u64 = 0;
-    let mut i: usize = 0;
-    while i < t {
+    for i in 0..t {
         let s = stamp_at(recs, places[i]);
         out[i] = s;
         peaks = note(keyed, &mut tops, peaks, i, s);
-        i += 1;
     }
     peaks
 }

@@ -11,7 +11,7 @@ use Rattle.list_line.proofs.put_members.Goals as goal
 pub loop-i-init : goal.loop-i-init
 loop-i-init c =
     let a = c.args in
-    (omega arith, omega arith, refl, no_member a.disputes.now a.g (take a.n a.out.now))
+    (omega arith, refl, no_member a.disputes.now a.g (take a.n a.out.now))
 
 pub put_member-w-requires : goal.put_member-w-requires
 put_member-w-requires c =
@@ -20,7 +20,7 @@ put_member-w-requires c =
     let s = looped in
     let p = s.requires in (
       omega (arith, p.1),
-      omega (arith, p.2, l.invariant.1, l.invariant.2),
+      omega (arith, p.2, l.invariant.0, l.invariant.1),
       p.3,
       p.4,
       kept-name-at s.args.disputes.now s.args.d l.i p.0 (omega arith) p.5,
@@ -33,11 +33,10 @@ loop-i-preserved c =
     let s = looped in
     let a = s.args in
     let put = c.put_member-w in (
-      omega arith,
-      omega (arith, put.ensures.1, l.invariant.1),
-      put.auto.out ∙ l.invariant.2,
+      omega (arith, put.ensures.1, l.invariant.0),
+      put.auto.out ∙ l.invariant.1,
       member-more a.disputes.now a.g l.i (take a.n a.out.now) (take l.w l.out) _
-          (omega (arith, s.requires.0)) l.invariant.3 put.ensures.0,
+          (omega (arith, s.requires.0)) l.invariant.2 put.ensures.0,
     )
 
 pub returns : goal.returns
@@ -45,4 +44,4 @@ returns c =
     let l = c.loop-i in
     let a = c.args in
     let done : l.i ≡ a.d = omega arith in
-    (rw (← done) l.invariant.3, omega (arith, l.invariant.1))
+    (rw (← done) l.invariant.2, omega (arith, l.invariant.0))

@@ -11,12 +11,8 @@ use Rattle.list_line.proofs.put_settings.Given as goal
 
 abbrev pub invariant-loop-k : goal.invariant-loop-k
 invariant-loop-k l =
-    (l.k ≤ keys)
-    × (l.w ≤ l.n + l.k * (1 + equated_length))
+    (l.w ≤ l.n + l.k * (1 + equated_length))
     × (length l.out ≡ length l.initial.out)
     × Kept l.texts l.lens l.told
     × (take l.w l.out ≡ take l.n l.initial.out ++ settings_by (take l.t l.stamps) l.g l.k)
     × SameNames l.initial.texts l.initial.lens l.texts l.lens
-
-abbrev pub decreases-loop-k : goal.decreases-loop-k
-decreases-loop-k l = keys - l.k

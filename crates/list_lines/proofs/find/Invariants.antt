@@ -10,9 +10,4 @@ use Rattle.list_lines.proofs.find.Given as goal
 
 abbrev pub invariant-loop-i : goal.invariant-loop-i
 invariant-loop-i l =
-    (l.i ≤ l.c.objects)
-    × LeftOf (lines_for (tables_of l.c l.records l.objects l.groups)) (take l.c.objects l.order) l.k
-    (slice l.i l.c.objects l.order) l.left
-
-abbrev pub decreases-loop-i : goal.decreases-loop-i
-decreases-loop-i l = l.c.objects - l.i
+    LeftOf (lines_for (tables_of l.c l.records l.objects l.groups)) (take l.c.objects l.order) l.k (slice l.i l.c.objects l.order) l.left

@@ -10,13 +10,13 @@ use Rattle.list_line.proofs.alone.put_lone_names.Goals as goal
 pub loop-i-init : goal.loop-i-init
 loop-i-init c =
     let a = c.args in
-    (omega arith, omega arith, refl, no_member a.disputes.now a.g (take a.n a.out.now))
+    (omega arith, refl, no_member a.disputes.now a.g (take a.n a.out.now))
 
 pub put_lone_name-w-requires : goal.put_lone_name-w-requires
 put_lone_name-w-requires c =
     let l = c.loop-i in
     let s = c in
-    omega (arith, s.requires.2, l.invariant.1, l.invariant.2)
+    omega (arith, s.requires.2, l.invariant.0, l.invariant.1)
 
 pub loop-i-preserved : goal.loop-i-preserved
 loop-i-preserved c =
@@ -24,11 +24,10 @@ loop-i-preserved c =
     let s = c in
     let a = s.args in
     let put = c.put_lone_name-w in (
-      omega arith,
-      omega (arith, put.ensures.1, l.invariant.1),
-      put.auto.out ∙ l.invariant.2,
+      omega (arith, put.ensures.1, l.invariant.0),
+      put.auto.out ∙ l.invariant.1,
       member-more a.disputes.now a.g l.i (take a.n a.out.now) (take l.w l.out) _
-          (omega (arith, s.requires.0)) l.invariant.3 put.ensures.0,
+          (omega (arith, s.requires.0)) l.invariant.2 put.ensures.0,
     )
 
 pub returns : goal.returns
@@ -36,4 +35,4 @@ returns c =
     let l = c.loop-i in
     let a = c.args in
     let done : l.i ≡ a.d = omega arith in
-    (rw (← done) l.invariant.3, omega (arith, l.invariant.1))
+    (rw (← done) l.invariant.2, omega (arith, l.invariant.0))

@@ -9,7 +9,7 @@ use Rattle.list_line.specs.LineForms.{piece_length}
 use Rattle.list_line.proofs.pieces.piece_at.Goals as goal
 
 pub loop-i-init : goal.loop-i-init
-loop-i-init c = (omega arith, refl, refl)
+loop-i-init c = (refl, refl)
 
 pub loop-i-preserved : goal.loop-i-preserved
 loop-i-preserved c =
@@ -17,14 +17,13 @@ loop-i-preserved c =
     let a = c.args in
     let at = a.j * piece_length in
     let x = get_or a.texts.now (at + l.i) 0 in (
-      omega arith,
-      length-set l.piece l.i x ∙ l.invariant.1,
+      length-set l.piece l.i x ∙ l.invariant.0,
       rw (
         add-one,
-        take-suc-set l.piece l.i x (omega (arith, l.invariant.1)),
+        take-suc-set l.piece l.i x (omega (arith, l.invariant.0)),
         take-suc (drop at a.texts.now) l.i 0 (simp length-drop (omega arith)),
         get_or-drop at a.texts.now l.i 0,
-        l.invariant.2,
+        l.invariant.1,
       ),
     )
 
@@ -33,6 +32,6 @@ returns c =
     let l = c.loop-i in
     let done : l.i ≡ piece_length = omega arith in
     let a = c.args in
-    sym (take_all l.i l.piece (omega (arith, l.invariant.1)))
-    ∙ l.invariant.2
+    sym (take_all l.i l.piece (omega (arith, l.invariant.0)))
+    ∙ l.invariant.1
     ∙ ap (λ (k : ℕ). take k (drop (a.j * piece_length) a.texts.now)) done

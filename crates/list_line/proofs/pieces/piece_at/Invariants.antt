@@ -7,9 +7,5 @@ use Rattle.list_line.proofs.pieces.piece_at.Given as goal
 
 abbrev pub invariant-loop-i : goal.invariant-loop-i
 invariant-loop-i l =
-    (l.i ≤ piece_length)
-    × (length l.piece ≡ piece_length)
+    (length l.piece ≡ piece_length)
     × (take l.i l.piece ≡ take l.i (drop (l.j * piece_length) l.texts))
-
-abbrev pub decreases-loop-i : goal.decreases-loop-i
-decreases-loop-i l = piece_length - l.i

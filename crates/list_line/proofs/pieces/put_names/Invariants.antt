@@ -8,11 +8,7 @@ use Rattle.list_line.proofs.pieces.put_names.Given as goal
 
 abbrev pub invariant-loop-i : goal.invariant-loop-i
 invariant-loop-i l =
-    (l.i ≤ l.d)
-    × (length l.texts ≡ pieces * piece_length)
+    (length l.texts ≡ pieces * piece_length)
     × (length l.lens ≡ pieces)
     × ((told : List ℕ) → Kept l.initial.texts l.initial.lens told → Kept l.texts l.lens told)
     × ((k : ℕ) → k < l.i → NameIn l.texts l.lens k (get_or l.disputes k 0))
-
-abbrev pub decreases-loop-i : goal.decreases-loop-i
-decreases-loop-i l = l.d - l.i

@@ -35,7 +35,7 @@ loop-i-init c =
     let order = c.sort_objects.new.out in
     let kept = none_kept (replicate (pieces * piece_length) 1) (length-replicate {A = ℕ} (pieces * piece_length) 1) in
     let none = no-piece (λ o. joined (lines_for t o)) (most_groups * line_length) a.out.now order a.n in
-    (search rules, refl, refl, refl, refl, refl, kept, none)
+    (refl, refl, refl, refl, refl, kept, none)
 
 pub bounds-order-i : goal.bounds-order-i
 bounds-order-i c =
@@ -68,16 +68,13 @@ put_object-w-requires c =
       start.requires.0,
       start.requires.2,
       sorted-low t f _ (c.sort_objects.ensures ∙ in_order_lem t f) l.i (omega (arith, more)),
-      omega (arith, more, f.few-objects, start.requires.3, l.invariant.7.end, l.invariant.7.few),
-      omega (arith, start.requires.4, l.invariant.2),
-      l.invariant.6,
+      omega (arith, more, f.few-objects, start.requires.3, l.invariant.6.end, l.invariant.6.few),
+      omega (arith, start.requires.4, l.invariant.1),
+      l.invariant.5,
+      omega (arith, l.invariant.2),
       omega (arith, l.invariant.3),
       omega (arith, l.invariant.4),
-      omega (arith, l.invariant.5),
     )
-
-pub loop-i-smaller : goal.loop-i-smaller
-loop-i-smaller c = omega arith
 
 pub loop-i-preserved : goal.loop-i-preserved
 loop-i-preserved c =
@@ -88,12 +85,11 @@ loop-i-preserved c =
     let l = c.loop-i in
     let more = c.loop-i-test.true in
     let few = (sound-at t start.requires.0).few-objects in (
-      omega (arith, more),
-      p.auto.out ∙ l.invariant.1,
-      p.auto.line ∙ l.invariant.2,
-      p.auto.disputes ∙ l.invariant.3,
-      p.auto.stamps ∙ l.invariant.4,
-      p.auto.versions ∙ l.invariant.5,
+      p.auto.out ∙ l.invariant.0,
+      p.auto.line ∙ l.invariant.1,
+      p.auto.disputes ∙ l.invariant.2,
+      p.auto.stamps ∙ l.invariant.3,
+      p.auto.versions ∙ l.invariant.4,
       p.ensures.1,
       piece-behind (λ o. joined (lines_for t o)) (most_groups * line_length) a.out.now _ a.n l.i
           (omega (
@@ -101,14 +97,14 @@ loop-i-preserved c =
             few,
             more,
             c.sort_objects.auto.out,
-          )) l.invariant.7 p.ensures.0,
+          )) l.invariant.6 p.ensures.0,
     )
 
 pub shape_of-out : goal.shape_of-out
-shape_of-out c = c.loop-i.invariant.1
+shape_of-out c = c.loop-i.invariant.0
 
 pub shape_of-line : goal.shape_of-line
-shape_of-line c = c.loop-i.invariant.2
+shape_of-line c = c.loop-i.invariant.1
 
 pub returns : goal.returns
 returns c =
@@ -119,4 +115,4 @@ returns c =
     let f = sound-at t start.requires.0 in
     let ordered = c.sort_objects.ensures ∙ in_order_lem t f in
     rw (← sorted-lines t _ ordered l.i (omega arith))
-    (fewer-behind a.out.now a.n (omega (arith, f.few-objects)) l.invariant.7)
+    (fewer-behind a.out.now a.n (omega (arith, f.few-objects)) l.invariant.6)

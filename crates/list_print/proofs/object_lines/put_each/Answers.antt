@@ -21,7 +21,7 @@ loop-v-init c =
     let a = start.args in
     let text = line_in a.g a.disputes.now a.stamps.now in
     let (kept, names) = named.put_names.ensures a.told.now start.requires.4 in
-    (omega arith, refl, refl, kept, names, no-piece text line_length a.out.now a.versions.now a.n)
+    (refl, refl, kept, names, no-piece text line_length a.out.now a.versions.now a.n)
 
 pub put_version-w-requires : goal.put_version-w-requires
 put_version-w-requires c =
@@ -33,10 +33,10 @@ put_version-w-requires c =
     let p = s6.requires in (
       p.0,
       omega (arith, here.loop-v-test.true, p.1),
-      omega (arith, here.loop-v-test.true, p.1, p.2, l.invariant.5.end, l.invariant.5.few),
-      omega (arith, p.3, l.invariant.2),
+      omega (arith, here.loop-v-test.true, p.1, p.2, l.invariant.4.end, l.invariant.4.few),
+      omega (arith, p.3, l.invariant.1),
+      l.invariant.2,
       l.invariant.3,
-      l.invariant.4,
     )
 
 pub overflow_add-v : goal.overflow_add-v
@@ -46,9 +46,6 @@ overflow_add-v c =
     let named = here in
     let s6 = named in
     record { fits = omega (arith, here.loop-v-test.true, s6.requires.1) }
-
-pub loop-v-smaller : goal.loop-v-smaller
-loop-v-smaller c = omega arith
 
 pub loop-v-preserved : goal.loop-v-preserved
 loop-v-preserved c =
@@ -60,41 +57,40 @@ loop-v-preserved c =
     let a = start.args in
     let p = put.put_version-w in
     let text = line_in a.g a.disputes.now a.stamps.now in (
-      omega (arith, here.loop-v-test.true),
-      p.auto.out ∙ l.invariant.1,
-      p.auto.line ∙ l.invariant.2,
+      p.auto.out ∙ l.invariant.0,
+      p.auto.line ∙ l.invariant.1,
       p.ensures.1,
       p.ensures.2,
       piece-behind text line_length a.out.now a.versions.now a.n l.v
-          (omega (arith, here.loop-v-test.true, start.requires.0.versions-long, start.requires.1)) l.invariant.5 p.ensures.0,
+          (omega (arith, here.loop-v-test.true, start.requires.0.versions-long, start.requires.1)) l.invariant.4 p.ensures.0,
     )
 
 pub shape_of-out : goal.shape_of-out
-shape_of-out c = c.loop-v.invariant.1
+shape_of-out c = c.loop-v.invariant.0
 
 pub shape_of-line : goal.shape_of-line
-shape_of-line c = c.loop-v.invariant.2
+shape_of-line c = c.loop-v.invariant.1
 
 pub shape_of-texts : goal.shape_of-texts
 shape_of-texts c =
     let looped = c in
     let named = looped in
     let s6 = named in
-    looped.loop-v.invariant.3.texts-long ∙ sym s6.requires.4.texts-long
+    looped.loop-v.invariant.2.texts-long ∙ sym s6.requires.4.texts-long
 
 pub shape_of-lens : goal.shape_of-lens
 shape_of-lens c =
     let looped = c in
     let named = looped in
     let s6 = named in
-    looped.loop-v.invariant.3.lens-long ∙ sym s6.requires.4.lens-long
+    looped.loop-v.invariant.2.lens-long ∙ sym s6.requires.4.lens-long
 
 pub shape_of-told : goal.shape_of-told
 shape_of-told c =
     let looped = c in
     let named = looped in
     let s6 = named in
-    looped.loop-v.invariant.3.told-long ∙ sym s6.requires.4.told-long
+    looped.loop-v.invariant.2.told-long ∙ sym s6.requires.4.told-long
 
 pub returns : goal.returns
 returns c =
@@ -102,5 +98,5 @@ returns c =
     let named = c in
     let s6 = named in
     let a = s6.args in
-    let e : l.v ≡ a.g.count = omega (arith, c.loop-v-test.false, l.invariant.0) in
-    (rw (← e) l.invariant.5, l.invariant.3)
+    let e : l.v ≡ a.g.count = omega (arith, c.loop-v-test.false, (omega arith)) in
+    (rw (← e) l.invariant.4, l.invariant.2)

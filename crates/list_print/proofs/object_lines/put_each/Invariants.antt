@@ -13,13 +13,8 @@ use Rattle.list_print.proofs.object_lines.put_each.Given as goal
 
 abbrev pub invariant-loop-v : goal.invariant-loop-v
 invariant-loop-v l =
-    (l.v ≤ l.g.count)
-    × (length l.out ≡ length l.initial.out)
+    (length l.out ≡ length l.initial.out)
     × (length l.line ≡ length l.initial.line)
     × Kept l.texts l.lens l.told
     × NamesKept l.texts l.lens (take l.g.disputes l.disputes)
     × Behind l.initial.out l.n (joined (map (line_in l.g l.disputes l.stamps) (take l.v l.versions))) (l.v * line_length) l.out l.w
-
-abbrev pub decreases-loop-v : goal.decreases-loop-v
-decreases-loop-v l =
-    l.g.count - l.v

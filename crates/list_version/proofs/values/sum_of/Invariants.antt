@@ -10,6 +10,3 @@ use Rattle.list_version.proofs.values.sum_of.Given as goal
 abbrev pub invariant-loop-i : goal.invariant-loop-i
 invariant-loop-i l =
     (2 * l.i ≤ most_sites) × (l.total ≡ sum (2 * l.i) (entry_in l.rec)) × (l.total ≤ 131070 * l.i)
-
-abbrev pub decreases-loop-i : goal.decreases-loop-i
-decreases-loop-i l = most_sites - l.i
