@@ -1,6 +1,6 @@
 -- The lines of what the code gathered of an object, and where a line is found. No one need believe it: laws in proofs/
 -- tie it to `List`. Assumes nothing.
-use Rattle.std.specs.Prelude.{◌≡◌, true, ℕ, ◌≤◌, ◌<◌, ltb, length, get_or, take}
+use Rattle.std.specs.Prelude.{◌≡◌, true, false, Option, Some, None, ℕ, ◌≤◌, ◌<◌, ltb, length, get_or, take}
 use mathlib.Core.List.{List, [], flat_map}
 use Rattle.math_lists.specs.NumbersBelow.{sum}
 use Rattle.group_step.specs.GroupRows.{most_sets, most_groups}
@@ -14,7 +14,6 @@ use Rattle.list_line.specs.LineForms.{line_by}
 use Rattle.list_objects.specs.declared.Gathered.{Gathered}
 use Rattle.list_objects.specs.Objects.{objects_of}
 use Rattle.list_lines.specs.declared.LinePlace.{LinePlace}
-use Rattle.list_lines.specs.declared.PutLine.{PutLine}
 use Rattle.list_lines.specs.List.{lines_for}
 
 -- ---- the lines of what is gathered
@@ -43,17 +42,25 @@ pub record LeftOf (lines : ℕ → List (List ℕ)) (os : List ℕ) (k : ℕ) (r
   pub test : ltb k (length (flat_map lines os)) ≡ ltb left (length (flat_map lines rest))
   pub line : get_or (flat_map lines os) k [] ≡ get_or (flat_map lines rest) left []
 
--- the k-th of the lines of all objects is that version's line of that object, if there is one
-pub record FoundIn (t : Tables) (k : ℕ) (f : LinePlace) : Type 0 where
-  pub ok : f.ok ≡ ltb k (length (flat_map (lines_for t) (objects_of t)))
-  pub object : f.ok ≡ true → f.object < t.counters.objects
-  pub version : f.ok ≡ true → f.version < length (lines_for t f.object)
-  pub line :
-      f.ok ≡ true →
-      get_or (flat_map (lines_for t) (objects_of t)) k [] ≡ get_or (lines_for t f.object) f.version []
+-- the k-th of the lines of all objects is that version's line of that object
+pub record FoundAt (t : Tables) (k : ℕ) (f : LinePlace) : Type 0 where
+  pub within : ltb k (length (flat_map (lines_for t) (objects_of t))) ≡ true
+  pub object : f.object < t.counters.objects
+  pub version : f.version < length (lines_for t f.object)
+  pub line : get_or (flat_map (lines_for t) (objects_of t)) k [] ≡ get_or (lines_for t f.object) f.version []
 
--- the k-th of the lines stands at the front of the output, if there is one
-pub record NumberedAs (lines : List (List ℕ)) (k : ℕ) (r : PutLine) (out : List ℕ) : Type 0 where
-  pub ok : r.ok ≡ ltb k (length lines)
-  pub few : r.bytes ≤ line_length
-  pub line : r.ok ≡ true → take r.bytes out ≡ get_or lines k []
+-- it is found there, or there is none
+abbrev pub FoundIn : Tables → ℕ → Option LinePlace → Type 0
+FoundIn t k (Some f) = FoundAt t k f
+FoundIn t k None = ltb k (length (flat_map (lines_for t) (objects_of t))) ≡ false
+
+-- the k-th of the lines stands at the front of the output, so many bytes long
+pub record PutAs (lines : List (List ℕ)) (k bytes : ℕ) (out : List ℕ) : Type 0 where
+  pub within : ltb k (length lines) ≡ true
+  pub few : bytes ≤ line_length
+  pub line : take bytes out ≡ get_or lines k []
+
+-- it stands there, or there is none
+abbrev pub NumberedAs : List (List ℕ) → ℕ → Option ℕ → List ℕ → Type 0
+NumberedAs lines k (Some bytes) out = PutAs lines k bytes out
+NumberedAs lines k None out = ltb k (length lines) ≡ false

@@ -25,19 +25,11 @@ use table_drawing::entries::at16;
 use table_drawing::{Answer, Counters, ENTRY};
 use table_output::{Written, put_at};
 
-// Where a line of a version is found: whether there is one, the object, and which of its versions it is.
+// Where a line of a version is found: the object, and which of its versions it is.
 #[derive(Clone, Copy)]
 struct LinePlace {
-    ok: bool,
     object: usize,
     version: usize,
-}
-
-// A line put at the front of a buffer: whether there is one of that number, and how many bytes it has.
-#[derive(Clone, Copy)]
-struct PutLine {
-    ok: bool,
-    bytes: usize,
 }
 
 // How many versions the first m objects have.
@@ -61,7 +53,7 @@ pub fn head(out: &mut [u8], c: Counters, objects: &[u16]) -> usize
     list_text::put_head(out, c.sites as u32, c.objects as u32, total, c.sum)
 }
 
-// Where the k-th line of a version is found, line 0 left out, by the index of the records' places.
+// Where the k-th line of a version is found, line 0 left out, if there is one, by the index of the records' places.
 fn find(
     c: Counters,
     records: &[u8],
@@ -69,7 +61,7 @@ fn find(
     groups: &[u64],
     places: &[u16],
     k: usize,
-) -> LinePlace
+) -> Option<LinePlace>
     requires { (sound (tables_of c records.now objects.now groups.now) ≡ true)
         × Indexed records.now c.records places.now }
     ensures { FoundIn (tables_of c records.now objects.now groups.now) k result }
@@ -88,19 +80,14 @@ fn find(
         let o = at16(&order, i) as usize;
         let count = at16(objects, o * ENTRY + 2) as usize;
         if left < count {
-            return LinePlace {
-                ok: true,
+            return Some(LinePlace {
                 object: o,
                 version: left,
-            };
+            });
         }
-        left = left - count;
+        left -= count;
     }
-    LinePlace {
-        ok: false,
-        object: 0,
-        version: 0,
-    }
+    None
 }
 
 // Puts the line of the v-th version at the front of out.
@@ -174,7 +161,7 @@ fn put_found(
     put_version(out, g, &disputes, &stamps, &keyed, &versions, v)
 }
 
-// Puts line k at the front of out, if there is one, by the index of the records' places.
+// Puts line k at the front of out, if there is one, by the index of the records' places; says how many bytes it has.
 fn put_numbered(
     out: &mut [u8],
     c: Counters,
@@ -183,7 +170,7 @@ fn put_numbered(
     groups: &[u64],
     places: &[u16],
     k: usize,
-) -> PutLine
+) -> Option<usize>
     requires { (sound (tables_of c records.now objects.now groups.now) ≡ true)
         × Indexed records.now c.records places.now
         × (line_length ≤ length out.old) }
@@ -192,18 +179,10 @@ fn put_numbered(
         k result out.new }
 {
     if k == 0 {
-        let bytes = head(out, c, objects);
-        return PutLine { ok: true, bytes };
+        return Some(head(out, c, objects));
     }
-    let f = find(c, records, objects, groups, places, k - 1);
-    if !f.ok {
-        return PutLine {
-            ok: false,
-            bytes: 0,
-        };
-    }
-    let bytes = put_found(out, c, records, objects, groups, f.object, f.version);
-    PutLine { ok: true, bytes }
+    let f = find(c, records, objects, groups, places, k - 1)?;
+    Some(put_found(out, c, records, objects, groups, f.object, f.version))
 }
 
 // Puts line k into out from the start on; refused, everything stays as it was.
@@ -229,12 +208,11 @@ pub fn print_line(
         };
     }
     let mut line = [1u8; LINE];
-    let r = put_numbered(&mut line, c, records, objects, groups, &places, k);
-    if !r.ok {
+    let Some(bytes) = put_numbered(&mut line, c, records, objects, groups, &places, k) else {
         return Written {
             answer: Answer::NoLine,
             bytes: 0,
         };
-    }
-    put_at(out, start, &line, r.bytes)
+    };
+    put_at(out, start, &line, bytes)
 }

@@ -10,4 +10,4 @@ use Rattle.list_lines.proofs.find.Given as goal
 
 abbrev pub invariant-loop-i : goal.invariant-loop-i
 invariant-loop-i l =
-    LeftOf (lines_for (tables_of l.c l.records l.objects l.groups)) (take l.c.objects l.order) l.k (slice l.i l.c.objects l.order) l.left
+    LeftOf (lines_for (tables_of l.fn.c l.records l.objects l.groups)) (take l.fn.c.objects l.order) l.k (slice l.i l.fn.c.objects l.order) l.left
