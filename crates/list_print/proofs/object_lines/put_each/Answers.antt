@@ -16,53 +16,35 @@ put_names-requires c =
 
 pub loop-v-init : goal.loop-v-init
 loop-v-init c =
-    let named = c in
-    let start = named in
-    let a = start.args in
+    let a = c.args in
     let text = line_in a.g a.disputes.now a.stamps.now in
-    let (kept, names) = named.put_names.ensures a.told.now start.requires.4 in
+    let (kept, names) = c.put_names.ensures a.told.now c.requires.4 in
     (refl, refl, kept, names, no-piece text line_length a.out.now a.versions.now a.n)
 
 pub put_version-w-requires : goal.put_version-w-requires
 put_version-w-requires c =
-    let here = c in
-    let looped = here in
-    let l = looped.loop-v in
-    let named = looped in
-    let s6 = named in
-    let p = s6.requires in (
+    let l = c.loop-v in
+    let p = c.requires in (
       p.0,
-      omega (arith, here.loop-v-test.true, p.1),
-      omega (arith, here.loop-v-test.true, p.1, p.2, l.invariant.4.end, l.invariant.4.few),
+      omega (arith, c.loop-v-test.true, p.1),
+      omega (arith, c.loop-v-test.true, p.1, p.2, l.invariant.4.end, l.invariant.4.few),
       omega (arith, p.3, l.invariant.1),
       l.invariant.2,
       l.invariant.3,
     )
 
-pub overflow_add-v : goal.overflow_add-v
-overflow_add-v c =
-    let put = c in
-    let here = put in
-    let named = here in
-    let s6 = named in
-    record { fits = omega (arith, here.loop-v-test.true, s6.requires.1) }
-
 pub loop-v-preserved : goal.loop-v-preserved
 loop-v-preserved c =
-    let put = c in
-    let here = put in
-    let l = here.loop-v in
-    let named = here in
-    let start = named in
-    let a = start.args in
-    let p = put.put_version-w in
+    let l = c.loop-v in
+    let a = c.args in
+    let p = c.put_version-w in
     let text = line_in a.g a.disputes.now a.stamps.now in (
       p.auto.out ∙ l.invariant.0,
       p.auto.line ∙ l.invariant.1,
       p.ensures.1,
       p.ensures.2,
       piece-behind text line_length a.out.now a.versions.now a.n l.v
-          (omega (arith, here.loop-v-test.true, start.requires.0.versions-long, start.requires.1)) l.invariant.4 p.ensures.0,
+          (omega (arith, c.loop-v-test.true, c.requires.0.versions-long, c.requires.1)) l.invariant.4 p.ensures.0,
     )
 
 pub shape_of-out : goal.shape_of-out
@@ -73,30 +55,19 @@ shape_of-line c = c.loop-v.invariant.1
 
 pub shape_of-texts : goal.shape_of-texts
 shape_of-texts c =
-    let looped = c in
-    let named = looped in
-    let s6 = named in
-    looped.loop-v.invariant.2.texts-long ∙ sym s6.requires.4.texts-long
+    c.loop-v.invariant.2.texts-long ∙ sym c.requires.4.texts-long
 
 pub shape_of-lens : goal.shape_of-lens
 shape_of-lens c =
-    let looped = c in
-    let named = looped in
-    let s6 = named in
-    looped.loop-v.invariant.2.lens-long ∙ sym s6.requires.4.lens-long
+    c.loop-v.invariant.2.lens-long ∙ sym c.requires.4.lens-long
 
 pub shape_of-told : goal.shape_of-told
 shape_of-told c =
-    let looped = c in
-    let named = looped in
-    let s6 = named in
-    looped.loop-v.invariant.2.told-long ∙ sym s6.requires.4.told-long
+    c.loop-v.invariant.2.told-long ∙ sym c.requires.4.told-long
 
 pub returns : goal.returns
 returns c =
     let l = c.loop-v in
-    let named = c in
-    let s6 = named in
-    let a = s6.args in
-    let e : l.v ≡ a.g.count = omega (arith, c.loop-v-test.false, (omega arith)) in
+    let a = c.args in
+    let e : l.v ≡ a.g.count = omega arith in
     (rw (← e) l.invariant.4, l.invariant.2)
