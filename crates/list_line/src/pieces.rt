@@ -107,10 +107,9 @@ fn piece_at(texts: &[u8], j: usize) -> [u8; PIECE]
     ensures { result ≡ take piece_length (drop (j * piece_length) texts.now) }
 {
     let at = j * PIECE;
+    let end = at + PIECE;
     let mut piece = [0u8; PIECE];
-    for i in 0..PIECE {
-        piece[i] = texts[at + i];
-    }
+    piece.copy_from_slice(&texts[at..end]);
     piece
 }
 

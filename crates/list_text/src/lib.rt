@@ -54,12 +54,9 @@ pub fn put_bytes(out: &mut [u8], n: usize, s: &[u8]) -> usize
     ensures { (take result out.new ≡ take n out.old ++ s.now)
         × (result ≡ n + length s.now) }
 {
-    let mut i: usize = 0;
-    while i < s.len() {
-        out[n + i] = s[i];
-        i += 1;
-    }
-    n + i
+    let end = n + s.len();
+    out[n..end].copy_from_slice(s);
+    end
 }
 
 // How many digits the decimal of m has; nothing is divided for it.
