@@ -191,16 +191,3 @@ named_more {texts₁ = texts₁} {lens₁ = lens₁} xs i few more have k l =
       | yes q ↦ rw q more.own
       | no d ↦ more.others k (get_or xs k 0) (omega arith) d (have k (omega (arith, d)))
     ]
-
-pub all-names-kept :
-    {texts lens : List ℕ} (xs : List ℕ) (d : ℕ) → d ≤ length xs →
-    ((k : ℕ) → k < d → NameIn texts lens k (get_or xs k 0)) → NamesKept texts lens (take d xs)
-all-names-kept xs d fits have k l =
-    let low : k < d = omega (arith, length-take-le d xs fits) in
-    rw (get_or-take d xs k 0 low) (have k low)
-
-pub kept-name-at :
-    {texts lens : List ℕ} (xs : List ℕ) (d i : ℕ) → d ≤ length xs → i < d → NamesKept texts lens (take d xs) →
-    NameIn texts lens i (get_or xs i 0)
-kept-name-at {texts} {lens} xs d i fits low all =
-    rw (get_or-take d xs i 0 low) at (all i (omega (arith, length-take-le d xs fits)))

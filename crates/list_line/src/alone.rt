@@ -11,10 +11,10 @@ ghost use Rattle.list_version.specs.VersionForms.{name_by, is_in, identifier_by,
 ghost use Rattle.list_line.specs.LineForms.{stamp_text, settings_by, line_by};
 
 use super::pieces::{form_name, form_setting};
+use group_step::has;
 use list_text::{MINUS, NEWLINE, SPACE, put_byte, put_dotted};
-use list_version::ALL_KEYS;
-use list_version::sets::{NUMBERS, is_member};
 use list_version::values::last_of;
+use list_version::{ALL_KEYS, NUMBERS};
 
 // Puts `+` and the name of the Set in dispute x, if that is a member of g.
 fn put_lone_name(out: &mut [u8], n: usize, x: u64, g: u64) -> usize
@@ -23,7 +23,7 @@ fn put_lone_name(out: &mut [u8], n: usize, x: u64, g: u64) -> usize
         ≡ take n out.old ++ cond (is_in g x) (plus ∷ name_text (name_by x)) [])
         × (result ≤ n + (1 + dotted_length)) }
 {
-    if !is_member(g, (x % NUMBERS) as usize) {
+    if !has(g, (x % NUMBERS) as usize) {
         return n;
     }
     form_name(out, n, x)
@@ -39,8 +39,8 @@ fn put_lone_names(out: &mut [u8], n: usize, disputes: &[u64], d: usize, g: u64) 
         × (result ≤ n + d * (1 + dotted_length)) }
 {
     let mut w = n;
-    for i in 0..d {
-        w = put_lone_name(out, w, disputes[i], g);
+    for &x in &disputes[..d] {
+        w = put_lone_name(out, w, x, g);
     }
     w
 }

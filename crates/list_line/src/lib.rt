@@ -16,11 +16,10 @@ ghost use Rattle.list_version.specs.VersionForms.{name_by, is_in, identifier_by,
 ghost use Rattle.list_line.specs.LineForms.{stamp_text, settings_by, line_by, piece_length, pieces, Kept};
 ghost use Rattle.list_line.specs.LineForms.{NameIn, NamesKept, SameNames};
 
-use group_step::SETS;
+use group_step::{SETS, has};
 use list_text::{DOTTED, EQUATED, MINUS, NEWLINE, SPACE, put_byte, put_dotted};
-use list_version::ALL_KEYS;
-use list_version::sets::{NUMBERS, is_member};
 use list_version::values::last_of;
+use list_version::{ALL_KEYS, NUMBERS};
 use pieces::{PIECE, is_kept, put_anew, put_piece};
 
 // The bytes that a line has at most: the Create; for each Set a separator and its name; for each key a space, the key,
@@ -49,7 +48,7 @@ fn put_member(
         ≡ take n out.old ++ cond (is_in g x) (plus ∷ name_text (name_by x)) [])
         × (result ≤ n + (1 + dotted_length)) }
 {
-    if !is_member(g, (x % NUMBERS) as usize) {
+    if !has(g, (x % NUMBERS) as usize) {
         return n;
     }
     put_piece(out, n, texts, lens, ALL_KEYS + i)
@@ -76,8 +75,8 @@ fn put_members(
         × (result ≤ n + d * (1 + dotted_length)) }
 {
     let mut w = n;
-    for i in 0..d {
-        w = put_member(out, w, texts, lens, i, disputes[i], g);
+    for (i, &x) in disputes[..d].iter().enumerate() {
+        w = put_member(out, w, texts, lens, i, x, g);
     }
     w
 }

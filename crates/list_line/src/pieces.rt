@@ -15,8 +15,7 @@ use edit_causal::shown;
 use edit_record::VALUES;
 use group_step::SETS;
 use list_text::{PLUS, SPACE, put_byte, put_dotted, put_equated};
-use list_version::sets::NUMBERS;
-use list_version::{ALL_KEYS, SEQ_NUMBERS, SITE_NUMBERS};
+use list_version::{ALL_KEYS, NUMBERS, SEQ_NUMBERS, SITE_NUMBERS};
 use table_output::copy_in;
 
 // The bytes of the place of a piece, and how many places there are: one for each key, then one for each Set.
@@ -96,8 +95,8 @@ pub fn put_names(texts: &mut [u8], lens: &mut [u8], disputes: &[u64], d: usize)
         Kept texts.new lens.new told
         × NamesKept texts.new lens.new (take d disputes.now) }
 {
-    for i in 0..d {
-        put_name(texts, lens, i, disputes[i]);
+    for (i, &x) in disputes[..d].iter().enumerate() {
+        put_name(texts, lens, i, x);
     }
 }
 

@@ -1,7 +1,7 @@
 // The values of a version. A stamp is an edit's key, then its place in the total order, then its value, as one number
 // that is never 0 for a key: the largest stamp of the members with a key is that of the last one. The stamps of an
 // object's Sets are made once, and with them is noted which Sets have a key, so that a version looks at few of them.
-ghost use Rattle.std.specs.Prelude.{◌≡◌, List, ℕ, ◌+◌, ◌*◌, ◌-◌, ◌≤◌, ◌<◌, max, length, take, drop, set, replicate};
+ghost use Rattle.std.specs.Prelude.{◌≡◌, List, ℕ, ◌+◌, ◌*◌, ◌-◌, ◌≤◌, ◌<◌, length, take, drop, set, replicate};
 ghost use Rattle.edit_record.specs.declared.Edit.{Edit};
 ghost use Rattle.edit_record.specs.Layout.{most_sites, keys, two_bytes, record_length, vector_at};
 ghost use Rattle.edit_record.specs.RecordBytes.{counts};
@@ -13,10 +13,9 @@ ghost use Rattle.list_version.specs.Identifier.{site_numbers};
 ghost use Rattle.list_version.specs.VersionForms.{sets_at, stamp_of, values, placings, Small, Stamped};
 ghost use Rattle.list_version.specs.VersionForms.{largest_by, KeyedBy, KeyedTo};
 
-use super::sets::{highest, is_member};
 use super::{ALL_KEYS, SITE_NUMBERS};
 use edit_record::{AT_KEY, AT_SITE, AT_VECTOR, KEYS, PLACE, RECORD, SITES, VALUES};
-use group_step::{only, without};
+use group_step::{has, highest, only, without};
 use table_sets::copied::copy_at;
 
 // A number above each place in the total order with a value behind it.
@@ -111,13 +110,6 @@ pub fn put_stamps(out: &mut [u64], keyed: &mut [u64], recs: &[u8], places: &[u16
     peaks
 }
 
-// The larger of two numbers.
-fn larger(a: u64, b: u64) -> u64
-    ensures { result ≡ max a b }
-{
-    if a < b { b } else { a }
-}
-
 // The largest stamp of the key k among the members of g; 0 where there is none. They are gone through from the last one
 // on as far as a peak, which those before it do not outdo.
 pub fn last_of(stamps: &[u64], t: usize, keyed: &[u64], peaks: u64, g: u64, k: usize) -> u64
@@ -132,8 +124,8 @@ pub fn last_of(stamps: &[u64], t: usize, keyed: &[u64], peaks: u64, g: u64, k: u
     let mut left = g & keyed[k];
     while left != 0 {
         let i = highest(left);
-        found = larger(found, stamps[i]);
-        if is_member(peaks, i) {
+        found = found.max(stamps[i]);
+        if has(peaks, i) {
             return found;
         }
         left = without(left, only(i));

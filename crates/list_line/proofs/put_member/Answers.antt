@@ -6,11 +6,11 @@ use native.Mathlib.Omega.{arith}
 use Rattle.list_version.specs.VersionForms.{is_in}
 use Rattle.list_line.proofs.put_member.Goals as goal
 
-pub returns-then-not-is_member : goal.returns-then-not-is_member
-returns-then-not-is_member c =
+pub returns-then-not-has : goal.returns-then-not-has
+returns-then-not-has c =
     let s = c in
     let out : is_in s.args.g s.args.x ≡ false
-    = sym c.is_member.ensures ∙ c.if-not-is_member.true in
+    = sym c.has.ensures ∙ c.if-not-has.true in
     (rw out (sym (append-nil _)), omega arith)
 
 pub returns : goal.returns
@@ -18,7 +18,7 @@ returns c =
     let member = c in
     let s = member in
     let in-it : is_in s.args.g s.args.x ≡ true
-    = sym member.is_member.ensures ∙ member.if-not-is_member.false in
+    = sym member.has.ensures ∙ member.if-not-has.false in
     let named = s.requires.4 in
     let put = c.put_piece in
     (put.ensures.0 ∙ rw (named.name, in-it), omega (arith, put.ensures.1, named.few))

@@ -13,4 +13,4 @@ abbrev pub invariant-loop-i : goal.invariant-loop-i
 invariant-loop-i l =
     (l.w ≤ l.n + l.i * (1 + dotted_length))
     × (length l.out ≡ length l.initial.out)
-    × (take l.w l.out ≡ take l.n l.initial.out ++ flat_map (λ y. plus ∷ name_text y) (identifier_by (take l.i l.disputes) l.g))
+    × (take l.w l.out ≡ take l.n l.initial.out ++ flat_map (λ y. plus ∷ name_text y) (identifier_by (take l.i (take l.d l.disputes)) l.g))

@@ -2,7 +2,7 @@
 use mathlib.Core.Path.{◌≡◌}
 use mathlib.Core.List.{List}
 use Prim.Native.Nat.{ℕ, ◌*◌, ◌-◌, ◌≤◌, ◌<◌}
-use lib.ListN.{length, get_or}
+use lib.ListN.{get_or, length, take}
 use Rattle.list_line.specs.LineForms.{piece_length, pieces, Kept, NameIn}
 use Rattle.list_line.proofs.pieces.put_names.Given as goal
 
@@ -11,4 +11,4 @@ invariant-loop-i l =
     (length l.texts ≡ pieces * piece_length)
     × (length l.lens ≡ pieces)
     × ((told : List ℕ) → Kept l.initial.texts l.initial.lens told → Kept l.texts l.lens told)
-    × ((k : ℕ) → k < l.i → NameIn l.texts l.lens k (get_or l.disputes k 0))
+    × ((k : ℕ) → k < l.i → NameIn l.texts l.lens k (get_or (take l.d l.disputes) k 0))
