@@ -13,19 +13,6 @@ loop-i-init c =
     let a = c.args in
     (omega arith, refl, no_member (take a.d a.disputes.now) a.g (take a.n a.out.now))
 
-pub put_member-w-requires : goal.put_member-w-requires
-put_member-w-requires c =
-    let l = c.loop-i in
-    let a = c.args in
-    let p = c.requires in
-    let long = length-take-le a.d a.disputes.now p.0 in (
-      omega (arith, long, p.1),
-      omega (arith, long, p.2, l.invariant.0, l.invariant.1),
-      p.3,
-      p.4,
-      p.5 l.i c.loop-i-test.true,
-    )
-
 pub loop-i-preserved : goal.loop-i-preserved
 loop-i-preserved c =
     let l = c.loop-i in
@@ -36,12 +23,3 @@ loop-i-preserved c =
       member-more (take a.d a.disputes.now) a.g l.i (take a.n a.out.now) (take l.w l.out) _ (omega arith)
           l.invariant.2 put.ensures.0,
     )
-
-pub returns : goal.returns
-returns c =
-    let l = c.loop-i in
-    let a = c.args in
-    let xs = take a.d a.disputes.now in
-    let long = length-take-le a.d a.disputes.now c.requires.0 in
-    let whole : take l.i xs ≡ xs = take_all l.i xs (omega arith) in
-    (rw whole at l.invariant.2, omega (arith, l.invariant.0, long))
