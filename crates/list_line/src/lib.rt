@@ -13,11 +13,12 @@ ghost use Rattle.list_text.specs.Pieces.{space, plus, dotted_length, equated_len
 ghost use Rattle.list_line.specs.Line.{name_text, identifier_text};
 ghost use Rattle.list_line.specs.Line.{identifier_length, settings_length, line_length};
 ghost use Rattle.list_version.specs.VersionForms.{identifier_by, KeyedBy};
-ghost use Rattle.list_line.specs.LineForms.{settings_by, line_by, piece_length, NamesKept, SameNames};
+ghost use Rattle.list_line.specs.LineForms.{settings_by, line_in, piece_length, NamesKept, SameNames};
 
 use group_step::SETS;
 use list_text::{DOTTED, EQUATED, MINUS, NEWLINE, SPACE, put_byte, put_dotted};
 use list_version::ALL_KEYS;
+use list_version::gathered::Gathered;
 use list_version::values::last_of;
 use pieces::{PIECE, Pieces};
 
@@ -102,37 +103,17 @@ fn put_settings(
     w
 }
 
-// Puts at the front the line of the version g of the object whose Create is site.seq, by the d Sets in dispute, the
-// stamps of the t Sets and what is noted of their keys; says how many bytes it has. The names of the Sets in dispute
-// are put in their places before.
-pub fn put_line(
-    out: &mut [u8],
-    kept: &mut Pieces,
-    site: u8,
-    seq: u16,
-    disputes: &[u64],
-    d: usize,
-    stamps: &[u64],
-    t: usize,
-    keyed: &[u64],
-    peaks: u64,
-    g: u64,
-) -> usize
-    requires { (d ≤ length disputes.now)
-        × (d ≤ most_sets)
-        × (line_length + piece_length ≤ length out.old)
-        × NamesKept kept.old.texts kept.old.lens (take d disputes.now)
-        × (t ≤ length stamps.now)
-        × (t ≤ most_sets)
-        × (keys ≤ length keyed.now)
-        × KeyedBy stamps.now keyed.now peaks t }
-    ensures { (take result out.new
-        ≡ line_by site seq (take d disputes.now) (take t stamps.now) g)
+// Puts at the front the line of the version v of the object gathered; says how many bytes it has. The names of the Sets
+// in dispute are put in their places before.
+pub fn put_line(out: &mut [u8], kept: &mut Pieces, g: &Gathered, v: u64) -> usize
+    requires { (line_length + piece_length ≤ length out.old)
+        × NamesKept kept.old.texts kept.old.lens (take g.now.disputed g.now.disputes) }
+    ensures { (take result out.new ≡ line_in g.now v)
         × (result ≤ line_length)
-        × NamesKept kept.new.texts kept.new.lens (take d disputes.now) }
+        × NamesKept kept.new.texts kept.new.lens (take g.now.disputed g.now.disputes) }
 {
-    let a = put_dotted(out, 0, site, seq);
-    let b = put_identifier(out, a, kept, disputes, d, g);
-    let w = put_settings(out, b, kept, stamps, t, keyed, peaks, g);
+    let a = put_dotted(out, 0, g.site, g.seq);
+    let b = put_identifier(out, a, kept, &g.disputes, g.disputed, v);
+    let w = put_settings(out, b, kept, &g.stamps, g.sets, &g.keyed, g.peaks, v);
     put_byte(out, w, NEWLINE)
 }

@@ -3,6 +3,7 @@
 #![tactic(auto)]
 
 pub mod disputes;
+pub mod gathered;
 pub mod values;
 
 use edit_record::KEYS;

@@ -1,0 +1,49 @@
+// What is gathered of an object before its lines are printed: its Create, its Sets, and its groups in the order of
+// their versions. It is work space that is lent from object to object.
+ghost use Rattle.std.specs.Prelude.{◌≡◌, ◌≤◌};
+ghost use Rattle.group_step.specs.GroupRows.{most_sets, most_groups};
+ghost use Rattle.list_version.specs.VersionForms.{KeyedBy};
+
+use super::ALL_KEYS;
+use group_step::{GROUPS, SETS};
+
+// Site and sequence number of the Create; the names of the Sets in dispute, ascending, and how many they are; the stamps
+// of all Sets and how many they are, those that have each key, and the peaks among them; the groups and how many they
+// are. What stands past their numbers does not matter.
+pub struct Gathered {
+    pub site: u8,
+    pub seq: u16,
+    pub disputes: [u64; SETS],
+    pub disputed: usize,
+    pub stamps: [u64; SETS],
+    pub sets: usize,
+    pub keyed: [u64; ALL_KEYS],
+    pub peaks: u64,
+    pub versions: [u64; GROUPS],
+    pub count: usize,
+    pub ghost few_disputed: { disputed ≤ most_sets },
+    pub ghost few_sets: { sets ≤ most_sets },
+    pub ghost noted: { KeyedBy stamps keyed peaks sets },
+    pub ghost few_groups: { count ≤ most_groups },
+}
+
+impl Gathered {
+    // Nothing is gathered yet. What work space holds at first does not matter; zeros would be set by memset
+    // (docs/DECISIONS.md, 24).
+    pub fn none() -> Gathered
+        ensures { result.sets ≡ 0 }
+    {
+        Gathered {
+            site: 0,
+            seq: 0,
+            disputes: [1; SETS],
+            disputed: 0,
+            stamps: [1; SETS],
+            sets: 0,
+            keyed: [0; ALL_KEYS],
+            peaks: 0,
+            versions: [1; GROUPS],
+            count: 0,
+        }
+    }
+}
