@@ -9,7 +9,7 @@ use lib.Dec.{eqb}
 use lib.ListN.{length, get_or, take, drop, set, length-set, length-drop}
 use lib.ListN.{get_or-replicate, length-replicate, replicate}
 use lib.Seq.{take-add, take-take, take-append-le, take-append-add, drop_at, drop-drop, length-take-le}
-use lib.Seq.{get_or-set_same, get_or-set_other, get_or-take}
+use lib.Seq.{get_or-set_same, get_or-set_other}
 use borrow.Author.Tests.{eq-eqb, eqb-true}
 use borrow.Rule.Slice.PartMut.{mid_of, put_mid, post_of, mid_len, same_len_mid, take_put, drop_put}
 use Rattle.math_lists.proofs.Booleans.{both, clash}
@@ -19,7 +19,7 @@ use Rattle.table_output.proofs.OutputOutcomes.{lent_back}
 use Rattle.list_text.specs.Pieces.{plus, dotted_length, equated_length}
 use Rattle.list_version.specs.VersionForms.{name_by}
 use Rattle.list_line.specs.Line.{name_text}
-use Rattle.list_line.specs.LineForms.{stamp_text, piece_length, pieces, piece_at, Kept, NameIn, NamesKept}
+use Rattle.list_line.specs.LineForms.{stamp_text, piece_length, pieces, piece_at, Kept, NameIn}
 use Rattle.list_line.specs.LineForms.{NameMore, SameNames}
 
 -- a part goes by what stands up to its end

@@ -51,6 +51,7 @@ pub fn form_name(text: &mut [u8], n: usize, x: u64) -> usize
 
 // The pieces, each in its place: their texts, how many bytes each has, and the stamps that told those of the keys. What
 // stands in the place of a key is always the setting that its stamp tells, or nothing.
+#[derive(Drop)]
 pub struct Pieces {
     pub texts: [u8; PIECES * PIECE],
     pub lens: [u8; PIECES],
@@ -59,6 +60,16 @@ pub struct Pieces {
 }
 
 impl Pieces {
+    // No piece is kept yet. What work space holds at first does not matter; zeros would be set by memset
+    // (docs/DECISIONS.md, 24).
+    pub fn none() -> Pieces {
+        Pieces {
+            texts: [1; PIECES * PIECE],
+            lens: [0; PIECES],
+            told: [0; ALL_KEYS],
+        }
+    }
+
     // Whether the setting of a key is the one that the stamp s tells.
     fn has_setting(&self, key: usize, s: u64) -> bool
         requires { key < keys }

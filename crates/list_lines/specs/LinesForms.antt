@@ -1,35 +1,17 @@
--- The lines of what the code gathered of an object, and where a line is found. No one need believe it: laws in proofs/
+-- Line 0 from what is lent, and where a line is found. No one need believe it: laws in proofs/
 -- tie it to `List`. Assumes nothing.
 use Rattle.std.specs.Prelude.{◌≡◌, true, false, Option, Some, None, ℕ, ◌≤◌, ◌<◌, ltb, length, get_or, take}
 use mathlib.Core.List.{List, [], flat_map}
 use Rattle.math_lists.specs.NumbersBelow.{sum}
-use Rattle.group_step.specs.GroupRows.{most_sets, most_groups}
 use Rattle.table_drawing.specs.declared.Counters.{Counters}
 use Rattle.table_drawing.specs.Tables.{Tables, groups_at}
-use Rattle.edit_record.specs.Layout.{keys}
 use Rattle.list_text.specs.HeadAndRefusal.{head_line}
-use Rattle.list_version.specs.VersionForms.{KeyedBy}
 use Rattle.list_line.specs.Line.{line_length}
-use Rattle.list_line.specs.LineForms.{line_by}
-use Rattle.list_objects.specs.declared.Gathered.{Gathered}
 use Rattle.list_objects.specs.Objects.{objects_of}
 use Rattle.list_lines.specs.declared.LinePlace.{LinePlace}
 use Rattle.list_lines.specs.List.{lines_for}
 
--- ---- the lines of what is gathered
-
--- the arrays are as long as they must be: the Sets in dispute, the stamps, the Sets of each key, and the versions
-pub record LongEnough (g : Gathered) (ds ss ks vs : List ℕ) : Type 0 where
-  pub few : g.sets ≤ most_sets
-  pub disputed : g.disputes ≤ most_sets
-  pub disputes-long : most_sets ≤ length ds
-  pub stamps-long : most_sets ≤ length ss
-  pub keyed-long : keys ≤ length ks
-  pub keyed : KeyedBy ss ks g.peaks g.sets
-  pub versions-long : most_groups ≤ length vs
-
-abbrev pub line_in : Gathered → List ℕ → List ℕ → ℕ → List ℕ
-line_in g ds ss v = line_by g.site g.seq (take g.disputes ds) (take g.sets ss) v
+-- ---- line 0
 
 -- line 0, from the counters and the objects as they are lent
 abbrev pub head_of : Counters → List ℕ → List ℕ

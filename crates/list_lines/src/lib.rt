@@ -4,7 +4,7 @@
 ghost use Rattle.std.specs.Prelude.{◌≡◌, true, [], ◌≤◌, ◌<◌, length, get_or, take};
 ghost use Rattle.math_lists.specs.NumbersBelow.{sum};
 ghost use Rattle.edit_walk.specs.WalkForms.{Indexed};
-ghost use Rattle.group_step.specs.GroupRows.{most_objects, most_groups};
+ghost use Rattle.group_step.specs.GroupRows.{most_objects};
 ghost use Rattle.table_drawing.specs.Tables.{groups_at, tables_of};
 ghost use Rattle.table_drawing.specs.AnswerNumbers.{number_of};
 ghost use Rattle.table_soundness.specs.Sound.{sound};
@@ -12,15 +12,15 @@ ghost use Rattle.table_output.specs.Output.{writing};
 ghost use Rattle.list_line.specs.Line.{line_length};
 ghost use Rattle.list_lines.specs.List.{lines_for, lines_of};
 ghost use Rattle.list_lines.specs.LineByNumber.{line_of};
-ghost use Rattle.list_lines.specs.LinesForms.{LongEnough, line_in, head_of, FoundIn, NumberedAs};
+ghost use Rattle.list_lines.specs.LinesForms.{head_of, FoundIn, NumberedAs};
 
 use edit_walk::PLACES;
-use group_step::{GROUPS, OBJECTS, SETS};
+use group_step::{OBJECTS, SETS};
 use list_line::LINE;
 use list_line::alone::put_lone_line;
 use list_objects::order::sort_objects;
-use list_objects::{Gathered, gather, put_sets};
-use list_version::ALL_KEYS;
+use list_objects::{gather, put_sets};
+use list_version::gathered::Gathered;
 use table_drawing::entries::at16;
 use table_drawing::{Answer, Counters, ENTRY};
 use table_output::{Written, put_at};
@@ -90,37 +90,6 @@ fn find(
     None
 }
 
-// Puts the line of the v-th version at the front of out.
-fn put_version(
-    out: &mut [u8],
-    g: Gathered,
-    disputes: &[u64],
-    stamps: &[u64],
-    keyed: &[u64],
-    versions: &[u64],
-    v: usize,
-) -> usize
-    requires { LongEnough g disputes.now stamps.now keyed.now versions.now
-        × (v < most_groups)
-        × (line_length ≤ length out.old) }
-    ensures { (take result out.new
-        ≡ line_in g disputes.now stamps.now (get_or versions.now v 0))
-        × (result ≤ line_length) }
-{
-    put_lone_line(
-        out,
-        g.site,
-        g.seq,
-        disputes,
-        g.disputes,
-        stamps,
-        g.sets,
-        keyed,
-        g.peaks,
-        versions[v],
-    )
-}
-
 // Puts the line of a version of object o at the front of out.
 fn put_found(
     out: &mut [u8],
@@ -142,23 +111,9 @@ fn put_found(
     // what work space holds at first does not matter; zeros would be set by memset (docs/DECISIONS.md, 24)
     let mut places = [1u16; SETS];
     put_sets(&mut places, c, records, objects, groups, o);
-    let mut disputes = [1u64; SETS];
-    let mut stamps = [1u64; SETS];
-    let mut versions = [1u64; GROUPS];
-    let mut keyed = [0u64; ALL_KEYS];
-    let g = gather(
-        &mut disputes,
-        &mut stamps,
-        &mut keyed,
-        &mut versions,
-        c,
-        records,
-        objects,
-        groups,
-        &places,
-        o,
-    );
-    put_version(out, g, &disputes, &stamps, &keyed, &versions, v)
+    let mut g = Gathered::none();
+    gather(&mut g, c, records, objects, groups, &places, o);
+    put_lone_line(out, &g, g.versions[v])
 }
 
 // Puts line k at the front of out, if there is one, by the index of the records' places; says how many bytes it has.

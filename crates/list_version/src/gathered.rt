@@ -1,6 +1,6 @@
 // What is gathered of an object before its lines are printed: its Create, its Sets, and its groups in the order of
 // their versions. It is work space that is lent from object to object.
-ghost use Rattle.std.specs.Prelude.{◌≡◌, ◌≤◌};
+ghost use Rattle.std.specs.Prelude.{◌≡◌, ◌≤◌, length};
 ghost use Rattle.group_step.specs.GroupRows.{most_sets, most_groups};
 ghost use Rattle.list_version.specs.VersionForms.{KeyedBy};
 
@@ -10,6 +10,7 @@ use group_step::{GROUPS, SETS};
 // Site and sequence number of the Create; the names of the Sets in dispute, ascending, and how many they are; the stamps
 // of all Sets and how many they are, those that have each key, and the peaks among them; the groups and how many they
 // are. What stands past their numbers does not matter.
+#[derive(Drop)]
 pub struct Gathered {
     pub site: u8,
     pub seq: u16,
@@ -25,6 +26,8 @@ pub struct Gathered {
     pub ghost few_sets: { sets ≤ most_sets },
     pub ghost noted: { KeyedBy stamps keyed peaks sets },
     pub ghost few_groups: { count ≤ most_groups },
+    pub ghost stamps_long: { length stamps ≡ most_sets },
+    pub ghost versions_long: { length versions ≡ most_groups },
 }
 
 impl Gathered {

@@ -1,10 +1,8 @@
 -- `list_line::put_members` meets its contract: the names of the members passed stand behind the first n bytes. Assumes
 -- nothing.
-use mathlib.Core.Path.{◌≡◌, refl, ◌∙◌}
-use Prim.Native.Nat.{◌-◌}
+use mathlib.Core.Path.{refl, ◌∙◌}
 use native.Mathlib.Omega.{arith}
-use lib.ListN.{length, take}
-use lib.Seq.{take_all, length-take-le}
+use lib.ListN.{take}
 use Rattle.list_line.proofs.LineTurns.{no_member, member-more}
 use Rattle.list_line.proofs.put_members.Goals as goal
 

@@ -1,10 +1,8 @@
 -- `list_line::put_settings` meets its contract: the settings of the keys passed stand behind the first n bytes.
 -- Assumes nothing.
-use mathlib.Core.Path.{◌≡◌, refl, sym, ◌∙◌}
-use Prim.Native.Nat.{◌-◌}
+use mathlib.Core.Path.{refl, ◌∙◌}
 use native.Mathlib.Omega.{arith}
 use lib.ListN.{take}
-use Rattle.edit_record.specs.Layout.{keys}
 use Rattle.list_line.proofs.LineTurns.{no_keys, key_more}
 use Rattle.list_line.proofs.put_settings.Goals as goal
 

@@ -2,9 +2,8 @@
 -- Assumes nothing.
 use mathlib.Core.Path.{◌≡◌}
 use mathlib.Core.List.{◌++◌}
-use Prim.Native.Nat.{◌+◌, ◌-◌, ◌*◌, ◌≤◌}
+use Prim.Native.Nat.{◌+◌, ◌*◌, ◌≤◌}
 use lib.ListN.{length, take}
-use Rattle.edit_record.specs.Layout.{keys}
 use Rattle.list_text.specs.Pieces.{equated_length}
 use Rattle.list_line.specs.LineForms.{settings_by, SameNames}
 use Rattle.list_line.proofs.put_settings.Given as goal

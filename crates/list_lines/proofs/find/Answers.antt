@@ -1,7 +1,6 @@
 -- `list_lines::find` meets its contract: objects are passed until the line is one of an object's own. Assumes
 -- nothing.
 use mathlib.Core.Path.{◌∙◌}
-use Prim.Native.Nat.{◌-◌}
 use native.Mathlib.Omega.{arith}
 use Rattle.table_drawing.specs.Tables.{tables_of}
 use Rattle.table_soundness.proofs.SoundFacts.{sound-at}
@@ -9,7 +8,6 @@ use Rattle.list_lines.specs.List.{lines_for}
 use Rattle.list_objects.proofs.KeysByTops.{in_order_lem}
 use Rattle.list_objects.proofs.TopsByIndex.{tops-aimed, creates-held}
 use Rattle.list_lines.proofs.LineFound.{all_left, passed_over, found_at, not_found}
-use borrow.Author.Rules.{rules}
 use Rattle.list_lines.proofs.find.Goals as goal
 
 pub sort_objects-requires : goal.sort_objects-requires

@@ -1,6 +1,5 @@
 -- `list_lines::find` meets its contract: objects are passed until the line is one of an object's own. Assumes
 -- nothing.
-use Prim.Native.Nat.{◌-◌, ◌≤◌}
 use lib.ListN.{take}
 use lib.Seq.{slice}
 use Rattle.table_drawing.specs.Tables.{tables_of}

@@ -1,10 +1,8 @@
 -- `list_lines::version_total` meets its contract: what is added up so far, which stays small. Assumes nothing.
 use mathlib.Core.Path.{◌≡◌, refl, ◌∙◌}
-use Prim.Native.Nat.{◌-◌}
 use native.Mathlib.Numerals.{add-one}
 use native.Mathlib.Omega.{arith}
 use Rattle.math_lists.specs.NumbersBelow.{sum}
-use borrow.Author.Rules.{rules}
 use Rattle.list_lines.proofs.version_total.Goals as goal
 
 pub loop-o-init : goal.loop-o-init

@@ -1,6 +1,6 @@
 -- `list_lines::version_total` meets its contract: what is added up so far, which stays small. Assumes nothing.
 use mathlib.Core.Path.{◌≡◌}
-use Prim.Native.Nat.{◌-◌, ◌*◌, ◌≤◌}
+use Prim.Native.Nat.{◌*◌, ◌≤◌}
 use Rattle.math_lists.specs.NumbersBelow.{sum}
 use Rattle.table_drawing.specs.Tables.{groups_at}
 use Rattle.list_lines.proofs.version_total.Given as goal

@@ -1,9 +1,8 @@
 -- `list_line::alone::put_lone_names` meets its contract: the names of the members passed stand behind the first n
 -- bytes. Assumes nothing.
 use mathlib.Core.Path.{◌≡◌, refl, ◌∙◌}
-use Prim.Native.Nat.{◌-◌}
 use native.Mathlib.Omega.{arith}
-use lib.ListN.{length, take}
+use lib.ListN.{take}
 use lib.Seq.{take_all, length-take-le}
 use Rattle.list_line.proofs.LineTurns.{no_member, member-more}
 use Rattle.list_line.proofs.alone.put_lone_names.Goals as goal

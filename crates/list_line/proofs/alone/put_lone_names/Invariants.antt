@@ -2,7 +2,7 @@
 -- bytes. Assumes nothing.
 use mathlib.Core.Path.{◌≡◌}
 use mathlib.Core.List.{◌∷◌, ◌++◌, flat_map}
-use Prim.Native.Nat.{◌+◌, ◌-◌, ◌*◌, ◌≤◌}
+use Prim.Native.Nat.{◌+◌, ◌*◌, ◌≤◌}
 use lib.ListN.{length, take}
 use Rattle.list_text.specs.Pieces.{plus, dotted_length}
 use Rattle.list_version.specs.VersionForms.{identifier_by}

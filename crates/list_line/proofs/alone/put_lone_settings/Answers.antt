@@ -1,7 +1,6 @@
 -- `list_line::alone::put_lone_settings` meets its contract: the settings of the keys passed stand behind the first n
 -- bytes. Assumes nothing.
 use mathlib.Core.Path.{◌≡◌, refl, ◌∙◌}
-use Prim.Native.Nat.{◌-◌}
 use native.Mathlib.Omega.{arith}
 use lib.ListN.{take}
 use Rattle.edit_record.specs.Layout.{keys}

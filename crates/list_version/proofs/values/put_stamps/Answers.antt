@@ -1,13 +1,12 @@
 -- `list_version::values::put_stamps` meets its contract: the stamps of the Sets passed stand at the front, and it is
 -- noted which keys they have. Assumes nothing.
 use mathlib.Core.Path.{◌≡◌, refl, ap, subst, ◌∙◌}
-use Prim.Native.Nat.{◌-◌, ◌<◌}
+use Prim.Native.Nat.{◌<◌}
 use native.Mathlib.Omega.{arith}
 use lib.ListN.{length, length-set}
 use Rattle.list_version.specs.VersionForms.{KeyedBy}
 use Rattle.list_version.proofs.StampsByKey.{keyed-none}
 use Rattle.list_version.proofs.ValuesByStamps.{stamp-more, stamps-all}
-use borrow.Author.Rules.{rules}
 use Rattle.list_version.proofs.values.put_stamps.Goals as goal
 
 pub loop-i-init : goal.loop-i-init

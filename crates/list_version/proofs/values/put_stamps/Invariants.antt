@@ -1,7 +1,7 @@
 -- `list_version::values::put_stamps` meets its contract: the stamps of the Sets passed stand at the front, and it is
 -- noted which keys they have. Assumes nothing.
 use mathlib.Core.Path.{◌≡◌}
-use Prim.Native.Nat.{ℕ, ◌-◌, ◌≤◌, ◌<◌}
+use Prim.Native.Nat.{ℕ, ◌<◌}
 use lib.ListN.{length}
 use Rattle.edit_record.specs.Layout.{keys}
 use Rattle.list_version.specs.VersionForms.{KeyedTo}

@@ -1,7 +1,7 @@
 -- `list_version::values::sum_of` meets its contract: the total is the sum of the first 2 * i entries, each below
 -- 65,536. Assumes nothing.
 use mathlib.Core.Path.{◌≡◌}
-use Prim.Native.Nat.{◌*◌, ◌-◌, ◌≤◌}
+use Prim.Native.Nat.{◌*◌, ◌≤◌}
 use Rattle.math_lists.specs.NumbersBelow.{sum}
 use Rattle.edit_record.specs.Layout.{most_sites}
 use Rattle.list_version.proofs.SumByPairs.{entry_in}

@@ -1,12 +1,12 @@
 -- `list_line::pieces::Pieces::put_name` meets its contract: the name is formed in the part that is lent. Assumes
 -- nothing.
 use mathlib.Core.Path.{◌≡◌, refl, ◌∙◌}
-use Prim.Native.Nat.{◌+◌, ◌-◌, ◌*◌}
+use Prim.Native.Nat.{◌+◌, ◌*◌}
 use native.Mathlib.Omega.{arith}
-use lib.ListN.{length, set}
-use borrow.Rule.Slice.PartMut.{mid_len, put_mid}
+use lib.ListN.{length}
+use borrow.Rule.Slice.PartMut.{mid_len}
 use Rattle.edit_record.specs.Layout.{keys}
-use Rattle.list_line.specs.LineForms.{piece_length, NameMore}
+use Rattle.list_line.specs.LineForms.{piece_length}
 use Rattle.list_line.proofs.KeptPieces.{name-more}
 use Rattle.list_line.proofs.pieces.Pieces.put_name.Goals as goal
 

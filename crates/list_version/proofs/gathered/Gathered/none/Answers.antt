@@ -13,4 +13,6 @@ invariant_of-result c =
       few_sets = omega arith;
       noted = (keyed-none _ _ (replicate keys 0) refl).keyed;
       few_groups = omega arith;
+      stamps_long = refl;
+      versions_long = refl;
     }
