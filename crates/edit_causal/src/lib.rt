@@ -119,10 +119,8 @@ pub fn vector_sum(v: [u16; SITES]) -> u32
     ensures { result ≡ vector_sum v }
 {
     let mut total: u32 = 0;
-    let mut i: usize = 0;
-    while i < SITES {
+    for i in 0..SITES {
         total += v[i] as u32;
-        i += 1;
     }
     total
 }

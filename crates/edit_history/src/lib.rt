@@ -95,10 +95,8 @@ fn is_ahead_elsewhere(held: &[u16], v: [u16; SITES], s: Site) -> bool
 {
     let own = s.0 as usize;
     let mut found = false;
-    let mut t: usize = 0;
-    while t < SITES {
+    for t in 0..SITES {
         found = found | ((t != own) & (held[t] < v[t]));
-        t += 1;
     }
     found
 }
@@ -118,10 +116,8 @@ pub fn is_larger_somewhere(v: [u16; SITES], w: [u16; SITES]) -> bool
     ensures { result ≡ larger_somewhere v w }
 {
     let mut found = false;
-    let mut s: usize = 0;
-    while s < SITES {
+    for s in 0..SITES {
         found = found | (w[s] < v[s]);
-        s += 1;
     }
     found
 }

@@ -27,12 +27,10 @@ fn is_same_but(x: &[u8], rec: &[u8], s: u8) -> bool
 {
     let own = s as usize;
     let mut same = true;
-    let mut t: usize = 0;
-    while t < SITES {
+    for t in 0..SITES {
         let was = edit_record::pair_at(x, AT_VECTOR + 2 * t);
         let is = edit_record::pair_at(rec, AT_VECTOR + 2 * t);
         same = same & ((t == own) | (was == is));
-        t += 1;
     }
     same
 }
@@ -108,12 +106,10 @@ fn is_same_in(recs: &[u8], r: usize, p: usize, s: u8) -> bool
     let from = r * PLACE;
     let to = p * PLACE;
     let mut same = true;
-    let mut t: usize = 0;
-    while t < SITES {
+    for t in 0..SITES {
         let was = edit_record::pair_at(recs, from + AT_VECTOR + 2 * t);
         let is = edit_record::pair_at(recs, to + AT_VECTOR + 2 * t);
         same = same & ((t == own) | (was == is));
-        t += 1;
     }
     same
 }

@@ -71,11 +71,11 @@ pub const SEQ_NUMBERS: u32 = 65536;
 pub const VALUES: u64 = 4294967296;
 
 // The number of a laptop. It is never taken for a sequence number.
-#[derive(Clone, Copy)]
+#[derive(Clone, Copy, PartialEq, Eq)]
 pub struct Site(pub u8);
 
 // The number of an edit among those of its site, from 1 on; in a vector, how many of them were applied.
-#[derive(Clone, Copy)]
+#[derive(Clone, Copy, PartialEq, Eq)]
 pub struct Seq(pub u16);
 
 // An edit, field by field in the record's order; `tsite` and `tseq` name the target. A member is the number in its
@@ -98,7 +98,7 @@ pub struct Edit {
 pub fn byte_at(s: &[u8], i: usize) -> u8
     ensures { result ≡ get_or s.now i 0 }
 {
-    if i < s.len() { s[i] } else { 0 }
+    s.get(i).copied().unwrap_or(0)
 }
 
 // The number in the two bytes from i on. One test tells that both are there, as they most often are.
@@ -156,10 +156,8 @@ pub fn vector_of(rec: &[u8]) -> [u16; SITES]
     ensures { result ≡ counts most_sites (drop vector_at rec.now) }
 {
     let mut v = [0u16; SITES];
-    let mut i: usize = 0;
-    while i < SITES {
-        v[i] = pair_at(rec, AT_VECTOR + 2 * i);
-        i += 1;
+    for (i, n) in v.iter_mut().enumerate() {
+        *n = pair_at(rec, AT_VECTOR + 2 * i);
     }
     v
 }
@@ -189,11 +187,7 @@ fn padded(rec: &[u8]) -> [u8; RECORD]
     ensures { (i : ℕ) → get_or result i 0 ≡ get_or rec.now i 0 }
 {
     let mut whole = [0u8; RECORD];
-    let mut i: usize = 0;
-    while i < rec.len() {
-        whole[i] = rec[i];
-        i += 1;
-    }
+    whole[..rec.len()].copy_from_slice(rec);
     whole
 }
 
@@ -224,7 +218,7 @@ pub fn encode(e: Edit) -> [u8; PLACE]
 pub fn entry_at(s: &[u16], i: usize) -> u16
     ensures { result ≡ get_or s.now i 0 }
 {
-    if i < s.len() { s[i] } else { 0 }
+    s.get(i).copied().unwrap_or(0)
 }
 
 // Whether an edit of this kind is a Set, be it limited or not.

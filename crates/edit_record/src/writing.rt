@@ -32,11 +32,9 @@ fn with_vector(bytes: [u8; PLACE], v: [u16; SITES]) -> [u8; PLACE]
     ensures { take target_at result ≡ take vector_at bytes ++ count_bytes v }
 {
     let mut out = bytes;
-    let mut i: usize = 0;
-    while i < SITES {
-        let next = with_count(out, AT_VECTOR + 2 * i, v[i]);
+    for (i, &n) in v.iter().enumerate() {
+        let next = with_count(out, AT_VECTOR + 2 * i, n);
         out = next;
-        i += 1;
     }
     out
 }
@@ -69,11 +67,9 @@ pub fn with_list(bytes: [u8; PLACE], count: u32, members: [u32; MEMBERS]) -> [u8
     ensures { result ≡ take record_length bytes ++ four_bytes (count ∷ members) }
 {
     let mut out = with_four(bytes, AT_COUNT, count);
-    let mut i: usize = 0;
-    while i < MEMBERS {
-        let next = with_four(out, AT_MEMBERS + MEMBER * i, members[i]);
+    for (i, &m) in members.iter().enumerate() {
+        let next = with_four(out, AT_MEMBERS + MEMBER * i, m);
         out = next;
-        i += 1;
     }
     out
 }

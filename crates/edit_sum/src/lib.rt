@@ -35,10 +35,8 @@ fn sum_words(s: &[u8], n: usize) -> u32
     ensures { result ≡ sum_of n s.now }
 {
     let mut sum: u32 = 0;
-    let mut i: usize = 0;
-    while i < n {
+    for i in 0..n {
         sum = added(sum, word_at(s, i));
-        i += 1;
     }
     sum
 }

@@ -28,13 +28,11 @@ fn count_sites(recs: &[u8], n: usize) -> [u16; SITES]
     ensures { Counted result (edits_of recs.now n) }
 {
     let mut counts = [0u16; SITES];
-    let mut i: usize = 0;
-    while i < n {
+    for i in 0..n {
         let site = edit_record::byte_at(recs, i * PLACE + AT_SITE) as usize;
         if site < SITES {
             counts[site] = counts[site] + 1;
         }
-        i += 1;
     }
     counts
 }
@@ -45,11 +43,9 @@ pub fn space_places(counts: [u16; SITES], places: &mut [u16])
     ensures { Spaced (λ s. get_or counts s 0) places.new }
 {
     let mut at = SITES as u16;
-    let mut s: usize = 0;
-    while s < SITES {
+    for s in 0..SITES {
         places[s] = at;
         at = at + counts[s];
-        s += 1;
     }
 }
 
@@ -149,13 +145,11 @@ pub fn is_torn_by_news(recs: &[u8], places: &[u16], w: [u16; SITES], s: Site) ->
     let last = latest_seen(w, s, s);
     let was = vector_by(recs, places, s, Seq(last));
     let mut found = edit_history::is_larger_somewhere(was, w);
-    let mut t: u8 = 0;
-    while (t as usize) < SITES {
+    for t in 0..SITES as u8 {
         let q = latest_seen(w, s, Site(t));
         if q != was[t as usize] {
             found = found | is_torn_at(recs, places, w, Site(t), Seq(q));
         }
-        t += 1;
     }
     found
 }

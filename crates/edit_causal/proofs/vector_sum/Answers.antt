@@ -1,7 +1,6 @@
 -- `edit_causal::vector_sum` meets its contract: the total is the sum of the first i entries, each below 65,536. Assumes
 -- nothing.
 use mathlib.Core.Path.{◌≡◌}
-use Prim.Native.Nat.{◌-◌}
 use native.Mathlib.Numerals.{add-one}
 use native.Mathlib.Omega.{arith}
 use lib.ListN.{get_or}
@@ -26,10 +25,10 @@ pub loop-i-preserved : goal.loop-i-preserved
 unfolding sum
 loop-i-preserved c =
     let h : Fits w16 (get_or c.args.v c.loop-i.i 0) = search rules in
-    (omega arith, rw (add-one, c.loop-i.invariant.1), omega arith)
+    (rw (add-one, c.loop-i.invariant.0), omega arith)
 
 pub returns : goal.returns
 unfolding vector_sum
 returns c =
     let k : c.loop-i.i ≡ most_sites = omega arith in
-    rw k at c.loop-i.invariant.1
+    rw k at c.loop-i.invariant.0

@@ -14,7 +14,7 @@ use Rattle.edit_fit.proofs.are_members_wrong.Goals as goal
 
 pub loop-i-init : goal.loop-i-init
 unfolding some
-loop-i-init c = (omega arith, refl, λ h. absurd (omega arith))
+loop-i-init c = (refl, λ h. absurd (omega arith))
 
 pub loop-i-preserved : goal.loop-i-preserved
 loop-i-preserved c =
@@ -27,8 +27,7 @@ loop-i-preserved c =
     ∙ sym (fours-at most_members a.k (drop members_at s) l.i (omega arith) low
     ∙ four-drop members_at s (4 * l.i)) in
     let next : l.i + 1 - 1 ≡ l.i = omega arith in (
-      omega arith,
-      rw (add-one, l.invariant.1, c.name_in-name.ensures, here) (wrong-more a.k l.i m l.last low l.invariant.2),
+      rw (add-one, l.invariant.0, c.name_in-name.ensures, here) (wrong-more a.k l.i m l.last low l.invariant.1),
       λ h. rw (next, c.name_in-name.ensures, here),
     )
 
@@ -38,6 +37,6 @@ returns c e its members =
     let a = c.args in
     let s = drop members_at a.rec.now in
     let k : l.i ≡ a.k = omega arith in
-    l.invariant.1
+    l.invariant.0
     ∙ rw (k, ← members)
     (wrong-all a.k e (omega arith) its (λ i m. rw members (fours-past most_members a.k s i m)))

@@ -2,7 +2,7 @@
 -- for one more as long as one is left. Assumes nothing.
 use mathlib.Core.Path.{◌≡◌, refl, sym, ap, subst, ◌∙◌}
 use mathlib.Core.List.{List, map}
-use Prim.Native.Nat.{ℕ, ◌-◌}
+use Prim.Native.Nat.{ℕ}
 use native.Mathlib.Omega.{arith}
 use borrow.Author.Rules.{rules}
 use lib.ListN.{length, take, length-set}
@@ -17,7 +17,7 @@ unfolding sets_on
 loop-i-init c =
     let a = c.args in
     let none = no-places a.recs.now (is_set_on a.s a.q) in
-    (search rules, refl, none, ap length none)
+    (refl, none, ap length none)
 
 pub offset_bounds-out-w : goal.offset_bounds-out-w
 unfolding sets_on
@@ -58,21 +58,19 @@ loop-i-preserved c =
       | then-is_set_at v ↦ let is = e ∙ v.if-is_set_at.true in
           let room = some_left rs on l.i a.n (omega arith) is in
           rw (v.out-is, v.w-is) (
-            omega arith,
-            simp length-set l.invariant.1,
-            place-more rs on l.out l.w l.i (omega arith) is l.invariant.2,
+            simp length-set l.invariant.0,
+            place-more rs on l.out l.w l.i (omega arith) is l.invariant.1,
             omega (arith, one-counted rs on l.i is),
           )
       | else-is_set_at v ↦ rw (v.out-is, v.w-is, no-place-more rs on l.i (e ∙ v.if-is_set_at.false)) (
-        omega arith,
+        l.invariant.0,
         l.invariant.1,
         l.invariant.2,
-        l.invariant.3,
       )
     ]
 
 pub shape_of-out : goal.shape_of-out
-shape_of-out c = c.loop-i.invariant.1
+shape_of-out c = c.loop-i.invariant.0
 
 pub returns : goal.returns
 returns c =
@@ -81,4 +79,4 @@ returns c =
     let sets : ℕ → List Edit = λ j. sets_on a.s a.q (edits_of a.recs.now j) in
     let done : l.i ≡ a.n = omega arith in
     subst (λ (j : ℕ). (map (record_at a.recs.now) (take l.w l.out) ≡ sets j) × (l.w ≡ length (sets j))) done
-    (l.invariant.2, l.invariant.3)
+    (l.invariant.1, l.invariant.2)

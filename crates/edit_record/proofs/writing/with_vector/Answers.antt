@@ -13,22 +13,19 @@ use Rattle.edit_record.proofs.writing.with_vector.Goals as goal
 
 pub loop-i-init : goal.loop-i-init
 unfolding count_bytes
-loop-i-init c = let b = c.args.bytes in (omega arith, sym (append-nil (take vector_at b)))
+loop-i-init c = let b = c.args.bytes in sym (append-nil (take vector_at b))
 
 pub loop-i-preserved : goal.loop-i-preserved
 loop-i-preserved c =
     let l = c.loop-i in
     let a = c.args in
     let e : vector_at + 2 * (l.i + 1) ≡ vector_at + 2 * l.i + 2 = omega arith in
-    let k : l.i < length a.v = omega arith in (
-      omega arith,
-      rw (e, c.with_count-next.ensures, l.invariant.1, one-count-more (take vector_at a.bytes) a.v l.i k, add-one),
-    )
+    let k : l.i < length a.v = omega arith in rw (e, c.with_count-next.ensures, l.invariant, one-count-more (take vector_at a.bytes) a.v l.i k, add-one)
 
 pub returns : goal.returns
 returns c =
     let l = c.loop-i in
     let a = c.args in
     let k : l.i ≡ most_sites = omega arith in
-    (rw k at l.invariant.1)
+    (rw k at l.invariant)
     ∙ ap (λ (v : List ℕ). take vector_at a.bytes ++ count_bytes v) (take_all most_sites a.v (omega arith))
