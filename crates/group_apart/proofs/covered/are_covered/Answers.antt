@@ -4,7 +4,6 @@ use mathlib.Core.Path.{refl, sym, ap, ◌∙◌}
 use mathlib.Core.Bool.{not}
 use Prim.Native.Nat.{ℕ}
 use native.Mathlib.Omega.{arith}
-use borrow.Author.Rules.{rules}
 use lib.Seq.{slice}
 use Rattle.math_lists.specs.SortedLists.{any}
 use Rattle.group_step.specs.StepForms.{part_of, uncovered}
@@ -12,7 +11,7 @@ use Rattle.group_step.proofs.LoopTurns.{found, not_yet, none_found}
 use Rattle.group_apart.proofs.covered.are_covered.Goals as goal
 
 pub loop-i-init : goal.loop-i-init
-loop-i-init c = (search rules, refl)
+loop-i-init c = refl
 
 pub returns-then-not-is_part_near : goal.returns-then-not-is_part_near
 returns-then-not-is_part_near c =
@@ -22,7 +21,7 @@ returns-then-not-is_part_near c =
     let ys = slice a.t a.n s in
     let is = ap not (c.is_part_near.ensures
     ∙ ap (λ (x : ℕ). any (part_of x) ys) c.candidate_of-x.ensures) in
-    ap not (found (uncovered a.m a.k ys) _ s l.i a.t l.invariant.1 (omega arith) (omega arith)
+    ap not (found (uncovered a.m a.k ys) _ s l.i a.t l.invariant (omega arith) (omega arith)
     (sym is ∙ c.if-not-is_part_near.true-raw))
 
 pub loop-i-preserved : goal.loop-i-preserved
@@ -32,15 +31,12 @@ loop-i-preserved c =
     let s = a.s.now in
     let ys = slice a.t a.n s in
     let is = ap not (c.is_part_near.ensures
-    ∙ ap (λ (x : ℕ). any (part_of x) ys) c.candidate_of-x.ensures) in (
-      omega arith,
-      not_yet (uncovered a.m a.k ys) _ s l.i a.t l.invariant.1 (omega arith) (omega arith)
-          (sym is ∙ c.if-not-is_part_near.false-raw),
-    )
+    ∙ ap (λ (x : ℕ). any (part_of x) ys) c.candidate_of-x.ensures) in not_yet (uncovered a.m a.k ys) _ s l.i a.t l.invariant (omega arith) (omega arith)
+    (sym is ∙ c.if-not-is_part_near.false-raw)
 
 pub returns : goal.returns
 returns c =
     let l = c.loop-i in
     let a = c.args in
     ap not (none_found (uncovered a.m a.k (slice a.t a.n a.s.now)) _ a.s.now l.i a.t
-    l.invariant.1 (omega arith) (omega arith))
+    l.invariant (omega arith) (omega arith))

@@ -24,7 +24,6 @@ loop-i-init c =
     let ys = map (candidate a.m a.k) (filter (compatible a.m) (take a.n a.gs.now)) in (
       search rules,
       search rules,
-      search rules,
       refl,
       refl,
       omega (arith, c.requires.4),
@@ -43,9 +42,9 @@ bounds-out-w c =
     let d = ap not (sym c.is_compatible.ensures ∙ c.if-is_compatible.true) in
     omega (
       arith,
-      l.invariant.4,
+      l.invariant.3,
       place-behind (conflicting a.m) a.gs.now a.t l.a l.w l.i a.n
-          l.invariant.5 l.invariant.3 (omega arith) (omega arith) d,
+          l.invariant.4 l.invariant.2 (omega arith) (omega arith) d,
     )
 
 pub loop-i-preserved : goal.loop-i-preserved
@@ -64,47 +63,45 @@ loop-i-preserved c =
           let e = is ∙ v.if-is_compatible.true in
           let d = ap not e in
           let x = v.candidate_of in
-          let room = place-behind p s a.t l.a l.w l.i a.n l.invariant.5 l.invariant.3 (omega arith) (omega arith)
+          let room = place-behind p s a.t l.a l.w l.i a.n l.invariant.4 l.invariant.2 (omega arith) (omega arith)
           d in
           rw (v.out-is, v.a-is, v.w-is) (
             omega arith,
-            omega arith,
             omega (arith, room),
             omega arith,
-            simp length-set l.invariant.4,
-            not-counted p a.t s l.a l.i a.n l.invariant.5 (omega arith) (omega arith) d,
-            front_same p _ s l.out l.a l.i a.n l.invariant.6 (omega arith) (omega arith) d l.w x.result
+            simp length-set l.invariant.3,
+            not-counted p a.t s l.a l.i a.n l.invariant.4 (omega arith) (omega arith) d,
+            front_same p _ s l.out l.a l.i a.n l.invariant.5 (omega arith) (omega arith) d l.w x.result
                 (omega arith),
-            behind_more q f _ s l.out a.t l.w l.i a.n l.invariant.7 (omega arith) (omega arith) (omega arith)
+            behind_more q f _ s l.out a.t l.w l.i a.n l.invariant.6 (omega arith) (omega arith) (omega arith)
                 (omega (arith, room)) e
                 ∙ ap (λ (y : ℕ). slice a.t (l.w + 1) (set l.out l.w y) ++ ys) (sym x.ensures),
-            drop-set-lt a.n l.out l.w x.result room ∙ l.invariant.8,
+            drop-set-lt a.n l.out l.w x.result room ∙ l.invariant.7,
           )
       | else-is_compatible v ↦
           let e = is ∙ v.if-is_compatible.false in
           let d = ap not e in
-          let more = counted p a.t s l.a l.i a.n l.invariant.5 (omega arith) (omega arith) d in
+          let more = counted p a.t s l.a l.i a.n l.invariant.4 (omega arith) (omega arith) d in
           rw (v.out-is, v.a-is, v.w-is) (
             omega arith,
             omega arith,
             omega arith,
-            omega arith,
-            simp length-set l.invariant.4,
+            simp length-set l.invariant.3,
             more,
-            front-more p _ s l.out l.a l.i a.n l.invariant.6 (omega arith) (omega arith) (omega arith) d,
-            behind-same q f _ s l.out a.t l.w l.i a.n l.invariant.7 (omega arith) (omega arith) e l.a g
+            front-more p _ s l.out l.a l.i a.n l.invariant.5 (omega arith) (omega arith) (omega arith) d,
+            behind-same q f _ s l.out a.t l.w l.i a.n l.invariant.6 (omega arith) (omega arith) e l.a g
                 (omega (arith, more)) (omega (arith, more)),
-            drop-set-lt a.n l.out l.a g (omega arith) ∙ l.invariant.8,
+            drop-set-lt a.n l.out l.a g (omega arith) ∙ l.invariant.7,
           )
     ]
 
 pub shape_of-out : goal.shape_of-out
-shape_of-out c = c.loop-i.invariant.4
+shape_of-out c = c.loop-i.invariant.3
 
 pub returns : goal.returns
 returns c =
     let l = c.loop-i in
     let a = c.args in
     apart-all (conflicting a.m) (compatible a.m) (candidate a.m a.k) a.gs.now l.out a.t l.a
-    l.w l.i a.n (omega arith) (omega arith) _ _ _ l.invariant.1 l.invariant.3 l.invariant.5 l.invariant.6 l.invariant.7
-    l.invariant.8
+    l.w l.i a.n (omega arith) (omega arith) _ _ _ l.invariant.0 l.invariant.2 l.invariant.4 l.invariant.5 l.invariant.6
+    l.invariant.7

@@ -3,7 +3,6 @@
 use mathlib.Core.Path.{refl, ap, ◌∙◌}
 use Prim.Native.Nat.{ℕ}
 use native.Mathlib.Omega.{arith}
-use borrow.Author.Rules.{rules}
 use lib.Bits.{bit_or}
 use lib.ListN.{get_or, set, length-set}
 use Rattle.group_step.specs.StepForms.{gaining, gained}
@@ -12,25 +11,24 @@ use Rattle.group_apart.proofs.gaining.put_bit.Goals as goal
 
 pub loop-i-init : goal.loop-i-init
 unfolding gained
-loop-i-init c = (search rules, refl, refl)
+loop-i-init c = (refl, refl)
 
 pub loop-i-preserved : goal.loop-i-preserved
 unfolding gained
 loop-i-preserved c =
     let l = c.loop-i in
     let a = c.args in (
-      omega arith,
-      simp length-set l.invariant.1,
+      simp length-set l.invariant.0,
       ap (λ (b : ℕ). set l.gs l.i (bit_or (get_or l.gs l.i 0) b)) c.only-b.ensures
-          ∙ made_more (gaining a.k) a.gs.now l.gs l.i l.invariant.2 (omega arith),
+          ∙ made_more (gaining a.k) a.gs.now l.gs l.i l.invariant.1 (omega arith),
     )
 
 pub shape_of-gs : goal.shape_of-gs
-shape_of-gs c = c.loop-i.invariant.1
+shape_of-gs c = c.loop-i.invariant.0
 
 pub returns : goal.returns
 unfolding gained
 returns c =
     let l = c.loop-i in
     let a = c.args in
-    made_all (gaining a.k) a.gs.now l.gs l.i l.invariant.2 a.n (omega arith) (omega arith)
+    made_all (gaining a.k) a.gs.now l.gs l.i l.invariant.1 a.n (omega arith) (omega arith)
