@@ -20,7 +20,7 @@ fn is_nonzero_past(n: u8, rec: &[u8]) -> bool
 {
     let mut found = false;
     for i in n as usize..SITES {
-        found = found | (pair_at(rec, AT_VECTOR + 2 * i) != 0);
+        found |= pair_at(rec, AT_VECTOR + 2 * i) != 0;
     }
     found
 }
@@ -37,7 +37,7 @@ fn are_members_wrong(rec: &[u8], k: usize) -> bool
     for i in 0..k {
         let m = four_at(rec, AT_MEMBERS + MEMBER * i);
         let name = name_in(m);
-        found = found | (m / 256 % 256 != 0) | ((i != 0) & (name <= last));
+        found |= (m / 256 % 256 != 0) | ((i != 0) & (name <= last));
         last = name;
     }
     found
