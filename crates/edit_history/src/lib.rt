@@ -69,7 +69,7 @@ pub fn bumped(v: [u16; SITES], s: Site) -> [u16; SITES]
     let mut w = v;
     let i = s.0 as usize;
     if i < SITES {
-        w[i] = w[i] + 1;
+        w[i] += 1;
     }
     w
 }
@@ -96,7 +96,7 @@ fn is_ahead_elsewhere(held: &[u16], v: [u16; SITES], s: Site) -> bool
     let own = s.0 as usize;
     let mut found = false;
     for t in 0..SITES {
-        found = found | ((t != own) & (held[t] < v[t]));
+        found |= (t != own) & (held[t] < v[t]);
     }
     found
 }
@@ -117,7 +117,7 @@ pub fn is_larger_somewhere(v: [u16; SITES], w: [u16; SITES]) -> bool
 {
     let mut found = false;
     for s in 0..SITES {
-        found = found | (w[s] < v[s]);
+        found |= w[s] < v[s];
     }
     found
 }

@@ -26,7 +26,7 @@ fn word_at(s: &[u8], i: usize) -> u32
 pub fn added(a: u32, b: u32) -> u32
     ensures { result ≡ wrapped (a + b) }
 {
-    std::num::wrapping_add_u32(a, b)
+    a.wrapping_add(b)
 }
 
 // The first n words added up, wrapped at the top.

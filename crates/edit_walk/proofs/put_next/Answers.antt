@@ -87,9 +87,6 @@ bounds-held-own c =
 pub overflow_add-held : goal.overflow_add-held
 overflow_add-held c = omega (arith, few-counted c.before.before.before.before.before.before.before.before)
 
-pub offset_bounds-held-own-2 : goal.offset_bounds-held-own-2
-offset_bounds-held-own-2 c = omega (arith, own-counts c.before.before.before.before.before.before.before.before)
-
 pub bounds-held-own-2 : goal.bounds-held-own-2
 bounds-held-own-2 c =
     let s = c.before.before.before.before.before.before.before.before in

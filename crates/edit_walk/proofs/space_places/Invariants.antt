@@ -16,5 +16,5 @@ room_of counts s = get_or counts s 0
 abbrev pub invariant-loop-s : goal.invariant-loop-s
 invariant-loop-s l =
     (length l.places ≡ places_length)
-    × (l.at ≡ most_sites + sum l.s (room_of l.counts))
-    × Started (room_of l.counts) l.places l.s
+    × (l.at ≡ most_sites + sum l.s (room_of l.n-items))
+    × Started (room_of l.n-items) l.places l.s
