@@ -34,7 +34,7 @@ fn is_as_counted(held: &[u16], rec: &[u8], s: u8) -> bool
     let mut same = true;
     for t in 0..SITES {
         let is = edit_record::pair_at(rec, AT_VECTOR + 2 * t);
-        same = same & ((t == own) | (held[t] == is));
+        same &= (t == own) | (held[t] == is);
     }
     same
 }
