@@ -1,4 +1,4 @@
--- What the library's `any` and `count` say of a list, in the words of this project. Assumes nothing.
+-- What the library's `list_any` and `count_by` say of a list, in the words of this project. Assumes nothing.
 use mathlib.Core.Path.{◌≡◌, refl, ap, ◌∙◌}
 use mathlib.Core.Bool.{Bool, true, false, ◌||◌, cond}
 use mathlib.Core.List.{List, [], ◌∷◌}
