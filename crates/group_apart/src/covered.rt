@@ -47,12 +47,7 @@ fn is_part_of_any(s: &[u64], t: usize, n: usize, x: u64) -> bool
     requires { (t ≤ n) × (n ≤ length s.now) }
     ensures { result ≡ any (part_of x) (slice t n s.now) }
 {
-    for j in t..n {
-        if is_part(x, s[j]) {
-            return true;
-        }
-    }
-    false
+    s[t..n].iter().any(|&y| is_part(x, y))
 }
 
 // The same, with place i tried first.
@@ -74,9 +69,8 @@ fn are_covered(s: &[u64], t: usize, n: usize, m: u64, k: usize) -> bool
     requires { (t ≤ n) × (n ≤ length s.now) × (n ≤ most_groups) × (k < most_sets) }
     ensures { result ≡ all_covered m k (slice t n s.now) (take t s.now) }
 {
-    for i in 0..t {
-        let x = candidate_of(m, k, s[i]);
-        if !is_part_near(s, t, t + i, n, x) {
+    for (i, &g) in s[..t].iter().enumerate() {
+        if !is_part_near(s, t, t + i, n, candidate_of(m, k, g)) {
             return false;
         }
     }

@@ -11,8 +11,8 @@ pub fn put_bit(gs: &mut [u64], n: usize, k: usize)
     ensures { gs.new ≡ gained k (take n gs.old) ++ drop n gs.old }
 {
     let b = only(k);
-    for i in 0..n {
-        gs[i] = gs[i] | b;
+    for g in &mut gs[..n] {
+        *g |= b;
     }
 }
 
