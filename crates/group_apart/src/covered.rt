@@ -30,8 +30,7 @@ fn put_apart(gs: &[u64], n: usize, m: u64, k: usize, t: usize, out: &mut [u64])
 {
     let mut a: usize = 0;
     let mut w = t;
-    for i in 0..n {
-        let g = gs[i];
+    for &g in &gs[..n] {
         if is_compatible(m, g) {
             out[w] = candidate_of(m, k, g);
             w += 1;
