@@ -109,7 +109,7 @@ pub fn two_at(s: &[u8], i: usize) -> u16
     if i + 1 < s.len() {
         return pair_at(s, i);
     }
-    byte_at(s, i) as u16 + byte_at(s, i + 1) as u16 * 256
+    u16::from_le_bytes([byte_at(s, i), byte_at(s, i + 1)])
 }
 
 // The number in the four bytes from i on, in the same way.
@@ -118,18 +118,9 @@ pub fn four_at(s: &[u8], i: usize) -> u32
     ensures { result ≡ four s.now i }
 {
     if i + 3 < s.len() {
-        let low = pair_at(s, i);
-        let high = pair_at(s, i + 2);
-        return low as u32 + high as u32 * 65536;
+        return quad_at(s, i);
     }
     two_at(s, i) as u32 + two_at(s, i + 2) as u32 * 65536
-}
-
-// The number in two bytes.
-fn both(low: u8, high: u8) -> u16
-    ensures { result ≡ low + high * 256 }
-{
-    low as u16 + high as u16 * 256
 }
 
 // The number in the two bytes from i on, which are both there.
@@ -137,7 +128,15 @@ pub fn pair_at(s: &[u8], i: usize) -> u16
     requires { i + 1 < length s.now }
     ensures { result ≡ two s.now i }
 {
-    both(s[i], s[i + 1])
+    u16::from_le_bytes([s[i], s[i + 1]])
+}
+
+// The number in the four bytes from i on, which are all there.
+pub fn quad_at(s: &[u8], i: usize) -> u32
+    requires { i + 3 < length s.now }
+    ensures { result ≡ four s.now i }
+{
+    u32::from_le_bytes([s[i], s[i + 1], s[i + 2], s[i + 3]])
 }
 
 // How many bytes the record at the front of rec has: a limited Set by the count that is stored.
@@ -273,7 +272,5 @@ pub fn value_of(rec: &[u8]) -> u32
     requires { record_length ≤ length rec.now }
     ensures { result ≡ four rec.now value_at }
 {
-    let low = pair_at(rec, AT_VALUE);
-    let high = pair_at(rec, AT_VALUE + 2);
-    low as u32 + high as u32 * 65536
+    quad_at(rec, AT_VALUE)
 }

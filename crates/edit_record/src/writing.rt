@@ -24,7 +24,8 @@ fn with_count(bytes: [u8; PLACE], i: usize, n: u16) -> [u8; PLACE]
     requires { i + 1 < place_length }
     ensures { take (i + 2) result ≡ take i bytes ++ count_bytes (n ∷ []) }
 {
-    with_two(bytes, i, (n % 256) as u8, (n / 256 % 256) as u8)
+    let [low, high] = n.to_le_bytes();
+    with_two(bytes, i, low, high)
 }
 
 // The bytes before a vector as they stand, then those of its counts.
@@ -58,8 +59,7 @@ pub fn encode_fields(e: Edit) -> [u8; PLACE]
     let seen = with_vector(own, v);
     let target = with_two(seen, AT_TARGET, e.tsite.0, e.key);
     let named = with_count(target, AT_TARGET_SEQ, e.tseq.0);
-    let low = with_count(named, AT_VALUE, (e.value % 65536) as u16);
-    with_count(low, AT_VALUE + 2, (e.value / 65536) as u16)
+    with_four(named, AT_VALUE, e.value)
 }
 
 // The bytes before the count of a list as they stand, then those of the count and of the members.

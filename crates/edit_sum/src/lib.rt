@@ -17,9 +17,7 @@ fn word_at(s: &[u8], i: usize) -> u32
     requires { i * word_length + word_length ≤ length s.now }
     ensures { result ≡ word_at s.now i }
 {
-    let low = edit_record::pair_at(s, i * WORD);
-    let high = edit_record::pair_at(s, i * WORD + 2);
-    low as u32 + high as u32 * 65536
+    edit_record::quad_at(s, i * WORD)
 }
 
 // The sum of two numbers, wrapped at the top.
