@@ -32,12 +32,7 @@ pub fn decode_at(recs: &[u8], p: usize) -> Edit
     requires { p < two_bytes }
     ensures { result ≡ record_at recs.now p }
 {
-    let at = p * PLACE;
-    if at <= recs.len() {
-        edit_record::decode(&recs[at..])
-    } else {
-        edit_record::decode(&recs[..0])
-    }
+    edit_record::decode(recs.get(p * PLACE..).unwrap_or(&[]))
 }
 
 // The vector of the edit in place p, read where it stands.
