@@ -16,11 +16,6 @@ pub loop-x-init : goal.loop-x-init
 unfolding sum
 loop-x-init c = search rules
 
-pub overflow_add-total : goal.overflow_add-total
-overflow_add-total c =
-    let h : Fits w16 (get_or c.args.v c.loop-x.x-index 0) = search rules in
-    omega arith
-
 pub loop-x-preserved : goal.loop-x-preserved
 unfolding sum
 loop-x-preserved c =

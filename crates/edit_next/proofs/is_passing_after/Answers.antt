@@ -4,11 +4,6 @@ use Rattle.edit_record.specs.RecordBytes.{decode_of}
 use Rattle.edit_next.proofs.NextDecides.{next-tells}
 use Rattle.edit_next.proofs.is_passing_after.Goals as goal
 
-pub is_next_at-requires : goal.is_next_at-requires
-is_next_at-requires c =
-    let s = c in
-    (s.requires.0, s.requires.1, λ l. c.in-Some.ensures.0)
-
 pub returns-then-is_next_at : goal.returns-then-is_next_at
 returns-then-is_next_at c =
     let s = c in

@@ -1,13 +1,10 @@
 -- `edit_object::put_places` meets its contract: the places of the Sets passed stand at the front, and there is room
 -- for one more as long as one is left. Assumes nothing.
-use mathlib.Core.Path.{◌≡◌, refl, sym, ap, subst, ◌∙◌}
-use mathlib.Core.List.{List, map}
-use Prim.Native.Nat.{ℕ}
+use mathlib.Core.Path.{refl, sym, ap, ◌∙◌}
 use native.Mathlib.Omega.{arith}
 use borrow.Author.Rules.{rules}
-use lib.ListN.{length, take, length-set}
-use Rattle.edit_record.specs.declared.Edit.{Edit}
-use Rattle.edit_history.specs.EditsHeld.{record_at, edits_of, is_set_on, sets_on}
+use lib.ListN.{length, length-set}
+use Rattle.edit_history.specs.EditsHeld.{is_set_on, sets_on}
 use Rattle.edit_object.proofs.PlacesPassed.{place-more, no-place-more, one-counted, some_left, no-places}
 use Rattle.edit_object.proofs.put_places.Goals as goal
 use Rattle.edit_object.proofs.put_places.Goals.{then-is_set_at, else-is_set_at}
@@ -19,27 +16,9 @@ loop-i-init c =
     let none = no-places a.recs.now (is_set_on a.s a.q) in
     (refl, none, ap length none)
 
-pub offset_bounds-out-w : goal.offset_bounds-out-w
-unfolding sets_on
-offset_bounds-out-w c =
-    let l = c.loop-i in
-    let a = c.args in
-    let is = sym c.is_set_at.ensures ∙ c.if-is_set_at.true in
-    let room = some_left a.recs.now (is_set_on a.s a.q) l.i a.n (omega arith) is in
-    search rules
-
 pub bounds-out-w : goal.bounds-out-w
 unfolding sets_on
 bounds-out-w c =
-    let l = c.loop-i in
-    let a = c.args in
-    let is = sym c.is_set_at.ensures ∙ c.if-is_set_at.true in
-    let room = some_left a.recs.now (is_set_on a.s a.q) l.i a.n (omega arith) is in
-    search rules
-
-pub overflow_add-w : goal.overflow_add-w
-unfolding sets_on
-overflow_add-w c =
     let l = c.loop-i in
     let a = c.args in
     let is = sym c.is_set_at.ensures ∙ c.if-is_set_at.true in
@@ -68,15 +47,3 @@ loop-i-preserved c =
         l.invariant.2,
       )
     ]
-
-pub shape_of-out : goal.shape_of-out
-shape_of-out c = c.loop-i.invariant.0
-
-pub returns : goal.returns
-returns c =
-    let l = c.loop-i in
-    let a = c.args in
-    let sets : ℕ → List Edit = λ j. sets_on a.s a.q (edits_of a.recs.now j) in
-    let done : l.i ≡ a.n = omega arith in
-    subst (λ (j : ℕ). (map (record_at a.recs.now) (take l.w l.out) ≡ sets j) × (l.w ≡ length (sets j))) done
-    (l.invariant.1, l.invariant.2)

@@ -4,12 +4,12 @@ use mathlib.Core.Path.{◌≡◌, sym, ◌∙◌}
 use Prim.Native.Nat.{◌<◌, ◌*◌}
 use native.Mathlib.Numerals.{add-one}
 use native.Mathlib.Omega.{arith}
-use lib.Seq.{take-suc-set, take_all}
+use lib.Seq.{take-suc-set}
 use lib.ListN.{length, drop, length-set}
 use borrow.Author.Rules.{rules}
 use Rattle.edit_record.proofs.NumbersInBytes.{counts-more, two-drop}
 use Rattle.edit_record.specs.RecordBytes.{counts, two}
-use Rattle.edit_record.specs.Layout.{most_sites, vector_at}
+use Rattle.edit_record.specs.Layout.{vector_at}
 use Rattle.edit_record.proofs.vector_of.Goals as goal
 
 pub loop-i-init : goal.loop-i-init
@@ -28,9 +28,3 @@ loop-i-preserved c =
       rw (add-one, take-suc-set v i c.pair_at.result l, c.loop-i.invariant.1, e)
           (sym (counts-more i (drop vector_at s))),
     )
-
-pub returns : goal.returns
-returns c =
-    let v = c.loop-i.n-items in
-    let k : c.loop-i.i ≡ most_sites = omega arith in
-    sym (take_all most_sites v (omega arith)) ∙ (rw k at c.loop-i.invariant.1)

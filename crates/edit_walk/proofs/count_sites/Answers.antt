@@ -43,8 +43,3 @@ loop-i-preserved c =
       rw (add-one, e, c.byte_at-site.ensures, ← site-in-place rs l.i)
           (unfold edits_of in counted-more l.counts (edits_of rs l.i) l.invariant.0 l.invariant.1 (record_at rs l.i)),
     )
-
-pub returns : goal.returns
-returns c =
-    let k : c.loop-i.i ≡ c.args.n = omega arith in
-    rw (← k) c.loop-i.invariant.1

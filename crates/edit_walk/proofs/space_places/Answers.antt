@@ -4,7 +4,6 @@ use mathlib.Core.Path.{◌≡◌}
 use native.Mathlib.Numerals.{add-one}
 use native.Mathlib.Omega.{arith}
 use lib.ListN.{length-set}
-use borrow.Author.Rules.{rules}
 use Rattle.math_lists.specs.NumbersBelow.{sum}
 use Rattle.math_lists.proofs.NumbersBelow.{sum_past}
 use Rattle.edit_record.specs.Layout.{most_sites}
@@ -31,9 +30,6 @@ loop-s-preserved c =
       rw add-one (omega (arith, l.invariant.1)),
       rw add-one (started-more room l.places l.s l.at (omega (arith, l.invariant.0)) l.invariant.1 l.invariant.2),
     )
-
-pub shape_of-places : goal.shape_of-places
-shape_of-places c = search (rules, c.loop-s.invariant.0, c.requires.1)
 
 pub returns : goal.returns
 returns c =

@@ -1,6 +1,6 @@
 -- `group_context::meeting_rows` meets its contract: those found are those passed whose number has a member of m.
 -- Assumes nothing.
-use mathlib.Core.Path.{◌≡◌, refl, sym, ap, ◌∙◌}
+use mathlib.Core.Path.{refl, sym, ap, ◌∙◌}
 use Prim.Native.Nat.{ℕ}
 use native.Mathlib.Omega.{arith}
 use lib.Bits.{bit_and}
@@ -28,11 +28,3 @@ loop-j-preserved c =
       | else-row-m-ne0 v ↦ v.found-is ∙ none_more s a.m l.found l.j l.invariant
           (sym here ∙ v.if-row-m-ne0.false)
     ]
-
-pub returns : goal.returns
-returns c =
-    let l = c.loop-j in
-    let a = c.args in
-    let all = length-take-le a.n a.rows.now (omega arith) in
-    let done : l.j ≡ a.n = omega arith in
-    l.invariant ∙ ap (λ (j : ℕ). meeting a.rows.now j a.m) done

@@ -1,12 +1,11 @@
 -- `edit_record::writing::with_vector` meets its contract: the bytes of the first i counts stand. Assumes nothing.
-use mathlib.Core.Path.{◌≡◌, sym, ap, ◌∙◌}
-use mathlib.Core.List.{List, ◌++◌, append-nil}
-use Prim.Native.Nat.{ℕ, ◌<◌, ◌+◌, ◌*◌}
+use mathlib.Core.Path.{◌≡◌, sym}
+use mathlib.Core.List.{append-nil}
+use Prim.Native.Nat.{◌<◌, ◌+◌, ◌*◌}
 use native.Mathlib.Numerals.{add-one}
 use native.Mathlib.Omega.{arith}
 use lib.ListN.{length, take}
-use lib.Seq.{take_all}
-use Rattle.edit_record.specs.Layout.{most_sites, vector_at}
+use Rattle.edit_record.specs.Layout.{vector_at}
 use Rattle.edit_record.specs.RecordBytes.{count_bytes}
 use Rattle.edit_record.proofs.Encoding.{one-count-more}
 use Rattle.edit_record.proofs.writing.with_vector.Goals as goal
@@ -21,11 +20,3 @@ loop-i-preserved c =
     let a = c.args in
     let e : vector_at + 2 * (l.i + 1) ≡ vector_at + 2 * l.i + 2 = omega arith in
     let k : l.i < length a.v = omega arith in rw (e, c.with_count-next.ensures, l.invariant, one-count-more (take vector_at a.bytes) a.v l.i k, add-one)
-
-pub returns : goal.returns
-returns c =
-    let l = c.loop-i in
-    let a = c.args in
-    let k : l.i ≡ most_sites = omega arith in
-    (rw k at l.invariant)
-    ∙ ap (λ (v : List ℕ). take vector_at a.bytes ++ count_bytes v) (take_all most_sites a.v (omega arith))

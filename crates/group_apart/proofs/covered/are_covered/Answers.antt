@@ -1,6 +1,6 @@
 -- `group_apart::covered::are_covered` meets its contract: what remains of each number passed is part of one of those
 -- behind, so those left decide. Assumes nothing.
-use mathlib.Core.Path.{refl, sym, ap, ◌∙◌}
+use mathlib.Core.Path.{sym, ap, ◌∙◌}
 use mathlib.Core.Bool.{not}
 use Prim.Native.Nat.{ℕ}
 use native.Mathlib.Omega.{arith}
@@ -10,9 +10,6 @@ use Rattle.math_maximal.specs.Step.{candidate}
 use Rattle.group_step.specs.StepForms.{part_of, uncovered}
 use Rattle.group_step.proofs.LoopTurns.{found, not_yet, none_found}
 use Rattle.group_apart.proofs.covered.are_covered.Goals as goal
-
-pub loop-i-init : goal.loop-i-init
-loop-i-init c = refl
 
 pub returns-then-not-is_part_near : goal.returns-then-not-is_part_near
 returns-then-not-is_part_near c =

@@ -100,9 +100,6 @@ loop-g-preserved c =
           )
     ]
 
-pub shape_of-out : goal.shape_of-out
-shape_of-out c = c.loop-g.invariant.3
-
 pub returns : goal.returns
 returns c =
     let l = c.loop-g in
