@@ -44,8 +44,7 @@ pub fn vector_at(recs: &[u8], p: usize) -> [u16; SITES]
     if at + RECORD <= recs.len() {
         return edit_record::vector_of(&recs[at..]);
     }
-    let e = decode_at(recs, p);
-    e.vector
+    decode_at(recs, p).vector
 }
 
 // The kind of the edit in place p, read where it stands.

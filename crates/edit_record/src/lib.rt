@@ -245,8 +245,7 @@ pub fn is_aimed_kind(kind: u8) -> bool
 pub fn entry(v: [u16; SITES], s: Site) -> Seq
     ensures { result ≡ entry_of v s }
 {
-    let i = s.0 as usize;
-    if i < SITES { Seq(v[i]) } else { Seq(0) }
+    Seq(entry_at(&v, s.0 as usize))
 }
 
 // The name of a member: its site and its sequence number as one number.
