@@ -52,11 +52,7 @@ fn with_part(rec: [u8; RECORD], to: usize, s: &[u8], from: usize, n: usize) -> [
     ensures { result ≡ take to rec ++ (take n (drop from s.now) ++ drop (to + n) rec) }
 {
     let mut out = rec;
-    let mut i: usize = 0;
-    while i < n {
-        out[to + i] = s[from + i];
-        i += 1;
-    }
+    out[to..to + n].copy_from_slice(&s[from..from + n]);
     out
 }
 

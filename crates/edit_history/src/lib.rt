@@ -32,12 +32,7 @@ pub fn decode_at(recs: &[u8], p: usize) -> Edit
     requires { p < two_bytes }
     ensures { result ≡ record_at recs.now p }
 {
-    let at = p * PLACE;
-    if at <= recs.len() {
-        edit_record::decode(&recs[at..])
-    } else {
-        edit_record::decode(&recs[..0])
-    }
+    edit_record::decode(recs.get(p * PLACE..).unwrap_or(&[]))
 }
 
 // The vector of the edit in place p, read where it stands.
@@ -49,8 +44,7 @@ pub fn vector_at(recs: &[u8], p: usize) -> [u16; SITES]
     if at + RECORD <= recs.len() {
         return edit_record::vector_of(&recs[at..]);
     }
-    let e = decode_at(recs, p);
-    e.vector
+    decode_at(recs, p).vector
 }
 
 // The kind of the edit in place p, read where it stands.
@@ -69,7 +63,7 @@ pub fn bumped(v: [u16; SITES], s: Site) -> [u16; SITES]
     let mut w = v;
     let i = s.0 as usize;
     if i < SITES {
-        w[i] = w[i] + 1;
+        w[i] += 1;
     }
     w
 }
@@ -95,10 +89,8 @@ fn is_ahead_elsewhere(held: &[u16], v: [u16; SITES], s: Site) -> bool
 {
     let own = s.0 as usize;
     let mut found = false;
-    let mut t: usize = 0;
-    while t < SITES {
-        found = found | ((t != own) & (held[t] < v[t]));
-        t += 1;
+    for t in 0..SITES {
+        found |= (t != own) & (held[t] < v[t]);
     }
     found
 }
@@ -118,10 +110,8 @@ pub fn is_larger_somewhere(v: [u16; SITES], w: [u16; SITES]) -> bool
     ensures { result ≡ larger_somewhere v w }
 {
     let mut found = false;
-    let mut s: usize = 0;
-    while s < SITES {
-        found = found | (w[s] < v[s]);
-        s += 1;
+    for s in 0..SITES {
+        found |= w[s] < v[s];
     }
     found
 }

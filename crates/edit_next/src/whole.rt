@@ -32,11 +32,9 @@ fn is_as_counted(held: &[u16], rec: &[u8], s: u8) -> bool
 {
     let own = s as usize;
     let mut same = true;
-    let mut t: usize = 0;
-    while t < SITES {
+    for t in 0..SITES {
         let is = edit_record::pair_at(rec, AT_VECTOR + 2 * t);
-        same = same & ((t == own) | (held[t] == is));
-        t += 1;
+        same &= (t == own) | (held[t] == is);
     }
     same
 }

@@ -11,10 +11,8 @@ pub fn put_bit(gs: &mut [u64], n: usize, k: usize)
     ensures { gs.new ≡ gained k (take n gs.old) ++ drop n gs.old }
 {
     let b = only(k);
-    let mut i: usize = 0;
-    while i < n {
-        gs[i] = gs[i] | b;
-        i += 1;
+    for g in &mut gs[..n] {
+        *g |= b;
     }
 }
 
