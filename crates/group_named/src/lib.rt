@@ -32,10 +32,8 @@ fn is_limited_held(recs: &[u8], n: usize) -> bool
     ensures { result ≡ any is_limited (edits_of recs.now n) }
 {
     let mut found = false;
-    let mut i: usize = 0;
-    while i < n {
+    for i in 0..n {
         found = found | (edit_history::kind_at(recs, i) == LIMITED);
-        i += 1;
     }
     found
 }
@@ -119,8 +117,7 @@ fn are_named_each(
 {
     let end = n - 1;
     let mut named = true;
-    let mut i: usize = 0;
-    while i < n {
+    for i in 0..n {
         let p = swapped(i, end, last);
         let own = are_named_at(
             members,
@@ -135,7 +132,6 @@ fn are_named_each(
             i == end,
         );
         named = named & own;
-        i += 1;
     }
     named
 }

@@ -89,10 +89,8 @@ pub fn put_names(names: &mut [u32], recs: &[u8], places: &[u16], k: usize)
     requires { (k ≤ length names.old) × (k ≤ length places.now) }
     ensures { NamesIn recs.now places.now k names.new }
 {
-    let mut i: usize = 0;
-    while i < k {
+    for i in 0..k {
         names[i] = name_at(recs, places[i]);
-        i += 1;
     }
 }
 
@@ -134,12 +132,10 @@ fn sum_of_name(names: &[u32], k: usize, x: u32) -> u32
     ensures { result ≡ sum_of_name names.now k x }
 {
     let mut t: u32 = 0;
-    let mut i: usize = 0;
-    while i < k {
+    for i in 0..k {
         if names[i] == x {
             t = t + (FOUND + i as u32);
         }
-        i += 1;
     }
     t
 }
@@ -150,10 +146,8 @@ fn marks_one_by_one(names: &[u32], k: usize, x: u32) -> u64
     ensures { result ≡ marks_of_name names.now k x }
 {
     let mut m: u64 = 0;
-    let mut i: usize = 0;
-    while i < k {
+    for i in 0..k {
         m = marked_if(names[i] == x, m, i);
-        i += 1;
     }
     m
 }
@@ -219,12 +213,10 @@ pub fn listed_among(names: &[u32], k: usize, seen: u64, rec: &[u8]) -> NamedBefo
     let count = edit_record::two_at(rec, AT_COUNT);
     let mut named: u64 = 0;
     let mut strange = false;
-    let mut i: usize = 0;
-    while i < n {
+    for i in 0..n {
         let m = marks_of_name(names, k, edit_record::name_in(member_of(rec, count, i)));
         named = named | m;
         strange = strange | (m & seen == 0);
-        i += 1;
     }
     NamedBefore { named, strange }
 }

@@ -10,9 +10,5 @@ use Rattle.group_kept.proofs.put_rows.Given as goal
 
 abbrev pub invariant-loop-i : goal.invariant-loop-i
 invariant-loop-i l =
-    (l.i ≤ l.k)
-    × (length l.rows ≡ length l.initial.rows)
+    (length l.rows ≡ length l.initial.rows)
     × (Proper (sets_in l.recs l.places l.i) → RowsKept (sets_in l.recs l.places l.i) l.rows)
-
-abbrev pub decreases-loop-i : goal.decreases-loop-i
-decreases-loop-i l = l.k - l.i

@@ -24,19 +24,16 @@ kind_at-requires c = omega (arith, c.shared_slice_known-in-loop-i-1.given c.loop
 pub loop-i-preserved : goal.loop-i-preserved
 loop-i-preserved c =
     let l = c.loop-i in
-    let a = c.args in (
-      omega arith,
-      rw (
-        add-one,
-        any-more (record_at a.recs.now) 0 a.places.now l.i (omega arith) is_limited,
-        l.invariant.1,
-        c.kind_at.ensures,
-      ),
-    )
+    let a = c.args in (rw (
+      add-one,
+      any-more (record_at a.recs.now) 0 a.places.now l.i (omega arith) is_limited,
+      l.invariant,
+      c.kind_at.ensures,
+    ))
 
 pub returns : goal.returns
 returns c =
     let l = c.loop-i in
     let a = c.args in
     let done : l.i ≡ a.k = omega arith in
-    l.invariant.1 ∙ ap (λ (j : ℕ). any is_limited (sets_in a.recs.now a.places.now j)) done
+    l.invariant ∙ ap (λ (j : ℕ). any is_limited (sets_in a.recs.now a.places.now j)) done

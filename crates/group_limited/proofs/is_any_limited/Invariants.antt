@@ -7,7 +7,4 @@ use Rattle.group_sight.specs.SightForms.{sets_in}
 use Rattle.group_limited.proofs.is_any_limited.Given as goal
 
 abbrev pub invariant-loop-i : goal.invariant-loop-i
-invariant-loop-i l = (l.i ≤ l.k) × (l.found ≡ any is_limited (sets_in l.recs l.places l.i))
-
-abbrev pub decreases-loop-i : goal.decreases-loop-i
-decreases-loop-i l = l.k - l.i
+invariant-loop-i l = l.found ≡ any is_limited (sets_in l.recs l.places l.i)

@@ -19,14 +19,11 @@ unfolding edits_of
 loop-i-preserved c =
     let l = c.loop-i in
     let a = c.args in
-    let rs = a.recs.now in (
-      omega arith,
-      rw (add-one, any_snoc is_limited (edits_of rs l.i) (record_at rs l.i), l.invariant.1, c.kind_at.ensures),
-    )
+    let rs = a.recs.now in (rw (add-one, any_snoc is_limited (edits_of rs l.i) (record_at rs l.i), l.invariant, c.kind_at.ensures))
 
 pub returns : goal.returns
 returns c =
     let l = c.loop-i in
     let a = c.args in
     let done : l.i ≡ a.n = omega arith in
-    l.invariant.1 ∙ ap (λ (j : ℕ). any is_limited (edits_of a.recs.now j)) done
+    l.invariant ∙ ap (λ (j : ℕ). any is_limited (edits_of a.recs.now j)) done

@@ -7,7 +7,4 @@ use Rattle.edit_history.specs.EditsHeld.{edits_of}
 use Rattle.group_named.proofs.is_limited_held.Given as goal
 
 abbrev pub invariant-loop-i : goal.invariant-loop-i
-invariant-loop-i l = (l.i ≤ l.n) × (l.found ≡ any is_limited (edits_of l.recs l.i))
-
-abbrev pub decreases-loop-i : goal.decreases-loop-i
-decreases-loop-i l = l.n - l.i
+invariant-loop-i l = l.found ≡ any is_limited (edits_of l.recs l.i)

@@ -12,28 +12,26 @@ use Rattle.group_sight.proofs.marks_one_by_one.Goals as goal
 
 pub loop-i-init : goal.loop-i-init
 unfolding mask sum
-loop-i-init c = (omega arith, refl)
+loop-i-init c = refl
 
 pub marked_if-m-requires : goal.marked_if-m-requires
 marked_if-m-requires c =
     let s = c in
     let l = c.loop-i in (
-      rw l.invariant.1 (mask_below l.i (λ j. eqb (get_or s.args.names.now j 0) s.args.x)),
+      rw l.invariant (mask_below l.i (λ j. eqb (get_or s.args.names.now j 0) s.args.x)),
       λ y. omega (arith, s.requires.0),
     )
 
 pub loop-i-preserved : goal.loop-i-preserved
 loop-i-preserved c =
     let a = c.args in
-    let l = c.loop-i in (
-      omega arith,
-      rw (c.marked_if-m.ensures, l.invariant.1, add-one l.i)
-          (sym (mask-more l.i (λ j. eqb (get_or a.names.now j 0) a.x))),
-    )
+    let l = c.loop-i in
+    rw (c.marked_if-m.ensures, l.invariant, add-one l.i)
+    (sym (mask-more l.i (λ j. eqb (get_or a.names.now j 0) a.x)))
 
 pub returns : goal.returns
 returns c =
     let l = c.loop-i in
     let a = c.args in
     let done : l.i ≡ a.k = omega arith in
-    rw (← done) l.invariant.1
+    rw (← done) l.invariant

@@ -11,7 +11,7 @@ use Rattle.group_sight.proofs.sum_of_name.Goals.{then-names-i, else-names-i}
 
 pub loop-i-init : goal.loop-i-init
 unfolding sum_of_name sum
-loop-i-init c = (omega arith, refl, omega arith)
+loop-i-init c = (refl, omega arith)
 
 pub overflow_cast-t : goal.overflow_cast-t
 overflow_cast-t c = omega (arith, c.loop-i-test.true, c.requires.0)
@@ -23,7 +23,7 @@ pub overflow_add-t-then-names-i : goal.overflow_add-t-then-names-i
 overflow_add-t-then-names-i c =
     omega (
       arith,
-      c.loop-i.invariant.2,
+      c.loop-i.invariant.1,
       c.loop-i-test.true,
       c.requires.0,
     )
@@ -35,14 +35,12 @@ loop-i-preserved c =
     let ns = a.names.now in
     elim c.if-names-i.branch [
       | then-names-i v ↦ (
-        omega (arith, c.loop-i-test.true),
-        rw (v.t-is, l.invariant.1) (sum-found ns a.x l.i v.if-names-i.true),
-        omega (arith, v.t-is, l.invariant.2, c.loop-i-test.true, c.requires.0),
+        rw (v.t-is, l.invariant.0) (sum-found ns a.x l.i v.if-names-i.true),
+        omega (arith, v.t-is, l.invariant.1, c.loop-i-test.true, c.requires.0),
       )
       | else-names-i v ↦ (
-        omega (arith, c.loop-i-test.true),
-        rw (v.t-is, l.invariant.1) (sum-skipped ns a.x l.i v.if-names-i.false),
-        omega (arith, v.t-is, l.invariant.2),
+        rw (v.t-is, l.invariant.0) (sum-skipped ns a.x l.i v.if-names-i.false),
+        omega (arith, v.t-is, l.invariant.1),
       )
     ]
 
@@ -51,4 +49,4 @@ returns c =
     let l = c.loop-i in
     let a = c.args in
     let done : l.i ≡ a.k = omega arith in
-    rw (← done) l.invariant.1
+    rw (← done) l.invariant.0

@@ -6,7 +6,4 @@ use Rattle.group_sight.specs.SightForms.{found, sum_of_name}
 use Rattle.group_sight.proofs.sum_of_name.Given as goal
 
 abbrev pub invariant-loop-i : goal.invariant-loop-i
-invariant-loop-i l = (l.i ≤ l.k) × (l.t ≡ sum_of_name l.names l.i l.x) × (l.t ≤ l.i * (2 * found))
-
-abbrev pub decreases-loop-i : goal.decreases-loop-i
-decreases-loop-i l = l.k - l.i
+invariant-loop-i l = (l.t ≡ sum_of_name l.names l.i l.x) × (l.t ≤ l.i * (2 * found))
