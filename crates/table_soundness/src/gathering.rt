@@ -93,8 +93,7 @@ pub fn gather(
     let mut held = [0u16; SITES];
     let mut sum: u32 = 0;
     let mut creates: u16 = 0;
-    let mut i: usize = 0;
-    while i < n {
+    for i in 0..n {
         if !is_next_right(sites, &room, &held, recs, places, i) {
             return Tally {
                 right: false,
@@ -109,7 +108,6 @@ pub fn gather(
         earlier[i] = creates as u8;
         creates = creates + one_if(kind == CREATE) as u16;
         edit_walk::put_next(recs, i, &mut held, places);
-        i += 1;
     }
     Tally {
         right: true,

@@ -46,10 +46,8 @@ fn counts_agree(given: [u16; SITES], counted: [u16; SITES]) -> bool
     ensures { result ≡ all most_sites (λ s. eqb (get_or given s 0) (get_or counted s 0)) }
 {
     let mut agree = true;
-    let mut s: usize = 0;
-    while s < SITES {
+    for s in 0..SITES {
         agree = agree & (given[s] == counted[s]);
-        s += 1;
     }
     agree
 }

@@ -25,15 +25,11 @@ pub fn is_zero_from8(s: &[u8], k: usize) -> bool
     let third = second + part;
     let fourth = third + part;
     let mut bits: u8 = 0;
-    let mut i: usize = 0;
-    while i < part {
+    for i in 0..part {
         bits = bits | s[k + i] | s[second + i] | s[third + i] | s[fourth + i];
-        i += 1;
     }
-    let mut j = fourth + part;
-    while j < s.len() {
+    for j in (fourth + part)..s.len() {
         bits = bits | s[j];
-        j += 1;
     }
     bits == 0
 }
@@ -43,10 +39,8 @@ pub fn is_zero_from16(s: &[u16], k: usize) -> bool
     ensures { result ≡ zero_from s.now k }
 {
     let mut zero = true;
-    let mut i = k;
-    while i < s.len() {
+    for i in k..s.len() {
         zero = zero & (s[i] == 0);
-        i += 1;
     }
     zero
 }
@@ -63,15 +57,11 @@ pub fn is_zero_from64(s: &[u64], k: usize) -> bool
     let third = second + part;
     let fourth = third + part;
     let mut bits: u64 = 0;
-    let mut i: usize = 0;
-    while i < part {
+    for i in 0..part {
         bits = bits | s[k + i] | s[second + i] | s[third + i] | s[fourth + i];
-        i += 1;
     }
-    let mut j = fourth + part;
-    while j < s.len() {
+    for j in (fourth + part)..s.len() {
         bits = bits | s[j];
-        j += 1;
     }
     bits == 0
 }
@@ -83,9 +73,7 @@ fn is_zero_down8(s: &[u8], k: usize) -> bool
     ensures { result ≡ zero_from s.now k }
 {
     let mut bits: u8 = 0;
-    let mut i = s.len();
-    while k < i {
-        i -= 1;
+    for i in (k..s.len()).rev() {
         bits = bits | s[i];
     }
     bits == 0

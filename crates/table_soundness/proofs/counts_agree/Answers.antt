@@ -14,9 +14,9 @@ loop-s-init c = search rules
 
 pub loop-s-preserved : goal.loop-s-preserved
 unfolding all
-loop-s-preserved c = (omega arith, rw (add-one, c.loop-s.invariant.1))
+loop-s-preserved c = (rw (add-one, c.loop-s.invariant))
 
 pub returns : goal.returns
 returns c =
     let k : c.loop-s.s ≡ most_sites = omega arith in
-    rw k at c.loop-s.invariant.1
+    rw k at c.loop-s.invariant

@@ -8,8 +8,4 @@ use Rattle.edit_record.specs.Layout.{most_sites}
 use Rattle.table_soundness.proofs.counts_agree.Given as goal
 
 abbrev pub invariant-loop-s : goal.invariant-loop-s
-invariant-loop-s l =
-    (l.s ≤ most_sites) × (l.agree ≡ all l.s (λ t. eqb (get_or l.given t 0) (get_or l.counted t 0)))
-
-abbrev pub decreases-loop-s : goal.decreases-loop-s
-decreases-loop-s l = most_sites - l.s
+invariant-loop-s l = l.agree ≡ all l.s (λ t. eqb (get_or l.given t 0) (get_or l.counted t 0))

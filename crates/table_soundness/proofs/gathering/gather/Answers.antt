@@ -30,7 +30,6 @@ pub loop-i-init : goal.loop-i-init
 loop-i-init c =
     let s = c in
     let a = s.args in (
-      omega arith,
       walking-starts a.sites _ a.recs.now _ c.space_places.ensures,
       rw s.requires.6 (gathering-starts a.recs.now _ a.earlier.now s.requires.5),
     )
@@ -39,23 +38,23 @@ pub is_next_right-requires : goal.is_next_right-requires
 is_next_right-requires c =
     let at = c in
     let s = start-of c.before.before.before.before in
-    (s.requires.0, search rules, omega (arith, s.requires.2), omega (arith, s.requires.3), at.loop-i.invariant.1)
+    (s.requires.0, search rules, omega (arith, s.requires.2), omega (arith, s.requires.3), at.loop-i.invariant.0)
 
 pub shape_of-places-then-not-is_next_right : goal.shape_of-places-then-not-is_next_right
 shape_of-places-then-not-is_next_right c =
     let at = c in
-    at.loop-i.invariant.1.spaced.entries ∙ sym (start-of c.before.before.before.before.before.before).requires.4
+    at.loop-i.invariant.0.spaced.entries ∙ sym (start-of c.before.before.before.before.before.before).requires.4
 
 pub shape_of-earlier-then-not-is_next_right : goal.shape_of-earlier-then-not-is_next_right
 shape_of-earlier-then-not-is_next_right c =
     let at = c in
-    at.loop-i.invariant.2.long ∙ sym (start-of c.before.before.before.before.before.before).requires.5
+    at.loop-i.invariant.1.long ∙ sym (start-of c.before.before.before.before.before.before).requires.5
 
 pub shape_of-tallies-then-not-is_next_right : goal.shape_of-tallies-then-not-is_next_right
 shape_of-tallies-then-not-is_next_right c =
     let at = c in
     let long : length (start-of c.before.before.before.before.before.before).args.tallies.now ≡ most_records = rw (start-of c.before.before.before.before.before.before).requires.6 refl in
-    at.loop-i.invariant.2.aimed.0 ∙ sym long
+    at.loop-i.invariant.1.aimed.0 ∙ sym long
 
 pub returns-then-not-is_next_right : goal.returns-then-not-is_next_right
 returns-then-not-is_next_right c =
@@ -73,10 +72,10 @@ sum_more-sum-requires c =
     let s = start-of c.before.before.before.before.before.before in
     let r = c.is_next_right in
     let goes = (r.ensures.0 (c.if-not-is_next_right.false)).0 in (
-      at.loop-i.invariant.2.sum,
+      at.loop-i.invariant.1.sum,
       omega (arith, s.requires.3),
       omega (arith, s.requires.2),
-      next_fits s.requires.0 at.loop-i.invariant.1 goes,
+      next_fits s.requires.0 at.loop-i.invariant.0 goes,
     )
 
 pub tally_set-requires : goal.tally_set-requires
@@ -87,8 +86,8 @@ tally_set-requires c =
     let goes = (r.ensures.0 (c.if-not-is_next_right.false)).0 in (
       omega (arith, s.requires.2),
       omega (arith, s.requires.3),
-      next-targeted s.requires.0 at.loop-i.invariant.1 goes,
-      at.loop-i.invariant.2.aimed,
+      next-targeted s.requires.0 at.loop-i.invariant.0 goes,
+      at.loop-i.invariant.1.aimed,
     )
 
 pub overflow_cast-earlier : goal.overflow_cast-earlier
@@ -96,20 +95,20 @@ overflow_cast-earlier c =
     let late = c in
     let at = late in
     let few = creates-le (start-of c.before.before.before.before.before.before.before.before.before.before.before.before).args.recs.now at.loop-i.i in
-    omega (arith, at.loop-i.invariant.2.made, few, (start-of c.before.before.before.before.before.before.before.before.before.before.before.before).requires.2)
+    omega (arith, at.loop-i.invariant.1.made, few, (start-of c.before.before.before.before.before.before.before.before.before.before.before.before).requires.2)
 
 pub bounds-earlier-i : goal.bounds-earlier-i
 bounds-earlier-i c =
     let late = c in
     let at = late in
-    omega (arith, at.loop-i.invariant.2.long, (start-of c.before.before.before.before.before.before.before.before.before.before.before.before).requires.2)
+    omega (arith, at.loop-i.invariant.1.long, (start-of c.before.before.before.before.before.before.before.before.before.before.before.before).requires.2)
 
 pub overflow_add-creates : goal.overflow_add-creates
 overflow_add-creates c =
     let late = c in
     let at = late in
     let few = creates-le (start-of c.before.before.before.before.before.before.before.before.before.before.before.before.before).args.recs.now at.loop-i.i in
-    omega (arith, at.loop-i.invariant.2.made, few, (start-of c.before.before.before.before.before.before.before.before.before.before.before.before.before).requires.2, c.one_if.ensures.1)
+    omega (arith, at.loop-i.invariant.1.made, few, (start-of c.before.before.before.before.before.before.before.before.before.before.before.before.before).requires.2, c.one_if.ensures.1)
 
 pub put_next-requires : goal.put_next-requires
 put_next-requires c =
@@ -121,7 +120,7 @@ put_next-requires c =
     let below = late.loop-i-test.true in (
       omega (arith, below, s.requires.2),
       omega (arith, below, s.requires.3),
-      (s.args.sites, _, s.requires.0, at.loop-i.invariant.1, goes),
+      (s.args.sites, _, s.requires.0, at.loop-i.invariant.0, goes),
     )
 
 pub loop-i-preserved : goal.loop-i-preserved
@@ -133,28 +132,27 @@ loop-i-preserved c =
     let rs = s.args.recs.now in
     let r = sums.is_next_right in
     let (goes, rest) = r.ensures.0 (sums.if-not-is_next_right.false) in
-    let w = at.loop-i.invariant.1 in
+    let w = at.loop-i.invariant.0 in
     let on = c.put_next.ensures s.args.sites _ s.requires.0 w goes in
     let tallies = late.tally_set in
     let below = sums.loop-i-test.true in (
-      omega (arith, below),
       on,
       rw (c.one_if.ensures.0, ← kind-in-place rs at.loop-i.i)
-          (gathering-more s.requires.0 w goes at.loop-i.invariant.2 (omega (arith, below, s.requires.2)) rest
+          (gathering-more s.requires.0 w goes at.loop-i.invariant.1 (omega (arith, below, s.requires.2)) rest
           sums.sum_more-sum.ensures tallies.ensures on),
     )
 
 pub shape_of-places : goal.shape_of-places
-shape_of-places c = c.loop-i.invariant.1.spaced.entries ∙ sym (start-of c.before.before).requires.4
+shape_of-places c = c.loop-i.invariant.0.spaced.entries ∙ sym (start-of c.before.before).requires.4
 
 pub shape_of-earlier : goal.shape_of-earlier
-shape_of-earlier c = c.loop-i.invariant.2.long ∙ sym (start-of c.before.before).requires.5
+shape_of-earlier c = c.loop-i.invariant.1.long ∙ sym (start-of c.before.before).requires.5
 
 pub shape_of-tallies : goal.shape_of-tallies
 shape_of-tallies c =
     let s = start-of c.before.before in
     let long : length s.args.tallies.now ≡ most_records = rw s.requires.6 refl in
-    c.loop-i.invariant.2.aimed.0 ∙ sym long
+    c.loop-i.invariant.1.aimed.0 ∙ sym long
 
 pub returns : goal.returns
 returns c =
@@ -162,8 +160,8 @@ returns c =
     let a = s.args in
     let l = c.loop-i in
     let k : l.i ≡ a.n = omega arith in
-    let w = rw k at l.invariant.1 in
-    let g = rw k at l.invariant.2 in
+    let w = rw k at l.invariant.0 in
+    let g = rw k at l.invariant.1 in
     let rs = a.recs.now in
     let targets = targeted a.sites rs a.n w.pass in
     record {

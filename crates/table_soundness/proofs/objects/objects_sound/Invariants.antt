@@ -7,8 +7,4 @@ use Rattle.table_soundness.specs.Sound.{object_sound}
 use Rattle.table_soundness.proofs.objects.objects_sound.Given as goal
 
 abbrev pub invariant-loop-o : goal.invariant-loop-o
-invariant-loop-o l =
-    (l.o ≤ l.m) × (l.sound ≡ all l.o (object_sound l.recs l.n l.objects l.groups))
-
-abbrev pub decreases-loop-o : goal.decreases-loop-o
-decreases-loop-o l = l.m - l.o
+invariant-loop-o l = l.sound ≡ all l.o (object_sound l.recs l.n l.objects l.groups)

@@ -23,16 +23,20 @@ returns-then-not-g c =
 
 pub loop-i-init : goal.loop-i-init
 unfolding all
-loop-i-init c = (omega arith, few-groups c.args.g c.if-not-g.false-raw, refl)
+loop-i-init c = (few-groups c.args.g c.if-not-g.false-raw, refl)
 
 pub loop-i-preserved : goal.loop-i-preserved
 unfolding all
 loop-i-preserved c =
     let l = c.loop-i in
-    (omega arith, l.invariant.1, rw (add-one, l.invariant.2, c.slot_sound-sound.ensures))
+    (l.invariant.0, rw (add-one, l.invariant.1, c.slot_sound-sound.ensures))
 
 pub loop-i-2-init : goal.loop-i-2-init
-loop-i-2-init c = (omega arith, omega arith, c.loop-i.invariant.2)
+loop-i-2-init c =
+    let l = c.loop-i in
+    let g = c.args.g in
+    let e : l.i ≡ g = omega arith in
+    (l.invariant.0, rw e at l.invariant.1)
 
 pub loop-i-2-preserved : goal.loop-i-2-preserved
 unfolding all
@@ -42,12 +46,11 @@ loop-i-2-preserved c =
     let gs = a.groups.now in
     let at = a.o * most_groups + l.i in
     let here = get_or gs at 0 in (
-      omega arith,
-      omega arith,
-      rw (add-one, l.invariant.2)
+      l.invariant.0,
+      rw (add-one, l.invariant.1)
           (ap (λ (b : Bool). all l.i (slot_sound gs a.o a.k a.g) && b)
           (sym (unused-place a.g l.i (eqb here 0) (ltb here (2 ^ a.k))
-          (leb a.g (l.i + 1) || ltb here (get_or gs (at + 1) 0)) l.invariant.0))),
+          (leb a.g (l.i + 1) || ltb here (get_or gs (at + 1) 0)) (omega arith)))),
     )
 
 pub returns : goal.returns
@@ -57,4 +60,4 @@ returns c =
     let k : c.loop-i-2.i ≡ most_groups = omega arith in
     let t : (leb 1 g && leb g most_groups) ≡ true
     = not-false (leb 1 g && leb g most_groups) c.if-not-g.false-raw in
-    rw (c.loop-i-2.invariant.2, k, t)
+    rw (c.loop-i-2.invariant.1, k, t)

@@ -8,15 +8,7 @@ use Rattle.table_soundness.specs.Sound.{slot_sound}
 use Rattle.table_soundness.proofs.objects.row_sound.Given as goal
 
 abbrev pub invariant-loop-i : goal.invariant-loop-i
-invariant-loop-i l =
-    (l.i ≤ l.g) × (l.g ≤ most_groups) × (l.sound ≡ all l.i (slot_sound l.groups l.o l.k l.g))
-
-abbrev pub decreases-loop-i : goal.decreases-loop-i
-decreases-loop-i l = l.g - l.i
+invariant-loop-i l = (l.g ≤ most_groups) × (l.sound ≡ all l.i (slot_sound l.groups l.o l.k l.g))
 
 abbrev pub invariant-loop-i-2 : goal.invariant-loop-i-2
-invariant-loop-i-2 l =
-    (l.g ≤ l.i) × (l.i ≤ most_groups) × (l.sound ≡ all l.i (slot_sound l.groups l.o l.k l.g))
-
-abbrev pub decreases-loop-i-2 : goal.decreases-loop-i-2
-decreases-loop-i-2 l = most_groups - l.i
+invariant-loop-i-2 l = (l.g ≤ most_groups) × (l.sound ≡ all l.i (slot_sound l.groups l.o l.k l.g))

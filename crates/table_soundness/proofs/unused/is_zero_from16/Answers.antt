@@ -7,16 +7,16 @@ use Rattle.table_soundness.proofs.ZeroFrom.{zero-start, zero_more, zero-end}
 use Rattle.table_soundness.proofs.unused.is_zero_from16.Goals as goal
 
 pub loop-i-init : goal.loop-i-init
-loop-i-init c = (omega arith, zero-start c.args.s.now c.args.k)
+loop-i-init c = zero-start c.args.s.now c.args.k
 
 pub loop-i-preserved : goal.loop-i-preserved
 loop-i-preserved c =
     let a = c.args in
     let l = c.loop-i in
-    (omega arith, rw l.invariant.1 (zero_more a.s.now a.k l.i l.invariant.0))
+    rw l.invariant (zero_more a.s.now a.k l.i (omega arith))
 
 pub returns : goal.returns
 returns c =
     let a = c.args in
     let l = c.loop-i in
-    l.invariant.1 ∙ zero-end a.s.now a.k l.i (omega arith)
+    l.invariant ∙ zero-end a.s.now a.k l.i (omega arith)

@@ -8,7 +8,4 @@ use Rattle.table_soundness.proofs.ZeroFrom.{zero_at}
 use Rattle.table_soundness.proofs.unused.is_zero_from16.Given as goal
 
 abbrev pub invariant-loop-i : goal.invariant-loop-i
-invariant-loop-i l = (l.k ≤ l.i) × (l.zero ≡ all l.i (zero_at l.s l.k))
-
-abbrev pub decreases-loop-i : goal.decreases-loop-i
-decreases-loop-i l = length l.s - l.i
+invariant-loop-i l = l.zero ≡ all l.i (zero_at l.s l.k)

@@ -9,15 +9,7 @@ use Rattle.table_soundness.proofs.ZeroFrom.{zero_at, zero_four}
 use Rattle.table_soundness.proofs.unused.is_zero_from64.Given as goal
 
 abbrev pub invariant-loop-i : goal.invariant-loop-i
-invariant-loop-i l =
-    (l.i ≤ l.part) × (l.fourth + l.part ≤ length l.s) × (eqb l.bits 0 ≡ all l.i (zero_four l.s l.k l.part))
-
-abbrev pub decreases-loop-i : goal.decreases-loop-i
-decreases-loop-i l = l.part - l.i
+invariant-loop-i l = (l.fourth + l.part ≤ length l.s) × (eqb l.bits 0 ≡ all l.i (zero_four l.s l.k l.part))
 
 abbrev pub invariant-loop-j : goal.invariant-loop-j
-invariant-loop-j l =
-    (l.k ≤ l.j) × (eqb l.bits 0 ≡ all l.j (zero_at l.s l.k))
-
-abbrev pub decreases-loop-j : goal.decreases-loop-j
-decreases-loop-j l = length l.s - l.j
+invariant-loop-j l = eqb l.bits 0 ≡ all l.j (zero_at l.s l.k)

@@ -14,32 +14,30 @@ returns-then-s-k c = zero-past c.args.s.now c.args.k c.if-s-k.true
 
 pub loop-i-init : goal.loop-i-init
 unfolding all
-loop-i-init c = (omega arith, omega arith, refl)
+loop-i-init c = (omega arith, refl)
 
 pub loop-i-preserved : goal.loop-i-preserved
 loop-i-preserved c =
     let a = c.args in
     let l = c.loop-i in
-    (omega arith, l.invariant.1, four-bits-more a.s.now a.k _ l.i l.bits l.invariant.2)
+    (l.invariant.0, four-bits-more a.s.now a.k _ l.i l.bits l.invariant.1)
 
 pub loop-j-init : goal.loop-j-init
 loop-j-init c =
     let a = c.args in
     let l = c.loop-i in
     let part = (length a.s.now - a.k) / 256 * 64 in
-    let e : l.i ≡ part = omega arith in (
-      omega arith,
-      l.invariant.2 ∙ ap (λ (i : ℕ). all i (zero_four a.s.now a.k part)) e ∙ four-end a.s.now a.k part,
-    )
+    let e : l.i ≡ part = omega arith in
+    l.invariant.1 ∙ ap (λ (i : ℕ). all i (zero_four a.s.now a.k part)) e ∙ four-end a.s.now a.k part
 
 pub loop-j-preserved : goal.loop-j-preserved
 loop-j-preserved c =
     let a = c.args in
     let l = c.loop-j in
-    (omega arith, bits-more a.s.now a.k l.j l.bits l.invariant.0 l.invariant.1)
+    bits-more a.s.now a.k l.j l.bits (omega arith) l.invariant
 
 pub returns : goal.returns
 returns c =
     let a = c.args in
     let l = c.loop-j in
-    l.invariant.1 ∙ zero-end a.s.now a.k l.j (omega arith)
+    l.invariant ∙ zero-end a.s.now a.k l.j (omega arith)
