@@ -58,11 +58,9 @@ pub fn is_any_limited(recs: &[u8], places: &[u16], k: usize) -> bool
     requires { k ≤ length places.now }
     ensures { result ≡ any is_limited (sets_in recs.now places.now k) }
 {
-    let mut found = false;
-    for i in 0..k {
-        found = found | (edit_history::kind_at(recs, places[i] as usize) == LIMITED);
-    }
-    found
+    places[..k]
+        .iter()
+        .any(|&p| edit_history::kind_at(recs, p as usize) == LIMITED)
 }
 
 // What is asked of the Sets in the k first places, whose names these are, for that of rec, which comes after them.

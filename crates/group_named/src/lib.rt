@@ -31,11 +31,7 @@ fn is_limited_held(recs: &[u8], n: usize) -> bool
     requires { n ≤ most_records }
     ensures { result ≡ any is_limited (edits_of recs.now n) }
 {
-    let mut found = false;
-    for i in 0..n {
-        found = found | (edit_history::kind_at(recs, i) == LIMITED);
-    }
-    found
+    (0..n).any(|p| edit_history::kind_at(recs, p) == LIMITED)
 }
 
 // The number i, where a and b have changed places.

@@ -132,8 +132,8 @@ fn sum_of_name(names: &[u32], k: usize, x: u32) -> u32
     ensures { result ≡ sum_of_name names.now k x }
 {
     let mut t: u32 = 0;
-    for i in 0..k {
-        if names[i] == x {
+    for (i, &name) in names[..k].iter().enumerate() {
+        if name == x {
             t = t + (FOUND + i as u32);
         }
     }
@@ -146,8 +146,8 @@ fn marks_one_by_one(names: &[u32], k: usize, x: u32) -> u64
     ensures { result ≡ marks_of_name names.now k x }
 {
     let mut m: u64 = 0;
-    for i in 0..k {
-        m = marked_if(names[i] == x, m, i);
+    for (i, &name) in names[..k].iter().enumerate() {
+        m = marked_if(name == x, m, i);
     }
     m
 }

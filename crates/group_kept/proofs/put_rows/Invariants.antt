@@ -1,7 +1,6 @@
 -- `group_kept::put_rows` meets its contract: after i places, the rows of their Sets are put down, where these are
 -- proper. Assumes nothing.
 use mathlib.Core.Path.{◌≡◌}
-use Prim.Native.Nat.{◌-◌, ◌≤◌}
 use lib.ListN.{length}
 use Rattle.edit_causal.specs.ConflictForms.{Proper}
 use Rattle.group_sight.specs.SightForms.{sets_in}

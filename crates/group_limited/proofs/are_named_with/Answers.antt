@@ -1,7 +1,7 @@
 -- `group_limited::are_named_with` meets its contract: 16 is given to none of the Sets passed, whose rows are put down.
 -- Assumes nothing.
 use mathlib.Core.Path.{◌≡◌, refl, sym, ◌∙◌}
-use Prim.Native.Nat.{◌-◌, ◌%◌, ◌≤◌, ◌<◌}
+use Prim.Native.Nat.{◌%◌, ◌≤◌, ◌<◌}
 use native.Mathlib.Omega.{arith}
 use lib.ListN.{length, get_or, length-set}
 use Rattle.math_lists.proofs.Booleans.{clash}

@@ -1,7 +1,7 @@
 -- `group_limited::put_rows` meets its contract: after i places, the rows of their Sets are put down, where all of them
 -- are proper. Assumes nothing.
 use mathlib.Core.Path.{◌≡◌, refl, subst, ◌∙◌}
-use Prim.Native.Nat.{ℕ, ◌-◌, ◌%◌, ◌≤◌, ◌<◌}
+use Prim.Native.Nat.{ℕ, ◌%◌, ◌≤◌, ◌<◌}
 use native.Mathlib.Omega.{arith}
 use lib.ListN.{length, get_or, length-set}
 use Rattle.math_contexts.specs.Box.{Lawful}

@@ -9,7 +9,6 @@ use Rattle.math_lists.specs.NumbersBelow.{all}
 use Rattle.math_lists.proofs.Booleans.{both}
 use Rattle.group_named.specs.NamedForms.{is_named_at, swap_of, BoxTold}
 use Rattle.group_named.proofs.SwappedPlaces.{swap-first, swap-below, all-swapped}
-use borrow.Author.Rules.{rules}
 use Rattle.group_named.proofs.are_named_each.Goals as goal
 
 pub loop-i-init : goal.loop-i-init

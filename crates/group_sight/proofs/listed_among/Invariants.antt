@@ -1,7 +1,6 @@
 -- `group_sight::listed_among` meets its contract: after i members, those of them are told. Assumes nothing.
 use mathlib.Core.Path.{◌≡◌}
 use mathlib.Core.List.{map}
-use Prim.Native.Nat.{◌-◌, ◌≤◌}
 use lib.ListN.{get_or, take}
 use Rattle.math_lists.specs.NumbersBelow.{mask}
 use Rattle.math_lists.specs.SortedLists.{any, elem}

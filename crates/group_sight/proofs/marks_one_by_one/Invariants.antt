@@ -1,7 +1,6 @@
 -- `group_sight::marks_one_by_one` meets its contract: after i names, those of them are marked. Assumes
 -- nothing.
 use mathlib.Core.Path.{◌≡◌}
-use Prim.Native.Nat.{◌-◌, ◌≤◌}
 use Rattle.group_sight.specs.SightForms.{marks_of_name}
 use Rattle.group_sight.proofs.marks_one_by_one.Given as goal
 

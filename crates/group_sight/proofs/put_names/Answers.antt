@@ -1,6 +1,5 @@
 -- `group_sight::put_names` meets its contract: after i places, their names are put down. Assumes nothing.
 use mathlib.Core.Path.{refl}
-use Prim.Native.Nat.{◌-◌}
 use native.Mathlib.Decide.{ℕ_discrete}
 use native.Mathlib.Omega.{arith}
 use lib.ListN.{length-set}

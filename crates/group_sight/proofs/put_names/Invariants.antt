@@ -1,6 +1,5 @@
 -- `group_sight::put_names` meets its contract: after i places, their names are put down. Assumes nothing.
 use mathlib.Core.Path.{◌≡◌}
-use Prim.Native.Nat.{◌-◌, ◌≤◌}
 use lib.ListN.{length}
 use Rattle.group_sight.specs.SightForms.{NamesIn}
 use Rattle.group_sight.proofs.put_names.Given as goal
