@@ -69,7 +69,7 @@ fn tally_set(tallies: &mut [u8], recs: &[u8], i: usize, places: &[u16])
 }
 
 // Walks over the first n records, with room in the index for so many edits of each site, and gathers from each what it
-// gives; ends where one is wrong. A record goes into the index last, so that what was read of it still holds.
+// gives; none where one is wrong. A record goes into the index last, so that what was read of it still holds.
 pub fn gather(
     sites: u8,
     room: [u16; SITES],
@@ -78,7 +78,7 @@ pub fn gather(
     places: &mut [u16],
     earlier: &mut [u8],
     tallies: &mut [u8],
-) -> Tally
+) -> Option<Tally>
     requires { (sites ≤ most_sites)
         × (sum most_sites (λ s. get_or room s 0) ≤ most_records)
         × (n ≤ most_records)
@@ -95,12 +95,7 @@ pub fn gather(
     let mut creates: u16 = 0;
     for i in 0..n {
         if !is_next_right(sites, &room, &held, recs, places, i) {
-            return Tally {
-                right: false,
-                held,
-                sum,
-                creates,
-            };
+            return None;
         }
         sum = edit_sum::sum_more(sum, recs, i);
         tally_set(tallies, recs, i, places);
@@ -109,10 +104,5 @@ pub fn gather(
         creates = creates + one_if(kind == CREATE) as u16;
         edit_walk::put_next(recs, i, &mut held, places);
     }
-    Tally {
-        right: true,
-        held,
-        sum,
-        creates,
-    }
+    Some(Tally { held, sum, creates })
 }

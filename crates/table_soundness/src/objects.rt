@@ -45,8 +45,8 @@ fn row_sound(groups: &[u64], o: usize, k: u64, g: usize) -> bool
     for i in 0..g {
         sound = sound & slot_sound(groups, o, k, g, i);
     }
-    for i in g..GROUPS {
-        sound = sound & (groups[o * GROUPS + i] == 0);
+    for &unused in &groups[o * GROUPS + g..(o + 1) * GROUPS] {
+        sound = sound & (unused == 0);
     }
     sound
 }

@@ -28,8 +28,8 @@ pub fn is_zero_from8(s: &[u8], k: usize) -> bool
     for i in 0..part {
         bits = bits | s[k + i] | s[second + i] | s[third + i] | s[fourth + i];
     }
-    for j in (fourth + part)..s.len() {
-        bits = bits | s[j];
+    for &byte in &s[fourth + part..] {
+        bits = bits | byte;
     }
     bits == 0
 }
@@ -38,14 +38,18 @@ pub fn is_zero_from8(s: &[u8], k: usize) -> bool
 pub fn is_zero_from16(s: &[u16], k: usize) -> bool
     ensures { result ≡ zero_from s.now k }
 {
+    if s.len() <= k {
+        return true;
+    }
     let mut zero = true;
-    for i in k..s.len() {
-        zero = zero & (s[i] == 0);
+    for &number in &s[k..] {
+        zero = zero & (number == 0);
     }
     zero
 }
 
-// Whether every group from k on is zero, by four parts as well.
+// Whether every group from k on is zero, by four parts as well. The three stand apart by the type of what they go over:
+// one over a trait of the three types would be longer than they are.
 pub fn is_zero_from64(s: &[u64], k: usize) -> bool
     ensures { result ≡ zero_from s.now k }
 {
@@ -60,8 +64,8 @@ pub fn is_zero_from64(s: &[u64], k: usize) -> bool
     for i in 0..part {
         bits = bits | s[k + i] | s[second + i] | s[third + i] | s[fourth + i];
     }
-    for j in (fourth + part)..s.len() {
-        bits = bits | s[j];
+    for &group in &s[fourth + part..] {
+        bits = bits | group;
     }
     bits == 0
 }

@@ -1,9 +1,7 @@
 -- `table_soundness::gathering::gather` meets its contract: after i records it has what they give. Assumes nothing.
 use mathlib.Core.Path.{◌≡◌, refl, sym, ◌∙◌}
-use Prim.Native.Nat.{◌-◌}
 use native.Mathlib.Omega.{arith}
 use lib.ListN.{length}
-use Rattle.math_lists.proofs.Booleans.{clash}
 use Rattle.edit_history.specs.EditsHeld.{most_records}
 use Rattle.edit_history.proofs.FieldsInPlace.{kind-in-place}
 use Rattle.edit_walk.proofs.WalkKeeps.{walking-starts}
@@ -13,13 +11,7 @@ use Rattle.table_soundness.proofs.SoundTests.{targeted}
 use Rattle.table_soundness.proofs.GatheredSoFar.{gathering-starts, gathering-more}
 use Rattle.table_soundness.proofs.GatheredSoFar.{next_fits, next-targeted}
 use borrow.Author.Rules.{rules}
-use Rattle.table_soundness.proofs.gathering.gather.Lts
-use Rattle.table_soundness.proofs.gathering.gather.Tie
-use Rattle.table_soundness.proofs.gathering.gather.Reads
 use Rattle.table_soundness.proofs.gathering.gather.Goals as goal
-
-abbrev start-of : (Lts.At-loop Tie.the-claims Reads.Pre Reads.Post goal.the-invariant-loop-i goal.the-decreases-loop-i) → (Lts.Start Tie.the-claims Reads.Pre Reads.Post goal.the-invariant-loop-i goal.the-decreases-loop-i)
-start-of at = at.before.before.before.before.before.before.before.before.before
 
 pub space_places-requires : goal.space_places-requires
 space_places-requires c =
@@ -37,39 +29,33 @@ loop-i-init c =
 pub is_next_right-requires : goal.is_next_right-requires
 is_next_right-requires c =
     let at = c in
-    let s = start-of c.before.before.before.before in
+    let s = c in
     (s.requires.0, search rules, omega (arith, s.requires.2), omega (arith, s.requires.3), at.loop-i.invariant.0)
 
 pub shape_of-places-then-not-is_next_right : goal.shape_of-places-then-not-is_next_right
 shape_of-places-then-not-is_next_right c =
     let at = c in
-    at.loop-i.invariant.0.spaced.entries ∙ sym (start-of c.before.before.before.before.before.before).requires.4
+    at.loop-i.invariant.0.spaced.entries ∙ sym c.requires.4
 
 pub shape_of-earlier-then-not-is_next_right : goal.shape_of-earlier-then-not-is_next_right
 shape_of-earlier-then-not-is_next_right c =
     let at = c in
-    at.loop-i.invariant.1.long ∙ sym (start-of c.before.before.before.before.before.before).requires.5
+    at.loop-i.invariant.1.long ∙ sym c.requires.5
 
 pub shape_of-tallies-then-not-is_next_right : goal.shape_of-tallies-then-not-is_next_right
 shape_of-tallies-then-not-is_next_right c =
     let at = c in
-    let long : length (start-of c.before.before.before.before.before.before).args.tallies.now ≡ most_records = rw (start-of c.before.before.before.before.before.before).requires.6 refl in
+    let long : length c.args.tallies.now ≡ most_records = rw c.requires.6 refl in
     at.loop-i.invariant.1.aimed.0 ∙ sym long
 
 pub returns-then-not-is_next_right : goal.returns-then-not-is_next_right
 returns-then-not-is_next_right c =
-    let r = c.is_next_right in
-    let wrong = c.if-not-is_next_right.true in
-    record {
-      right = λ h. clash h refl;
-      indexed = λ h. clash h refl;
-      wrong = λ h. r.ensures.1 wrong _ c.loop-i-test.true;
-    }
+    c.is_next_right.ensures.1 c.if-not-is_next_right.true _ c.loop-i-test.true
 
 pub sum_more-sum-requires : goal.sum_more-sum-requires
 sum_more-sum-requires c =
     let at = c in
-    let s = start-of c.before.before.before.before.before.before in
+    let s = c in
     let r = c.is_next_right in
     let goes = (r.ensures.0 (c.if-not-is_next_right.false)).0 in (
       at.loop-i.invariant.1.sum,
@@ -81,7 +67,7 @@ sum_more-sum-requires c =
 pub tally_set-requires : goal.tally_set-requires
 tally_set-requires c =
     let at = c in
-    let s = start-of c.before.before.before.before.before.before.before.before in
+    let s = c in
     let r = c.is_next_right in
     let goes = (r.ensures.0 (c.if-not-is_next_right.false)).0 in (
       omega (arith, s.requires.2),
@@ -94,27 +80,27 @@ pub overflow_cast-earlier : goal.overflow_cast-earlier
 overflow_cast-earlier c =
     let late = c in
     let at = late in
-    let few = creates-le (start-of c.before.before.before.before.before.before.before.before.before.before.before.before).args.recs.now at.loop-i.i in
-    omega (arith, at.loop-i.invariant.1.made, few, (start-of c.before.before.before.before.before.before.before.before.before.before.before.before).requires.2)
+    let few = creates-le c.args.recs.now at.loop-i.i in
+    omega (arith, at.loop-i.invariant.1.made, few, c.requires.2)
 
 pub bounds-earlier-i : goal.bounds-earlier-i
 bounds-earlier-i c =
     let late = c in
     let at = late in
-    omega (arith, at.loop-i.invariant.1.long, (start-of c.before.before.before.before.before.before.before.before.before.before.before.before).requires.2)
+    omega (arith, at.loop-i.invariant.1.long, c.requires.2)
 
 pub overflow_add-creates : goal.overflow_add-creates
 overflow_add-creates c =
     let late = c in
     let at = late in
-    let few = creates-le (start-of c.before.before.before.before.before.before.before.before.before.before.before.before.before).args.recs.now at.loop-i.i in
-    omega (arith, at.loop-i.invariant.1.made, few, (start-of c.before.before.before.before.before.before.before.before.before.before.before.before.before).requires.2, c.one_if.ensures.1)
+    let few = creates-le c.args.recs.now at.loop-i.i in
+    omega (arith, at.loop-i.invariant.1.made, few, c.requires.2, c.one_if.ensures.1)
 
 pub put_next-requires : goal.put_next-requires
 put_next-requires c =
     let late = c in
     let at = late in
-    let s = start-of c.before.before.before.before.before.before.before.before.before.before.before.before.before.before.before in
+    let s = c in
     let r = late.is_next_right in
     let goes = (r.ensures.0 (late.if-not-is_next_right.false)).0 in
     let below = late.loop-i-test.true in (
@@ -128,7 +114,7 @@ loop-i-preserved c =
     let late = c in
     let sums = late in
     let at = sums in
-    let s = start-of c.before.before.before.before.before.before.before.before.before.before.before.before.before.before.before.before.before.before.before in
+    let s = c in
     let rs = s.args.recs.now in
     let r = sums.is_next_right in
     let (goes, rest) = r.ensures.0 (sums.if-not-is_next_right.false) in
@@ -143,29 +129,28 @@ loop-i-preserved c =
     )
 
 pub shape_of-places : goal.shape_of-places
-shape_of-places c = c.loop-i.invariant.0.spaced.entries ∙ sym (start-of c.before.before).requires.4
+shape_of-places c = c.loop-i.invariant.0.spaced.entries ∙ sym c.requires.4
 
 pub shape_of-earlier : goal.shape_of-earlier
-shape_of-earlier c = c.loop-i.invariant.1.long ∙ sym (start-of c.before.before).requires.5
+shape_of-earlier c = c.loop-i.invariant.1.long ∙ sym c.requires.5
 
 pub shape_of-tallies : goal.shape_of-tallies
 shape_of-tallies c =
-    let s = start-of c.before.before in
+    let s = c in
     let long : length s.args.tallies.now ≡ most_records = rw s.requires.6 refl in
     c.loop-i.invariant.1.aimed.0 ∙ sym long
 
 pub returns : goal.returns
 returns c =
-    let s = start-of c.before.before in
+    let s = c in
     let a = s.args in
     let l = c.loop-i in
     let k : l.i ≡ a.n = omega arith in
     let w = rw k at l.invariant.0 in
     let g = rw k at l.invariant.1 in
     let rs = a.recs.now in
-    let targets = targeted a.sites rs a.n w.pass in
-    record {
-      right = λ h. record {
+    let targets = targeted a.sites rs a.n w.pass in (
+      record {
         pass = w.pass;
         rests = g.rests;
         counted = w.counted;
@@ -173,7 +158,6 @@ returns c =
         made = g.made;
         numbered = g.numbered;
         tallied = tallied rs l.places a.n w.indexed targets l.tallies s.requires.2 g.aimed;
-      };
-      indexed = λ h. w.indexed;
-      wrong = λ h. clash refl h;
-    }
+      },
+      w.indexed,
+    )

@@ -1,5 +1,4 @@
 -- `table_soundness::gathering::gather` meets its contract: after i records it has what they give. Assumes nothing.
-use Prim.Native.Nat.{◌-◌, ◌≤◌}
 use lib.ListN.{get_or}
 use Rattle.edit_walk.specs.WalkForms.{Walking}
 use Rattle.table_soundness.proofs.GatheredSoFar.{Gathering}

@@ -1,7 +1,6 @@
 -- `table_soundness::objects::objects_sound` meets its contract: `sound` is the test of the first o objects. Assumes
 -- nothing.
 use mathlib.Core.Path.{◌≡◌}
-use Prim.Native.Nat.{◌-◌}
 use native.Mathlib.Numerals.{add-one}
 use native.Mathlib.Omega.{arith}
 use borrow.Author.Rules.{rules}

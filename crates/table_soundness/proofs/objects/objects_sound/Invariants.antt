@@ -1,7 +1,6 @@
 -- `table_soundness::objects::objects_sound` meets its contract: `sound` is the test of the first o objects. Assumes
 -- nothing.
 use mathlib.Core.Path.{◌≡◌}
-use Prim.Native.Nat.{◌-◌, ◌≤◌}
 use Rattle.math_lists.specs.NumbersBelow.{all}
 use Rattle.table_soundness.specs.Sound.{object_sound}
 use Rattle.table_soundness.proofs.objects.objects_sound.Given as goal
