@@ -1,6 +1,6 @@
 -- `table_index::build` meets its contract: after i records, the index is that of the first i. Assumes nothing.
 use mathlib.Core.Path.{◌≡◌, refl, sym, ◌∙◌}
-use Prim.Native.Nat.{◌+◌, ◌-◌}
+use Prim.Native.Nat.{◌+◌}
 use native.Mathlib.Omega.{arith}
 use Rattle.edit_walk.specs.WalkForms.{count_in}
 use Rattle.edit_walk.proofs.RoomInIndex.{spaced-before, spaced-same}

@@ -1,6 +1,5 @@
 -- `table_index::build` meets its contract: after i records, the index is that of the first i. Assumes nothing.
 use mathlib.Core.Path.{◌≡◌}
-use Prim.Native.Nat.{◌≤◌, ◌-◌}
 use Rattle.edit_walk.specs.WalkForms.{Spaced, count_in}
 use Rattle.table_index.specs.IndexForms.{number_at, IndexOf}
 use Rattle.table_index.proofs.build.Given as goal
