@@ -32,22 +32,6 @@ use table_drawing::{Answer, Counters, ENTRY};
 use table_sets::by_key::KEY_CHAINS;
 use table_sets::by_mask::mark_set;
 
-// Whether two rows of groups are the same.
-fn is_same(a: &[u64], b: &[u64]) -> bool
-    ensures { result ≡ same_list a.now b.now }
-{
-    if a.len() != b.len() {
-        return false;
-    }
-    let mut same = true;
-    let mut i: usize = 0;
-    while i < a.len() {
-        same = same & (a[i] == b[i]);
-        i += 1;
-    }
-    same
-}
-
 // Whether the g groups of object o are the r at the front of gs.
 fn is_row(groups: &[u64], o: usize, g: usize, gs: &[u64], r: usize) -> bool
     requires { (o * most_groups + most_groups ≤ length groups.now)
@@ -56,8 +40,7 @@ fn is_row(groups: &[u64], o: usize, g: usize, gs: &[u64], r: usize) -> bool
     ensures { result ≡ same_list (take g (row o groups.now)) (take r gs.now) }
 {
     let at = o * GROUPS;
-    let end = at + g;
-    is_same(&groups[at..end], &gs[..r])
+    groups[at..at + g] == gs[..r]
 }
 
 // How many groups there are after a step, and which Sets are yet to be put into all of them.
@@ -73,10 +56,8 @@ fn join_all(gs: &mut [u64], n: usize, m: u64)
     ensures { (length gs.new ≡ length gs.old)
         × (take n gs.new ≡ joined_with m (take n gs.old)) }
 {
-    let mut i: usize = 0;
-    while i < n {
-        gs[i] = gs[i] | m;
-        i += 1;
+    for g in &mut gs[..n] {
+        *g = *g | m;
     }
 }
 
@@ -125,8 +106,7 @@ fn step_plainly(gs: &mut [u64], recs: &[u8], places: &[u16], k: usize) -> usize
     let mut tolds = [1u64; SETS];
     let mut n: usize = 1;
     let mut common: u64 = 0;
-    let mut i: usize = 0;
-    while i < k {
+    for i in 0..k {
         let m = mark_set(&mut sets, &mut tolds, recs, places, i);
         let t = step_later(gs, n, common, m, i);
         n = t.count;
@@ -134,7 +114,6 @@ fn step_plainly(gs: &mut [u64], recs: &[u8], places: &[u16], k: usize) -> usize
         if GROUPS < n {
             return n;
         }
-        i += 1;
     }
     join_all(gs, n, common);
     n
@@ -166,8 +145,7 @@ fn step_limited(
     ensures { WorkedThrough recs.now places.now k gs.new result }
 {
     let mut n: usize = 1;
-    let mut i: usize = 0;
-    while i < k {
+    for i in 0..k {
         let t = group_limited::told_at(recs, places, names, sees, i, plain, ctx, places[i]);
         if t.nameless {
             return GROUPS + 1;
@@ -178,7 +156,6 @@ fn step_limited(
         }
         group_limited::put_told(plain, ctx, i, t.row, t.context);
         sees[i % RECENT] = t.seen;
-        i += 1;
     }
     n
 }
@@ -252,10 +229,8 @@ fn are_rows_true(
     let mut chain = [1u16; RECORDS];
     table_sets::chain_sets(records, n, places, &mut chain);
     let mut right = true;
-    let mut o: usize = 0;
-    while o < m {
+    for o in 0..m {
         right = right & is_row_true(c, records, objects, groups, &chain, o);
-        o += 1;
     }
     right
 }
