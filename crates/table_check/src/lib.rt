@@ -89,9 +89,9 @@ fn step_later(gs: &mut [u64], n: usize, common: u64, m: u64, i: usize) -> Steppe
 }
 
 // Makes the step for one after another of the Sets in the first k places, none of which is limited, on a row that has
-// the empty group alone; says how many groups there are. Once they are more than a row holds, they stay so, and the
-// rest is left.
-fn step_plainly(gs: &mut [u64], recs: &[u8], places: &[u16], k: usize) -> usize
+// the empty group alone; says how many groups there are, or none if they are more than a row holds: once they are, they
+// stay so, and the rest is left.
+fn step_plainly(gs: &mut [u64], recs: &[u8], places: &[u16], k: usize) -> Option<usize>
     requires { (length gs.old ≡ most_groups)
         × (take 1 gs.old ≡ 0 ∷ [])
         × (k ≤ length places.now)
@@ -112,16 +112,15 @@ fn step_plainly(gs: &mut [u64], recs: &[u8], places: &[u16], k: usize) -> usize
         n = t.count;
         common = t.common;
         if GROUPS < n {
-            return n;
+            return None;
         }
     }
     join_all(gs, n, common);
-    n
+    Some(n)
 }
 
 // The same where Sets may be limited: the conflicts of each are told by the rows of those before it, which are put down
-// in `plain` and `ctx`, and by the names of all. Where 16 is given to one, it says that there are too many groups: no
-// row is right then.
+// in `plain` and `ctx`, and by the names of all. Where 16 is given to one, it says none as well: no row is right then.
 fn step_limited(
     gs: &mut [u64],
     plain: &mut [u64],
@@ -131,7 +130,7 @@ fn step_limited(
     places: &[u16],
     names: &[u32],
     k: usize,
-) -> usize
+) -> Option<usize>
     requires { (length gs.old ≡ most_groups)
         × (take 1 gs.old ≡ 0 ∷ [])
         × (k ≤ length plain.old)
@@ -148,21 +147,21 @@ fn step_limited(
     for i in 0..k {
         let t = group_limited::told_at(recs, places, names, sees, i, plain, ctx, places[i]);
         if t.nameless {
-            return GROUPS + 1;
+            return None;
         }
         n = group_apart::step_apart(gs, n, t.conflicts, i);
         if GROUPS < n {
-            return n;
+            return None;
         }
         group_limited::put_told(plain, ctx, i, t.row, t.context);
         sees[i % RECENT] = t.seen;
     }
-    n
+    Some(n)
 }
 
 // Puts the groups of the Sets in the first k places at the front of gs, by the step for one Set after another from the
-// empty group; says how many they are, or that they are more than a row holds or that 16 is given to one of the Sets.
-fn work_out(recs: &[u8], places: &[u16], k: usize, gs: &mut [u64]) -> usize
+// empty group; says how many they are, or none if they are more than a row holds or 16 is given to one of the Sets.
+fn work_out(recs: &[u8], places: &[u16], k: usize, gs: &mut [u64]) -> Option<usize>
     requires { (k ≤ length places.now)
         × (k ≤ most_sets)
         × (length gs.old ≡ most_groups)
@@ -205,10 +204,9 @@ fn is_row_true(
     let mut members = [1u16; SETS];
     let mut gs = [1u64; GROUPS];
     table_sets::gather_sets(chain, p as usize, k as usize, &mut members);
-    let r = work_out(records, &members, k as usize, &mut gs);
-    if GROUPS < r {
+    let Some(r) = work_out(records, &members, k as usize, &mut gs) else {
         return false;
-    }
+    };
     is_row(groups, o, g as usize, &gs, r)
 }
 

@@ -79,10 +79,7 @@ pub returns-then-t : goal.returns-then-t
 returns-then-t c =
     let l = c.loop-i in
     let (_, own, _) = next-told c.before.before in
-    record {
-      few = λ h. absurd (omega arith);
-      many = λ h turn. clash (sym own ∙ c.if-t.true) (turn.named l.i (omega arith));
-    }
+    λ turn. clash (sym own ∙ c.if-t.true) (turn.named l.i (omega arith))
 
 pub step_apart-n-requires : goal.step_apart-n-requires
 step_apart-n-requires c =
@@ -110,13 +107,9 @@ returns-then-n-gt-GROUPS c =
     let ps = a.places.now in
     let next = stepped rs ps l.i l.n l.gs (omega arith)
     (none-itself _ (x.turn.proper (l.i + 1) (omega arith))) l.invariant.2 _ refl _ x.conflicts in
-    let r = c.step_apart-n in
-    record {
-      few = λ h. absurd (omega arith);
-      many = λ h turn.
-          let irr = none-itself _ (turn.proper a.k (omega arith)) in
-          omega (arith, r.ensures.0, ap length next, in-more rs ps (l.i + 1) a.k (omega arith) irr);
-    }
+    λ turn.
+    let irr = none-itself _ (turn.proper a.k (omega arith)) in
+    omega (arith, c.step_apart-n.ensures.0, ap length next, in-more rs ps (l.i + 1) a.k (omega arith) irr)
 
 pub put_told-requires : goal.put_told-requires
 put_told-requires c =
@@ -180,12 +173,8 @@ returns c =
     let l = c.loop-i in
     let s = c in
     let a = s.args in
-    let k : l.i ≡ a.k = omega arith in
-    record {
-      few = λ h. (
-        turn-to a.recs.now a.places.now a.k s.requires.5 a.k (omega arith) s.requires.7
-            (rw k at l.invariant.8),
-        rw (← k) l.invariant.2,
-      );
-      many = λ h. absurd (omega (arith, l.invariant.1));
-    }
+    let k : l.i ≡ a.k = omega arith in (
+      l.invariant.1,
+      turn-to a.recs.now a.places.now a.k s.requires.5 a.k (omega arith) s.requires.7 (rw k at l.invariant.8),
+      rw (← k) l.invariant.2,
+    )

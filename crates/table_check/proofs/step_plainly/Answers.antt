@@ -65,16 +65,12 @@ returns-then-n-gt-GROUPS c =
     let next = stepped-on rs ps l.i (joined_with l.common (take l.n l.gs)) (omega arith)
     (none-itself _ (s.requires.4.proper (l.i + 1) (omega arith))) l.invariant.2 e refl m.result
     (m.ensures.0 ∙ plain-are-all rs ps a.k s.requires.2 l.i (omega arith) e refl s.requires.5) in
-    record {
-      few = λ h. absurd (omega arith);
-      many =
-          λ h. omega (
-            arith,
-            r.ensures.0,
-            ap length next,
-            in-more rs ps (l.i + 1) a.k (omega arith) (none-itself _ (s.requires.4.proper a.k (omega arith))),
-          );
-    }
+    omega (
+      arith,
+      r.ensures.0,
+      ap length next,
+      in-more rs ps (l.i + 1) a.k (omega arith) (none-itself _ (s.requires.4.proper a.k (omega arith))),
+    )
 
 pub loop-i-preserved : goal.loop-i-preserved
 loop-i-preserved c =
@@ -102,7 +98,4 @@ pub returns : goal.returns
 returns c =
     let l = c.loop-i in
     let k : l.i ≡ c.args.k = omega arith in
-    record {
-      few = λ h. c.join_all.ensures.1 ∙ rw (← k) l.invariant.2;
-      many = λ h. absurd (omega (arith, l.invariant.1));
-    }
+    (l.invariant.1, c.join_all.ensures.1 ∙ rw (← k) l.invariant.2)
