@@ -65,15 +65,6 @@ pub fn vector_in(rec: &[u8]) -> [u16; SITES]
     e.vector
 }
 
-// The name of the edit of rec.
-pub fn name_of(rec: &[u8]) -> u32
-    ensures { NameOf result (decode_of rec.now) }
-{
-    let site = edit_record::byte_at(rec, AT_SITE);
-    let seq = edit_record::two_at(rec, AT_SEQ);
-    site as u32 * SEQ_NUMBERS + seq as u32
-}
-
 // The name of the edit in place p, read where it stands.
 fn name_at(recs: &[u8], p: u16) -> u32
     ensures { NameOf result (record_at recs.now p) }
@@ -82,6 +73,13 @@ fn name_at(recs: &[u8], p: u16) -> u32
     let site = edit_record::byte_at(recs, at + AT_SITE);
     let seq = edit_record::two_at(recs, at + AT_SEQ);
     site as u32 * SEQ_NUMBERS + seq as u32
+}
+
+// The name of the edit of rec.
+pub fn name_of(rec: &[u8]) -> u32
+    ensures { NameOf result (decode_of rec.now) }
+{
+    name_at(rec, 0)
 }
 
 // Puts down the names of the edits in the k first places.
@@ -181,11 +179,7 @@ fn listed(count: u32) -> usize
     ensures { (result ≤ most_members)
         × ((xs : List ℕ) → length xs ≡ most_members → take result xs ≡ take count xs) }
 {
-    if MEMBERS < count as usize {
-        MEMBERS
-    } else {
-        count as usize
-    }
+    MEMBERS.min(count as usize)
 }
 
 // Member i of a limited Set, read where it stands: there are as many as the first two bytes of the count say.

@@ -14,13 +14,6 @@ use super::unused::is_rest_zero;
 use edit_history::RECORDS;
 use edit_record::{AT_KIND, AT_TARGET, AT_TARGET_SEQ, CREATE, PLACE, SITES, Seq, Site};
 
-// How many times b holds.
-fn one_if(b: bool) -> u8
-    ensures { (result ≡ cond b 1 0) × (result ≤ 1) }
-{
-    if b { 1 } else { 0 }
-}
-
 // Whether record i is one to go on with: the walk over those before it does, and its place is zero past it.
 fn is_next_right(
     sites: u8,
@@ -62,7 +55,7 @@ fn tally_set(tallies: &mut [u8], recs: &[u8], i: usize, places: &[u16])
     let site = recs[at + AT_TARGET];
     let seq = edit_record::pair_at(recs, at + AT_TARGET_SEQ);
     let p = edit_walk::place_at(places, Site(site), Seq(seq)) as usize;
-    let more = one_if(edit_record::is_set_kind(kind));
+    let more = u8::from(edit_record::is_set_kind(kind));
     if p < RECORDS {
         tallies[p] = tallies[p] + more;
     }
@@ -101,7 +94,7 @@ pub fn gather(
         tally_set(tallies, recs, i, places);
         let kind = recs[i * PLACE + AT_KIND];
         earlier[i] = creates as u8;
-        creates = creates + one_if(kind == CREATE) as u16;
+        creates = creates + u16::from(kind == CREATE);
         edit_walk::put_next(recs, i, &mut held, places);
     }
     Some(Tally { held, sum, creates })

@@ -5,7 +5,7 @@ use lib.ListN.{length}
 use Rattle.edit_history.specs.EditsHeld.{most_records}
 use Rattle.edit_history.proofs.FieldsInPlace.{kind-in-place}
 use Rattle.edit_walk.proofs.WalkKeeps.{walking-starts}
-use Rattle.table_soundness.proofs.CountingPasses.{creates-le}
+use Rattle.table_soundness.proofs.CountingPasses.{counted_once, counted_most, creates-le}
 use Rattle.table_soundness.proofs.SetTallies.{tallied}
 use Rattle.table_soundness.proofs.SoundTests.{targeted}
 use Rattle.table_soundness.proofs.GatheredSoFar.{gathering-starts, gathering-more}
@@ -94,7 +94,7 @@ overflow_add-creates c =
     let late = c in
     let at = late in
     let few = creates-le c.args.recs.now at.loop-i.i in
-    omega (arith, at.loop-i.invariant.1.made, few, c.requires.2, c.one_if.ensures.1)
+    omega (arith, at.loop-i.invariant.1.made, few, c.requires.2, c.from-creates.ensures, counted_most)
 
 pub put_next-requires : goal.put_next-requires
 put_next-requires c =
@@ -123,7 +123,7 @@ loop-i-preserved c =
     let tallies = late.tally_set in
     let below = sums.loop-i-test.true in (
       on,
-      rw (c.one_if.ensures.0, ← kind-in-place rs at.loop-i.i)
+      rw (c.from-creates.ensures ∙ counted_once _, ← kind-in-place rs at.loop-i.i)
           (gathering-more s.requires.0 w goes at.loop-i.invariant.1 (omega (arith, below, s.requires.2)) rest
           sums.sum_more-sum.ensures tallies.ensures on),
     )
