@@ -5,13 +5,7 @@ use native.Mathlib.Omega.{arith}
 use Rattle.edit_walk.specs.WalkForms.{count_in}
 use Rattle.edit_walk.proofs.RoomInIndex.{spaced-before, spaced-same}
 use Rattle.table_index.proofs.OneRecordMore.{index-starts, none-numbered}
-use Rattle.table_index.proofs.build.Lts
-use Rattle.table_index.proofs.build.Tie
-use Rattle.table_index.proofs.build.Reads
 use Rattle.table_index.proofs.build.Goals as goal
-
-abbrev start-of : (Lts.At-loop Tie.the-claims Reads.Pre Reads.Post goal.the-invariant-loop-i goal.the-decreases-loop-i) → (Lts.Start Tie.the-claims Reads.Pre Reads.Post goal.the-invariant-loop-i goal.the-decreases-loop-i)
-start-of at = at.before.before.before.before.before.before.before.before.before.before
 
 pub start_places-requires : goal.start_places-requires
 start_places-requires c =
@@ -33,7 +27,7 @@ pub add-m-requires : goal.add-m-requires
 add-m-requires c =
     let at = c in
     let l = at.loop-i in
-    let s = start-of c.before.before.before.before.before.before in
+    let s = c in
     let (d, h, e) = s.requires.0 in (
       (d, h, omega (arith, e)),
       l.invariant.0,
@@ -46,7 +40,7 @@ loop-i-preserved c =
     let s8 = c in
     let m = s8.add-m.ensures in
     let at = s8 in
-    let s = start-of c.before.before.before.before.before.before.before.before.before.before.before.before.before.before.before in (
+    let s = c in (
       m.0,
       m.1,
       spaced-same (count_in s.args.recs.now s.args.n) _ _ m.2 m.0.places-long at.loop-i.invariant.2,
@@ -54,26 +48,26 @@ loop-i-preserved c =
 
 pub shape_of-places : goal.shape_of-places
 shape_of-places c =
-    let s = start-of c.before.before in
+    let s = c in
     c.loop-i.invariant.0.places-long ∙ sym s.requires.1
 
 pub shape_of-numbers : goal.shape_of-numbers
 shape_of-numbers c =
-    let s = start-of c.before.before in
+    let s = c in
     c.loop-i.invariant.0.numbers-long ∙ sym s.requires.2
 
 pub shape_of-counts : goal.shape_of-counts
 shape_of-counts c =
-    let s = start-of c.before.before in
+    let s = c in
     c.loop-i.invariant.0.counts-long ∙ sym (rw s.requires.3 refl)
 
 pub shape_of-chains : goal.shape_of-chains
 shape_of-chains c =
-    let s = start-of c.before.before in
+    let s = c in
     c.loop-i.invariant.0.chained.chains-long ∙ sym (rw s.requires.4 refl)
 
 pub returns : goal.returns
 returns c =
-    let s = start-of c.before.before in
+    let s = c in
     let k : c.loop-i.i ≡ s.args.n = omega arith in
     rw (← k) c.loop-i.invariant.0
