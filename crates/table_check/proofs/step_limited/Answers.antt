@@ -15,14 +15,12 @@ use Rattle.group_limited.proofs.NamedInTurn.{nameless, lawful-to}
 use Rattle.table_check.proofs.RowWorkedOut.{groups_none, stepped, in-ascending, in-below, in-apart, in-more}
 use Rattle.table_check.proofs.RowWorkedOut.{settled-front}
 use Rattle.table_check.proofs.SetsInTurn.{TakenInTurn, taken, next-nameless, turn-to}
-use Rattle.table_check.proofs.step_limited.Lts
-use Rattle.table_check.proofs.step_limited.Tie
-use Rattle.table_check.proofs.step_limited.Reads
 use Rattle.table_check.proofs.step_limited.Goals as goal
+use Rattle.table_check.proofs.step_limited.Goals.{After-told_at-t}
 
 -- what is known once the next Set is told
 next-told :
-    (b : (Lts.After-told_at Tie.the-claims Reads.Pre Reads.Post goal.the-invariant-loop-i goal.the-decreases-loop-i)) →
+    (b : After-told_at-t) →
     let t = b.told_at-t.result in
     let y = b in
     let rs = y.args.recs.now in
@@ -78,7 +76,7 @@ told_at-t-requires c =
 pub returns-then-t : goal.returns-then-t
 returns-then-t c =
     let l = c.loop-i in
-    let (_, own, _) = next-told c.before.before in
+    let (_, own, _) = next-told (goal.at.returns-then-t c).After-told_at-t in
     λ turn. clash (sym own ∙ c.if-t.true) (turn.named l.i (omega arith))
 
 pub step_apart-n-requires : goal.step_apart-n-requires
@@ -97,7 +95,7 @@ step_apart-n-requires c =
 pub returns-then-n-gt-GROUPS : goal.returns-then-n-gt-GROUPS
 returns-then-n-gt-GROUPS c =
     let b = c in
-    let (_, _, taken_next) = next-told c.before.before.before.before.before.before.before in
+    let (_, _, taken_next) = next-told (goal.at.returns-then-n-gt-GROUPS c).After-told_at-t in
     let x = taken_next c.if-t.false in
     let y = b in
     let l = y.loop-i in
@@ -145,7 +143,7 @@ loop-i-preserved c =
     let r = back.step_apart-n in
     let b = back in
     let t = b.told_at-t.result in
-    let (told, _, taken_next) = next-told c.before.before.before.before.before.before.before.before.before.before.before.before.before.before in
+    let (told, _, taken_next) = next-told (goal.at.loop-i-preserved c).After-told_at-t in
     let x = taken_next back.if-t.false in
     let y = b in
     let l = y.loop-i in
