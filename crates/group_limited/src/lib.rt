@@ -58,13 +58,9 @@ pub fn is_any_limited(recs: &[u8], places: &[u16], k: usize) -> bool
     requires { k ≤ length places.now }
     ensures { result ≡ any is_limited (sets_in recs.now places.now k) }
 {
-    let mut found = false;
-    let mut i: usize = 0;
-    while i < k {
-        found = found | (edit_history::kind_at(recs, places[i] as usize) == LIMITED);
-        i += 1;
-    }
-    found
+    places[..k]
+        .iter()
+        .any(|&p| edit_history::kind_at(recs, p as usize) == LIMITED)
 }
 
 // What is asked of the Sets in the k first places, whose names these are, for that of rec, which comes after them.
@@ -232,13 +228,11 @@ pub fn put_rows(
         RowsTell (sets_in recs.now places.now k) plain.new ctx.new
         × SeesTell (sets_in recs.now places.now k) sees.new }
 {
-    let mut i: usize = 0;
-    while i < k {
+    for i in 0..k {
         let s = sight_at(recs, places, names, sees, i, places[i]);
         let own = left_by(plain, ctx, s);
         put_told(plain, ctx, i, s.plain, own);
         sees[i % RECENT] = s.seen;
-        i += 1;
     }
 }
 
@@ -294,8 +288,7 @@ fn are_named_with(
         NamedBy (sets_in recs.now places.now k) result plain.new ctx.new
         sees.new }
 {
-    let mut i: usize = 0;
-    while i < k {
+    for i in 0..k {
         let s = sight_at(recs, places, names, sees, i, places[i]);
         let own = left_by(plain, ctx, s);
         if is_nameless(plain, s, own) {
@@ -303,7 +296,6 @@ fn are_named_with(
         }
         put_told(plain, ctx, i, s.plain, own);
         sees[i % RECENT] = s.seen;
-        i += 1;
     }
     true
 }

@@ -31,13 +31,7 @@ fn is_limited_held(recs: &[u8], n: usize) -> bool
     requires { n ≤ most_records }
     ensures { result ≡ any is_limited (edits_of recs.now n) }
 {
-    let mut found = false;
-    let mut i: usize = 0;
-    while i < n {
-        found = found | (edit_history::kind_at(recs, i) == LIMITED);
-        i += 1;
-    }
-    found
+    (0..n).any(|p| edit_history::kind_at(recs, p) == LIMITED)
 }
 
 // The number i, where a and b have changed places.
@@ -119,8 +113,7 @@ fn are_named_each(
 {
     let end = n - 1;
     let mut named = true;
-    let mut i: usize = 0;
-    while i < n {
+    for i in 0..n {
         let p = swapped(i, end, last);
         let own = are_named_at(
             members,
@@ -135,7 +128,6 @@ fn are_named_each(
             i == end,
         );
         named = named & own;
-        i += 1;
     }
     named
 }

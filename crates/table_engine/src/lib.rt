@@ -58,11 +58,9 @@ fn put_plainly(recs: &[u8], places: &[u16], k: usize, masks: &mut [u64])
     let mut sets = [0u64; KEY_CHAINS];
     // what work space holds at first does not matter; zeros would be set by memset (docs/DECISIONS.md, 24)
     let mut tolds = [1u64; DECIDED];
-    let mut i: usize = 0;
-    while i < k {
+    for i in 0..k {
         let row = mark_set(&mut sets, &mut tolds, recs, places, i);
         group_limited::put_row(masks, i, row);
-        i += 1;
     }
 }
 

@@ -126,10 +126,8 @@ pub fn build(
 {
     edit_walk::start_places(recs, n, places);
     let mut m: u16 = 0;
-    let mut i: usize = 0;
-    while i < n {
+    for i in 0..n {
         m = add(recs, i, m, places, numbers, counts, chains);
-        i += 1;
     }
 }
 

@@ -38,9 +38,7 @@ pub fn put_chains(out: &mut [u16], recs: &[u8], n: usize, numbers: &[u8], chains
     requires { ChainsOn recs.now n numbers.now chains.now q × (most_sets ≤ length out.old) }
     ensures { take (length (places_on recs.now n q)) out.new ≡ places_on recs.now n q }
 {
-    let mut y: usize = 0;
-    while y < KEYS as usize {
-        put_chain(out, recs, n, numbers, chains, q, y);
-        y += 1;
+    for key in 0..KEYS as usize {
+        put_chain(out, recs, n, numbers, chains, q, key);
     }
 }

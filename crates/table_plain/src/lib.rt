@@ -53,11 +53,7 @@ fn whole_of(rec: &[u8]) -> [u8; RECORD]
     ensures { result ≡ rec.now }
 {
     let mut whole = [0u8; RECORD];
-    let mut i: usize = 0;
-    while i < RECORD {
-        whole[i] = rec[i];
-        i += 1;
-    }
+    whole.copy_from_slice(rec);
     whole
 }
 

@@ -9,7 +9,8 @@ use native.Mathlib.Omega.{arith}
 use native.Mathlib.Numerals.{add-one}
 use native.Mathlib.Decide.{ℕ_discrete, dec_lt}
 use lib.Dec.{eqb, ltb}
-use lib.ListN.{get_or, length, get_or-eq_default}
+use lib.ListN.{get_or, length, take, drop, length-drop, get_or-eq_default}
+use lib.Seq.{take_all}
 use lib.Bits.{bit_or, or_add_and, and_le_l, and_comm}
 use borrow.Author.Tests.{lt-ltb, le-ltb, ltb-true, eq-eqb, eqb-true}
 use Rattle.math_lists.specs.NumbersBelow.{all}
@@ -19,6 +20,10 @@ use Rattle.table_soundness.specs.Sound.{zero_from}
 
 abbrev pub zero_at : List ℕ → ℕ → ℕ → Bool
 zero_at l k i = ltb i k || eqb (get_or l i 0) 0
+
+-- what a loop over the entries from k on goes through
+pub rest-is : (l : List ℕ) (k : ℕ) → take (length l - k) (drop k l) ≡ drop k l
+rest-is l k = take_all (length l - k) (drop k l) (omega (arith, length-drop k l))
 
 -- before the first turn, in a turn, and at the end
 

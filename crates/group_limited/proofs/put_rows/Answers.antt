@@ -1,7 +1,7 @@
 -- `group_limited::put_rows` meets its contract: after i places, the rows of their Sets are put down, where all of them
 -- are proper. Assumes nothing.
 use mathlib.Core.Path.{◌≡◌, refl, subst, ◌∙◌}
-use Prim.Native.Nat.{ℕ, ◌-◌, ◌%◌, ◌≤◌, ◌<◌}
+use Prim.Native.Nat.{ℕ, ◌%◌, ◌≤◌, ◌<◌}
 use native.Mathlib.Omega.{arith}
 use lib.ListN.{length, get_or, length-set}
 use Rattle.math_contexts.specs.Box.{Lawful}
@@ -17,7 +17,7 @@ use Rattle.group_limited.proofs.put_rows.Goals as goal
 pub loop-i-init : goal.loop-i-init
 loop-i-init c =
     let a = c.args in
-    (omega arith, refl, refl, refl, λ p. (no_rows a.plain.now a.ctx.now, none-sees a.sees.now))
+    (refl, refl, refl, λ p. (no_rows a.plain.now a.ctx.now, none-sees a.sees.now))
 
 pub sight_at-s-requires : goal.sight_at-s-requires
 sight_at-s-requires c =
@@ -27,7 +27,7 @@ sight_at-s-requires c =
       omega (arith, s.requires.0, more),
       omega (arith, s.requires.1, more),
       omega (arith, s.requires.2, more),
-      omega (arith, l.invariant.3, s.requires.5, more),
+      omega (arith, l.invariant.2, s.requires.5, more),
       λ j m. s.requires.6 j (omega (arith, more)),
     )
 
@@ -40,8 +40,8 @@ put_told-requires c =
     let s = far in
     let more = back.loop-i-test.true in (
       omega (arith, s.requires.0, more),
-      omega (arith, l.invariant.1, s.requires.3, more),
-      omega (arith, l.invariant.2, s.requires.4, more),
+      omega (arith, l.invariant.0, s.requires.3, more),
+      omega (arith, l.invariant.1, s.requires.4, more),
       t.sight_at-s.ensures.0,
     )
 
@@ -51,7 +51,7 @@ bounds-sees-i c =
     let far = back in
     let l = back.loop-i in
     let s = far in
-    omega (arith, l.invariant.3, s.requires.5, back.loop-i-test.true)
+    omega (arith, l.invariant.2, s.requires.5, back.loop-i-test.true)
 
 pub loop-i-preserved : goal.loop-i-preserved
 loop-i-preserved c =
@@ -69,12 +69,11 @@ loop-i-preserved c =
     let fits : a.k ≤ length ps = s.requires.1 in
     let e = record_at rs (get_or ps l.i 0) in
     let size = sets-length rs ps l.i (omega arith) in (
-      omega (arith, more),
-      p.auto.plain ∙ l.invariant.1,
-      p.auto.ctx ∙ l.invariant.2,
-      length-set l.sees (l.i % most_recent) sight.result.seen ∙ l.invariant.3,
+      p.auto.plain ∙ l.invariant.0,
+      p.auto.ctx ∙ l.invariant.1,
+      length-set l.sees (l.i % most_recent) sight.result.seen ∙ l.invariant.2,
       λ proper.
-          let (tell, sees) = l.invariant.4 proper in
+          let (tell, sees) = l.invariant.3 proper in
           let whole = subst (Lawful (box_on (sets_in rs ps a.k))) (sets-length rs ps a.k fits) proper.lawful in
           let seen = sight.ensures.1 sees (lawful-to rs ps a.k fits l.i more e refl whole) in
           let its = own.ensures _ _ (omega (arith, size, s.requires.0)) tell seen
@@ -82,7 +81,7 @@ loop-i-preserved c =
             rows_more rs ps l.i (omega arith) sight.result.plain own.result l.plain l.ctx p.new.plain
                 p.new.ctx tell seen.plain its p.ensures,
             sees_more rs ps l.i (omega arith) l.sees sight.result.seen sees seen.seen
-                (omega (arith, l.invariant.3, s.requires.5)),
+                (omega (arith, l.invariant.2, s.requires.5)),
           ),
     )
 
@@ -93,7 +92,7 @@ returns c proper =
     let done : l.i ≡ a.k = omega arith in
     let rs = a.recs.now in
     let ps = a.places.now in
-    let (tell, sees) = l.invariant.4 proper in (
+    let (tell, sees) = l.invariant.3 proper in (
       subst (λ (j : ℕ). RowsTell (sets_in rs ps j) l.plain l.ctx) done tell,
       subst (λ (j : ℕ). SeesTell (sets_in rs ps j) l.sees) done sees,
     )

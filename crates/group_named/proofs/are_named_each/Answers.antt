@@ -9,14 +9,13 @@ use Rattle.math_lists.specs.NumbersBelow.{all}
 use Rattle.math_lists.proofs.Booleans.{both}
 use Rattle.group_named.specs.NamedForms.{is_named_at, swap_of, BoxTold}
 use Rattle.group_named.proofs.SwappedPlaces.{swap-first, swap-below, all-swapped}
-use borrow.Author.Rules.{rules}
 use Rattle.group_named.proofs.are_named_each.Goals as goal
 
 pub loop-i-init : goal.loop-i-init
 unfolding all
 loop-i-init c =
     let s = c in
-    (search rules, refl, refl, refl, refl, refl, λ chained law. (refl, λ none. absurd (omega (arith, s.requires.1))))
+    (refl, refl, refl, refl, refl, λ chained law. (refl, λ none. absurd (omega (arith, s.requires.1))))
 
 pub are_named_at-own-requires : goal.are_named_at-own-requires
 are_named_at-own-requires c =
@@ -28,11 +27,11 @@ are_named_at-own-requires c =
       s.requires.0,
       rw w.ensures (swap-below _ s.args.last s.args.n (omega arith) s.requires.1 l.i more),
       s.requires.2,
-      omega (arith, l.invariant.1, s.requires.3),
-      omega (arith, l.invariant.2, s.requires.4),
-      omega (arith, l.invariant.3, s.requires.5),
-      omega (arith, l.invariant.4, s.requires.6),
-      omega (arith, l.invariant.5, s.requires.7),
+      omega (arith, l.invariant.0, s.requires.3),
+      omega (arith, l.invariant.1, s.requires.4),
+      omega (arith, l.invariant.2, s.requires.5),
+      omega (arith, l.invariant.3, s.requires.6),
+      omega (arith, l.invariant.4, s.requires.7),
     )
 
 pub loop-i-preserved : goal.loop-i-preserved
@@ -45,16 +44,15 @@ loop-i-preserved c =
     let y = far in
     let l = y.loop-i in
     let s = y in (
-      omega (arith, y.loop-i-test.true),
-      t.auto.members ∙ l.invariant.1,
-      t.auto.plain ∙ l.invariant.2,
-      t.auto.ctx ∙ l.invariant.3,
-      t.auto.sees ∙ l.invariant.4,
-      t.auto.names ∙ l.invariant.5,
+      t.auto.members ∙ l.invariant.0,
+      t.auto.plain ∙ l.invariant.1,
+      t.auto.ctx ∙ l.invariant.2,
+      t.auto.sees ∙ l.invariant.3,
+      t.auto.names ∙ l.invariant.4,
       λ chained law.
           let a = s.args in
           let end = a.n - 1 in
-          let (all-before, _) = l.invariant.6 chained law in
+          let (all-before, _) = l.invariant.5 chained law in
           let (own, told) = t.ensures chained law in (
             rw (add-one, all-before, own, w.ensures),
             λ done h.
@@ -74,7 +72,7 @@ returns c chained law =
     let done : l.i ≡ a.n = omega arith in
     let rs = a.recs.now in
     let end = a.n - 1 in
-    let (named, told) = l.invariant.6 chained law in (
+    let (named, told) = l.invariant.5 chained law in (
       named
           ∙ ap (λ (j : ℕ). all j (λ i. is_named_at rs a.n (swap_of end a.last i))) done
           ∙ all-swapped end a.last a.n (omega (arith, s.requires.1)) s.requires.1 (is_named_at rs a.n),

@@ -19,13 +19,11 @@ use Rattle.table_index.specs.IndexForms.{number_at, is_on}
 use Rattle.table_index.proofs.OneRecordMore.{spot-low, starts-kept, number-low, number_more, create-added}
 use Rattle.table_index.proofs.OneRecordMore.{place-added, target_at, room, low, key-low, set-added}
 use borrow.Author.Rules.{rules}
-use Rattle.table_index.proofs.add.Lts
-use Rattle.table_index.proofs.add.Tie
-use Rattle.table_index.proofs.add.Reads
 use Rattle.table_index.proofs.add.Goals as goal
+use Rattle.table_index.proofs.add.Goals.{Start}
 
 -- the index has room for the record
-room_of : (s : (Lts.Start Tie.the-claims Reads.Pre Reads.Post)) → Spaced (count_in s.args.recs.now (suc s.args.p)) s.args.places.now
+room_of : (s : Start) → Spaced (count_in s.args.recs.now (suc s.args.p)) s.args.places.now
 room_of s = rw add-one at s.requires.3
 
 -- the record in place p is a Set, by the test of its kind
@@ -36,7 +34,7 @@ set_is :
 set_is rs p r is kind on = rw kind at (sym is ∙ not-false r on)
 
 -- what the index has of the Create in place r, the target of a Set
-record Aim (s : (Lts.Start Tie.the-claims Reads.Pre Reads.Post)) (r : ℕ) : Type 0 where
+record Aim (s : Start) (r : ℕ) : Type 0 where
   before : r < s.args.p
   create : is_create (record_at s.args.recs.now r) ≡ true
   on : is_on s.args.recs.now r s.args.p ≡ true
@@ -44,13 +42,13 @@ record Aim (s : (Lts.Start Tie.the-claims Reads.Pre Reads.Post)) (r : ℕ) : Typ
   few : number_at s.args.recs.now r < most_objects
   left : get_or s.args.counts.now (number_at s.args.recs.now r) 0 < most_sets
 
-abbrev with-place : (Lts.Start Tie.the-claims Reads.Pre Reads.Post) → List ℕ
+abbrev with-place : Start → List ℕ
 with-place s =
     let e = record_at s.args.recs.now s.args.p in
     set s.args.places.now (slot_of s.args.places.now e.site.0 e.seq.0) s.args.p
 
 aim :
-    (s : (Lts.Start Tie.the-claims Reads.Pre Reads.Post)) → is_set (record_at s.args.recs.now s.args.p) ≡ true → (r : ℕ) →
+    (s : Start) → is_set (record_at s.args.recs.now s.args.p) ≡ true → (r : ℕ) →
     (let e = record_at s.args.recs.now s.args.p in r ≡ place_of (with-place s) e.tsite.0 e.tseq.0) →
     Aim s r
 aim s is r there =
@@ -86,7 +84,7 @@ offset_bounds-places-at c =
     let a = s.args in
     let (d, h, l) = s.requires.0 in
     let x = s.requires.1 in
-    let y = room_of c.before.before.before.before.before.before.before in
+    let y = room_of (goal.at.offset_bounds-places-at c).Start in
     let low : c.spot-at.result < places_length
     = rw c.spot-at.ensures
     (spot-low d a.recs.now h a.p l a.places.now a.numbers.now a.counts.now a.chains.now
@@ -99,7 +97,7 @@ bounds-places-at c =
     let a = s.args in
     let (d, h, l) = s.requires.0 in
     let x = s.requires.1 in
-    let y = room_of c.before.before.before.before.before.before.before in
+    let y = room_of (goal.at.bounds-places-at c).Start in
     rw (c.spot-at.ensures, x.places-long)
     (spot-low d a.recs.now h a.p l a.places.now a.numbers.now a.counts.now a.chains.now
     x y)
@@ -130,11 +128,11 @@ returns-then-kind-eq-CREATE c =
     = number_more d rs h a.p l ∙ ap (λ (b : Bool). number_at rs a.p + cond b 1 0) is in (
       rw (add-one a.p, c.spot-at.ensures, s.requires.2)
           (create-added d rs h a.p l a.places.now a.numbers.now a.counts.now a.chains.now
-          s.requires.1 (room_of c.before.before.before.before.before.before.before.before.before) is),
+          s.requires.1 (room_of (goal.at.returns-then-kind-eq-CREATE c).Start) is),
       rw (add-one a.p) (omega (arith, more, s.requires.2)),
       rw c.spot-at.ensures
           (starts-kept d rs h a.p l a.places.now a.numbers.now a.counts.now a.chains.now
-          s.requires.1 (room_of c.before.before.before.before.before.before.before.before.before)),
+          s.requires.1 (room_of (goal.at.returns-then-kind-eq-CREATE c).Start)),
     )
 
 pub returns-then-not-is_set_kind : goal.returns-then-not-is_set_kind
@@ -152,11 +150,11 @@ returns-then-not-is_set_kind c =
     = number_more d rs h a.p l ∙ ap (λ (b : Bool). number_at rs a.p + cond b 1 0) none in (
       rw (add-one a.p, c.spot-at.ensures)
           (place-added d rs h a.p l a.places.now a.numbers.now a.counts.now a.chains.now
-          s.requires.1 (room_of c.before.before.before.before.before.before.before.before.before.before.before) none other),
+          s.requires.1 (room_of (goal.at.returns-then-not-is_set_kind c).Start) none other),
       rw (add-one a.p) (omega (arith, more, s.requires.2)),
       rw c.spot-at.ensures
           (starts-kept d rs h a.p l a.places.now a.numbers.now a.counts.now a.chains.now
-          s.requires.1 (room_of c.before.before.before.before.before.before.before.before.before.before.before)),
+          s.requires.1 (room_of (goal.at.returns-then-not-is_set_kind c).Start)),
     )
 
 pub bounds-numbers-q : goal.bounds-numbers-q
@@ -169,7 +167,7 @@ bounds-numbers-q c =
     let f = c.target_place-q in
     let is = set_is s.args.recs.now s.args.p c4.is_set_kind.result c4.is_set_kind.ensures
     c6.kind_at-kind.ensures c.if-not-is_set_kind.false-raw in
-    let t = aim c.before.before.before.before.before.before.before.before.before.before.before.before.before is f.result (rw c7.spot-at.ensures at f.ensures) in
+    let t = aim (goal.at.bounds-numbers-q c).Start is f.result (rw c7.spot-at.ensures at f.ensures) in
     omega (arith, s.requires.1.numbers-long, t, h.few-records, l)
 
 pub overflow_cast-o-2 : goal.overflow_cast-o-2
@@ -184,7 +182,7 @@ overflow_cast-o-2 c =
     let f = c5.target_place-q in
     let is = set_is rs a.p c8.is_set_kind.result c8.is_set_kind.ensures c10.kind_at-kind.ensures
     c5.if-not-is_set_kind.false-raw in
-    let t = aim c.before.before.before.before.before.before.before.before.before.before.before.before.before.before is f.result (rw c11.spot-at.ensures at f.ensures) in
+    let t = aim (goal.at.overflow_cast-o-2 c).Start is f.result (rw c11.spot-at.ensures at f.ensures) in
     let low : get_or a.numbers.now f.result 0 < most_objects = rw t.number t.few in
     search (rules, low)
 
@@ -202,9 +200,9 @@ add_set-requires c =
     let f = c5.target_place-q in
     let is = set_is rs a.p c8.is_set_kind.result c8.is_set_kind.ensures c10.kind_at-kind.ensures
     c5.if-not-is_set_kind.false-raw in
-    let t = aim c.before.before.before.before.before.before.before.before.before.before.before.before.before.before.before.before.before is f.result (rw c11.spot-at.ensures at f.ensures) in
+    let t = aim (goal.at.add_set-requires c).Start is f.result (rw c11.spot-at.ensures at f.ensures) in
     let key = key-low d rs h a.p l a.places.now a.numbers.now a.counts.now a.chains.now x
-    (room_of c.before.before.before.before.before.before.before.before.before.before.before.before.before.before.before.before.before) f.result t.before t.create t.on in (
+    (room_of (goal.at.add_set-requires c).Start) f.result t.before t.create t.on in (
       omega (arith, h.few-records, l),
       rw t.number t.few,
       rw (c.byte_at-key.ensures, ← key-in-place rs a.p) key,
@@ -232,7 +230,7 @@ returns c =
     = ne_eqb (record_at rs a.p).kind create_kind (λ y. c15.if-kind-eq-CREATE.false (c17.kind_at-kind.ensures ∙ y)) in
     let is = set_is rs a.p c15.is_set_kind.result c15.is_set_kind.ensures c17.kind_at-kind.ensures
     c12.if-not-is_set_kind.false-raw in
-    let t = aim c.before.before.before.before.before.before.before.before.before.before.before.before.before.before.before.before.before.before.before.before.before.before.before.before is f.result (rw c18.spot-at.ensures at f.ensures) in
+    let t = aim (goal.at.returns c).Start is f.result (rw c18.spot-at.ensures at f.ensures) in
     let key : c10.byte_at-key.result ≡ (record_at rs a.p).key
     = c10.byte_at-key.ensures ∙ sym (key-in-place rs a.p) in
     let added = c6.add_set.ensures in
@@ -240,9 +238,9 @@ returns c =
     = number_more d rs h a.p l ∙ ap (λ (b : Bool). number_at rs a.p + cond b 1 0) none in (
       rw (add-one a.p, added.0, added.1, added.2, t.number, key, c17.kind_at-kind.ensures, c18.spot-at.ensures)
           (set-added d rs h a.p l a.places.now a.numbers.now a.counts.now a.chains.now x
-          (room_of c.before.before.before.before.before.before.before.before.before.before.before.before.before.before.before.before.before.before.before.before.before.before.before.before) f.result t.before t.create t.on),
+          (room_of (goal.at.returns c).Start) f.result t.before t.create t.on),
       rw (add-one a.p) (omega (arith, more, s.requires.2)),
       rw c18.spot-at.ensures
           (starts-kept d rs h a.p l a.places.now a.numbers.now a.counts.now a.chains.now x
-          (room_of c.before.before.before.before.before.before.before.before.before.before.before.before.before.before.before.before.before.before.before.before.before.before.before.before)),
+          (room_of (goal.at.returns c).Start)),
     )

@@ -7,36 +7,25 @@ use lib.ListN.{get_or}
 use Rattle.math_lists.specs.SortedLists.{any}
 use Rattle.edit_record.specs.RecordBytes.{decode_of}
 use Rattle.edit_record.specs.Answer1.{is_limited}
-use Rattle.edit_record.specs.declared.Edit.{Edit}
 use Rattle.edit_causal.specs.ConflictForms.{plain_marks}
 use Rattle.edit_history.specs.EditsHeld.{edits_of, sets_on}
 use Rattle.edit_walk.specs.WalkForms.{place_of}
 use Rattle.table_index.specs.IndexForms.{number_at, limit_at}
 use Rattle.table_index.proofs.LookByIndex.{told}
 use Rattle.table_index.proofs.SurveyByIndex.{survey-found, Aimed, aimed}
-use Rattle.table_index.proofs.survey_held.Lts
-use Rattle.table_index.proofs.survey_held.Tie
-use Rattle.table_index.proofs.survey_held.Reads
 use Rattle.table_index.proofs.survey_held.Goals as goal
-
-abbrev start-of : (Lts.After-place_at Tie.the-claims Reads.Pre Reads.Post) → (Lts.Start Tie.the-claims Reads.Pre Reads.Post)
-start-of c =
-    let c6 = c in
-    c.before.before.before.before.before.before.before.before.before
-
-abbrev e-of : (Lts.Start Tie.the-claims Reads.Pre Reads.Post) → Edit
-e-of s = decode_of s.args.rec.now
+use Rattle.table_index.proofs.survey_held.Goals.{After-place_at-q}
 
 -- the target, where the code finds it
 target :
-    (c : (Lts.After-place_at Tie.the-claims Reads.Pre Reads.Post)) →
-    (let s = start-of c in
+    (c : After-place_at-q) →
+    (let s = c in
     Aimed s.args.c s.args.recs.now s.requires.0 s.args.places.now s.args.numbers.now
-    s.args.counts.now s.args.chains.now s.requires.2 (e-of c.before.before.before.before.before.before.before.before.before) c.place_at-q.result)
+    s.args.counts.now s.args.chains.now s.requires.2 (decode_of c.args.rec.now) c.place_at-q.result)
 target c =
-    let s = start-of c in
+    let s = c in
     let a = s.args in
-    let e = e-of c.before.before.before.before.before.before.before.before.before in
+    let e = decode_of c.args.rec.now in
     let is : c.place_at-q.result ≡ place_of a.places.now e.tsite.0 e.tseq.0
     = c.place_at-q.ensures ∙ ap (place_of a.places.now e.tsite.0) c.pair_at-seq.ensures in
     subst
@@ -49,8 +38,8 @@ target c =
 pub marks_for-plain-requires : goal.marks_for-plain-requires
 marks_for-plain-requires c =
     let c3 = c in
-    let s = start-of c.before.before.before.before in
-    let t = target c.before.before.before.before in
+    let s = c in
+    let t = target (goal.at.marks_for-plain-requires c).After-place_at-q in
     let a = s.args in (
       (a.c, s.requires.0, refl, record { in-turn = s.requires.4; place = t.low; target = t.target }),
       s.requires.1,
@@ -66,11 +55,11 @@ returns c torn =
     let c3 = c1 in
     let c4 = c3 in
     let c5 = c4 in
-    let s = start-of c.before.before.before.before.before.before in
-    let t = target c.before.before.before.before.before.before in
+    let s = c in
+    let t = target (goal.at.returns c).After-place_at-q in
     let a = s.args in
     let rs = a.recs.now in
-    let e = e-of c.before.before.before.before.before.before.before.before.before.before.before.before.before.before.before in
+    let e = decode_of c.args.rec.now in
     let es = edits_of rs a.c.records in
     let ms = sets_on e.tsite e.tseq es in
     let q = c5.place_at-q.result in

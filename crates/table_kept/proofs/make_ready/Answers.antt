@@ -14,14 +14,12 @@ use Rattle.table_kept.specs.BoxForms.{TellOf}
 use Rattle.table_kept.proofs.AlongChains.{target-chains}
 use Rattle.table_kept.proofs.KeptAlong.{kept-all}
 use borrow.Author.Rules.{rules}
-use Rattle.table_kept.proofs.make_ready.Lts
-use Rattle.table_kept.proofs.make_ready.Tie
-use Rattle.table_kept.proofs.make_ready.Reads
 use Rattle.table_kept.proofs.make_ready.Goals as goal
+use Rattle.table_kept.proofs.make_ready.Goals.{After-place_at-at}
 
 -- the chains of the box, where the code finds it
 chains-at :
-    (c : (Lts.After-place_at Tie.the-claims Reads.Pre Reads.Post)) →
+    (c : After-place_at-at) →
     (let a = c.args in
     ChainsOn a.recs.now a.n a.numbers.now a.chains.now c.place_at-at.result
     × (map (record_at a.recs.now) (places_on a.recs.now a.n c.place_at-at.result)
@@ -59,7 +57,7 @@ put_anew-requires c =
     let s = c in
     let rs = s.args.recs.now in
     let h = s.requires.3 in
-    let (chains, sets) = chains-at c.before.before.before in (
+    let (chains, sets) = chains-at (goal.at.put_anew-requires c).After-place_at-at in (
       chains,
       s.requires.2 ∙ sym (ap length sets)
           ∙ length-map (places_on rs s.args.n c.place_at-at.result) (record_at rs),
@@ -70,7 +68,7 @@ put_anew-requires c =
 pub returns-then-not-is_kept : goal.returns-then-not-is_kept
 returns-then-not-is_kept c =
     let p = c.put_anew in
-    subst (λ (ms : List Edit). TellOf ms p.new.names p.new.rows) (chains-at c.before.before.before.before.before.before.before.before).1
+    subst (λ (ms : List Edit). TellOf ms p.new.names p.new.rows) (chains-at (goal.at.returns-then-not-is_kept c).After-place_at-at).1
     p.ensures
 
 pub returns-else-not-is_kept : goal.returns-else-not-is_kept

@@ -6,15 +6,7 @@ use Rattle.edit_sum.specs.WordSum.{wrapped}
 use Rattle.table_plain.proofs.JudgedGoes.{judged-there, judged-steps, judged-put, judged-crowded}
 use Rattle.table_plain.proofs.JudgedGoes.{judged-enters, judged-left}
 use borrow.Author.Rules.{rules}
-use Rattle.table_plain.proofs.take_judged.Lts
-use Rattle.table_plain.proofs.take_judged.Tie
-use Rattle.table_plain.proofs.take_judged.Reads
 use Rattle.table_plain.proofs.take_judged.Goals as goal
-
-abbrev start-of : (Lts.After-store_set Tie.the-claims Reads.Pre Reads.Post) → (Lts.Start Tie.the-claims Reads.Pre Reads.Post)
-start-of c =
-    let c7 = c in
-    c.before.before.before.before.before.before.before.before.before.before.before.before.before.before.before.before.before
 
 none_more : (n : ℕ) → n + 0 ≡ n
 none_more n = omega arith
@@ -50,7 +42,7 @@ store_set-requires c =
 pub returns-then-not-store_set : goal.returns-then-not-store_set
 returns-then-not-store_set c =
     let w = c in
-    let s = start-of c.before.before.before.before.before.before.before.before.before.before.before.before.before in
+    let s = c in
     let a = s.args in
     let x = c.not_taken.ensures in
     rw (x.0, x.1, x.2, none_more a.n)
@@ -61,7 +53,7 @@ returns-then-not-store_set c =
 pub enter-requires : goal.enter-requires
 enter-requires c =
     let w = c in
-    let s = start-of c.before.before.before.before.before.before.before.before.before.before.before.before.before.before in
+    let s = c in
     let a = s.args in (
       judged-there a.sites a.n a.m a.sum a.held.now a.records.now a.objects.now a.groups.now
           a.places.now a.numbers.now a.counts.now a.chains.now a.rec.now s.requires.0 a.a s.requires.1,
@@ -72,20 +64,20 @@ enter-requires c =
 
 pub put_record-requires : goal.put_record-requires
 put_record-requires c =
-    let s = start-of c.before.before.before.before.before.before.before.before.before.before.before.before.before.before.before.before.before.before.before.before in
+    let s = c in
     let a = s.args in
     judged-put a.sites a.n a.m a.sum a.held.now a.records.now a.objects.now a.groups.now
     a.places.now a.numbers.now a.counts.now a.chains.now a.rec.now s.requires.0 a.a s.requires.1
 
 pub sum_record-requires : goal.sum_record-requires
 sum_record-requires c =
-    let s = start-of c.before.before.before.before.before.before.before.before.before.before.before.before.before.before.before.before.before.before.before.before.before.before.before in
+    let s = c in
     omega (arith, s.requires.0.whole)
 
 pub returns : goal.returns
 returns c =
     let w = c in
-    let s = start-of c.before.before.before.before.before.before.before.before.before.before.before.before.before.before.before.before.before.before.before.before.before.before.before.before.before in
+    let s = c in
     let a = s.args in
     let n = c.enter.ensures in
     judged-left a.sites a.n a.m a.sum a.held.now a.records.now a.objects.now a.groups.now

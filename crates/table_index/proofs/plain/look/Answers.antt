@@ -2,7 +2,6 @@
 use mathlib.Core.Path.{◌≡◌, sym, refl, ◌∙◌}
 use mathlib.Core.Bool.{true}
 use Rattle.math_lists.proofs.Booleans.{clash}
-use Rattle.edit_record.specs.declared.Edit.{Edit}
 use Rattle.edit_record.specs.RecordBytes.{decode_of}
 use Rattle.edit_record.specs.Answer1.{is_set}
 use Rattle.edit_record.proofs.WellFormed.{set-not-create}
@@ -11,30 +10,20 @@ use Rattle.edit_history.specs.Answers2to5.{passes}
 use Rattle.edit_walk.proofs.NewsDecide.{news-decide}
 use Rattle.table_index.specs.IndexForms.{counters_of}
 use Rattle.table_index.proofs.LookByIndex.{turn-of, target-of, create-room-of}
-use Rattle.table_index.proofs.plain.look.Lts
-use Rattle.table_index.proofs.plain.look.Tie
-use Rattle.table_index.proofs.plain.look.Reads
 use Rattle.table_index.proofs.plain.look.Goals as goal
-
-abbrev start-of : (Lts.After-is_passing_with Tie.the-claims Reads.Pre Reads.Post) → (Lts.Start Tie.the-claims Reads.Pre Reads.Post)
-start-of c =
-    let c2 = c in
-    c.before.before.before.before.before.before.before.before.before.before
-
-abbrev e-of : (Lts.Start Tie.the-claims Reads.Pre Reads.Post) → Edit
-e-of s = decode_of s.args.rec.now
+use Rattle.table_index.proofs.plain.look.Goals.{After-is_passing_with}
 
 -- the edit passes
 passed :
-    (c : (Lts.After-is_passing_with Tie.the-claims Reads.Pre Reads.Post)) → c.is_passing_with.result ≡ true →
-    (let s = start-of c in passes s.args.sites (edits_of s.args.recs.now s.args.n) (e-of c.before.before.before.before.before.before.before.before.before.before) ≡ true)
+    (c : After-is_passing_with) → c.is_passing_with.result ≡ true →
+    (let s = c in passes s.args.sites (edits_of s.args.recs.now s.args.n) (decode_of c.args.rec.now) ≡ true)
 passed c ok =
-    let s = start-of c in
+    let s = c in
     let a = s.args in
     let h = s.requires.0 in
     sym
     (news-decide a.sites h.few-sites a.recs.now a.n h.pass a.places.now s.requires.2.indexed
-    a.held.now s.requires.4 h.held (e-of c.before.before.before.before.before.before.before.before.before.before))
+    a.held.now s.requires.4 h.held (decode_of c.args.rec.now))
     ∙ sym c.is_passing_with.ensures
     ∙ ok
 
@@ -45,9 +34,9 @@ pub look_at_set-requires : goal.look_at_set-requires
 look_at_set-requires c =
     let k = c in
     let c3 = k in
-    let s = start-of c.before.before.before.before in
+    let s = c in
     let a = s.args in
-    let e = e-of c.before.before.before.before.before.before.before.before.before.before.before.before.before.before in
+    let e = decode_of c.args.rec.now in
     let ok = k.if-not-is_passing_with.false in
     let set : is_set e ≡ true = sym k.is_set_kind.ensures ∙ c.if-is_set_kind.true in (
       (
@@ -62,17 +51,17 @@ look_at_set-requires c =
       s.requires.2,
       s.requires.3,
       set,
-      target-of a.sites (edits_of a.recs.now a.n) e (passed c.before.before.before.before ok) set,
+      target-of a.sites (edits_of a.recs.now a.n) e (passed (goal.at.look_at_set-requires c).After-is_passing_with ok) set,
     )
 
 pub returns-then-is_set_kind : goal.returns-then-is_set_kind
 returns-then-is_set_kind c ok =
     let k = c in
     let c4 = k in
-    let e = e-of (start-of c.before.before.before.before.before) in
+    let e = decode_of c.args.rec.now in
     let set : is_set e ≡ true = sym k.is_set_kind.ensures ∙ c.if-is_set_kind.true in
     record {
-      pass = passed c.before.before.before.before.before (k.if-not-is_passing_with.false);
+      pass = passed (goal.at.returns-then-is_set_kind c).After-is_passing_with (k.if-not-is_passing_with.false);
       create-room = λ y. clash y (set-not-create e set);
       set = λ y. c.look_at_set.ensures ok;
       no_other = λ y. set;
@@ -82,10 +71,10 @@ pub returns : goal.returns
 returns c ok =
     let k = c in
     let c4 = k in
-    let s = start-of c.before.before.before.before.before in
-    let e = e-of c.before.before.before.before.before.before.before.before.before.before.before.before.before.before.before in
+    let s = c in
+    let e = decode_of c.args.rec.now in
     record {
-      pass = passed c.before.before.before.before.before (k.if-not-is_passing_with.false);
+      pass = passed (goal.at.returns c).After-is_passing_with (k.if-not-is_passing_with.false);
       create-room = create-room-of e s.args.m (sym c.no_set-2.ensures.0 ∙ ok);
       set = λ y. clash y (sym k.is_set_kind.ensures ∙ c.if-is_set_kind.false);
       no_other = λ y. clash y c.no_set-2.ensures.1;
