@@ -115,9 +115,9 @@ pub fn open(
             counters: c,
         };
     }
-    entries::clear_records(records);
-    entries::clear_objects(objects);
-    entries::clear_groups(groups);
+    records.fill(0);
+    objects.fill(0);
+    groups.fill(0);
     let held = [0u16; SITES];
     let counters = Counters {
         sites: n,
