@@ -59,12 +59,10 @@ fn creates_before(recs: &[u8], p: usize) -> usize
     ensures { result ≡ number_at recs.now p }
 {
     let mut count: usize = 0;
-    let mut i: usize = 0;
-    while i < p {
+    for i in 0..p {
         if edit_history::kind_at(recs, i) == CREATE {
             count += 1;
         }
-        i += 1;
     }
     count
 }
@@ -80,8 +78,7 @@ fn mates_on(recs: &[u8], n: usize, s: Site, q: Seq, rec: &[u8]) -> Mates
     let mut sets: usize = 0;
     let mut plain: u64 = 0;
     let mut limited = false;
-    let mut i: usize = 0;
-    while i < n {
+    for i in 0..n {
         let at = i * PLACE;
         let place = &recs[at..];
         if edit_object::is_set_in(place, s, q) {
@@ -90,7 +87,6 @@ fn mates_on(recs: &[u8], n: usize, s: Site, q: Seq, rec: &[u8]) -> Mates
             limited = limited | (place[AT_KIND] == LIMITED);
             sets += 1;
         }
-        i += 1;
     }
     Mates {
         sets,

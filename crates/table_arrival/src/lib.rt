@@ -46,30 +46,6 @@ pub struct Tested {
     pub judged: Judged,
 }
 
-// The bytes of the record src into d.
-fn copy_record(d: &mut [u8], src: &[u8])
-    requires { length d.old ≡ length src.now }
-    ensures { d.new ≡ src.now }
-{
-    let mut i: usize = 0;
-    while i < src.len() {
-        d[i] = src[i];
-        i += 1;
-    }
-}
-
-// The bytes of a plain record into d: from a copy, since a processor moves those many at a time.
-fn put_whole(d: &mut [u8], whole: [u8; RECORD])
-    requires { length d.old ≡ record_length }
-    ensures { d.new ≡ whole }
-{
-    let mut i: usize = 0;
-    while i < RECORD {
-        d[i] = whole[i];
-        i += 1;
-    }
-}
-
 // The record rec at the front of place p.
 pub fn put_record(recs: &mut [u8], p: usize, rec: &[u8])
     requires { (p < most_records)
@@ -80,7 +56,7 @@ pub fn put_record(recs: &mut [u8], p: usize, rec: &[u8])
 {
     let at = p * PLACE;
     let end = at + rec.len();
-    copy_record(&mut recs[at..end], rec);
+    recs[at..end].copy_from_slice(rec);
 }
 
 // A plain record at the front of place p.
@@ -90,7 +66,7 @@ pub fn put_plain(recs: &mut [u8], p: usize, rec: [u8; RECORD])
 {
     let at = p * PLACE;
     let end = at + RECORD;
-    put_whole(&mut recs[at..end], rec);
+    recs[at..end].copy_from_slice(&rec);
 }
 
 // The number of Sets and the number of groups in the entry of object o.

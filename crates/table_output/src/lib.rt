@@ -20,11 +20,7 @@ pub fn copy_in(out: &mut [u8], src: &[u8], n: usize)
     requires { (n ≤ length out.old) × (n ≤ length src.now) }
     ensures { out.new ≡ take n src.now ++ drop n out.old }
 {
-    let mut i: usize = 0;
-    while i < n {
-        out[i] = src[i];
-        i += 1;
-    }
+    out[..n].copy_from_slice(&src[..n]);
 }
 
 // Whether so many bytes have room from the start on in an output of n bytes.

@@ -8,9 +8,4 @@ use Rattle.table_arrival.proofs.asked.mates_on.Given as goal
 
 abbrev pub invariant-loop-i : goal.invariant-loop-i
 invariant-loop-i l =
-    (l.i ≤ l.n)
-    × MatesOf (sets_on l.s l.q (edits_of l.recs l.i)) (decode_of l.rec)
-    (record { sets = l.sets; plain = l.plain; limited = l.limited })
-
-abbrev pub decreases-loop-i : goal.decreases-loop-i
-decreases-loop-i l = l.n - l.i
+    MatesOf (sets_on l.s l.q (edits_of l.recs l.i)) (decode_of l.rec) (record { sets = l.sets; plain = l.plain; limited = l.limited })
