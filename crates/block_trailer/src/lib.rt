@@ -58,13 +58,11 @@ fn is_filled(stretch: &[u8], form: u8, n: usize) -> bool
     ensures { result ≡ eqb (start_of form stretch.now n) (length stretch.now) }
 {
     let mut at: usize = 0;
-    let mut i: usize = 0;
-    while i < n {
+    for i in 0..n {
         if stretch.len() < at {
             return false;
         }
         at = at + edit_form::length_from(&stretch[at..], form);
-        i += 1;
     }
     at == stretch.len()
 }

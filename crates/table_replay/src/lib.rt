@@ -38,15 +38,13 @@ fn count_stretch(recs: &[u8], form: u8, n: usize) -> [u16; SITES]
 {
     let mut counts = [0u16; SITES];
     let mut at: usize = 0;
-    let mut i: usize = 0;
-    while i < n {
+    for i in 0..n {
         let rest = &recs[at..];
         let site = edit_form::site_from(rest, form) as usize;
         at = at + edit_form::length_from(rest, form);
         if site < SITES {
             counts[site] = counts[site] + 1;
         }
-        i += 1;
     }
     counts
 }
@@ -86,8 +84,7 @@ fn take_records(
     // written for old records alone: what was just written is read slowly
     let mut wide = [0u8; RECORD];
     let mut at: usize = 0;
-    let mut i: usize = 0;
-    while i < n {
+    for i in 0..n {
         let rest = &recs[at..];
         let used = edit_form::length_from(rest, form);
         at = at + used;
@@ -102,7 +99,6 @@ fn take_records(
         m = t.objects;
         sum = t.sum;
         if t.ok {
-            i += 1;
             continue;
         }
         let c = Counters {
@@ -128,7 +124,6 @@ fn take_records(
         held = after;
         m = next.objects;
         sum = next.sum;
-        i += 1;
     }
     let counters = Counters {
         sites,

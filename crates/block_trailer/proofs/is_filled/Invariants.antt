@@ -6,7 +6,4 @@ use Rattle.edit_form.specs.OldForm.{start_of}
 use Rattle.block_trailer.proofs.is_filled.Given as goal
 
 abbrev pub invariant-loop-i : goal.invariant-loop-i
-invariant-loop-i l = (l.i ≤ l.n) × (l.at ≡ start_of l.form l.stretch l.i)
-
-abbrev pub decreases-loop-i : goal.decreases-loop-i
-decreases-loop-i l = l.n - l.i
+invariant-loop-i l = l.at ≡ start_of l.form l.stretch l.i

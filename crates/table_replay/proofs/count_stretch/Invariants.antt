@@ -11,10 +11,6 @@ use Rattle.table_replay.proofs.count_stretch.Given as goal
 
 abbrev pub invariant-loop-i : goal.invariant-loop-i
 invariant-loop-i l =
-    (l.i ≤ l.n)
-    × (l.at ≡ start_of l.form l.recs l.i)
+    (l.at ≡ start_of l.form l.recs l.i)
     × (length l.counts ≡ most_sites)
     × Counted l.counts (edits_in (stored_in l.form l.recs) l.i)
-
-abbrev pub decreases-loop-i : goal.decreases-loop-i
-decreases-loop-i l = l.n - l.i

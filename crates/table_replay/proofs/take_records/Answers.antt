@@ -112,14 +112,14 @@ inside r =
     let b = r in
     let l = b.loop-i in
     let s = start-of r.before in
-    start-inside (form_of r.before) (recs-of r.before) l.i l.at l.invariant.1 s.args.n r.loop-i-test.true s.requires.5
+    start-inside (form_of r.before) (recs-of r.before) l.i l.at l.invariant.0 s.args.n r.loop-i-test.true s.requires.5
 
 -- and is the stretch's
 pub taken_is :
     (b : (Lts.At-loop Tie.the-claims Reads.Pre Reads.Post goal.the-invariant-loop-i goal.the-decreases-loop-i)) →
     long_from (form_of b) (take (length (recs-of b) - b.loop-i.at) (drop b.loop-i.at (recs-of b)))
     ≡ given-of b b.loop-i.i
-taken_is b = lent_is (form_of b) (recs-of b) b.loop-i.i b.loop-i.at b.loop-i.invariant.1 _ refl
+taken_is b = lent_is (form_of b) (recs-of b) b.loop-i.i b.loop-i.at b.loop-i.invariant.0 _ refl
 
 -- what is left of the stretch from it on, in which it stands whole
 abbrev pub rest_of : (Lts.In-loop Tie.the-claims Reads.Pre Reads.Post goal.the-invariant-loop-i goal.the-decreases-loop-i) → List ℕ
@@ -132,7 +132,7 @@ lent-long r =
     let b = r in
     let l = b.loop-i in
     let s = start-of r.before in
-    lent-there (form_of r.before) (recs-of r.before) l.i l.at l.invariant.1 s.args.n r.loop-i-test.true s.requires.5
+    lent-there (form_of r.before) (recs-of r.before) l.i l.at l.invariant.0 s.args.n r.loop-i-test.true s.requires.5
 
 -- ---- the lengths stay
 
@@ -156,7 +156,7 @@ pub loop-long : (b : (Lts.At-loop Tie.the-claims Reads.Pre Reads.Post goal.the-i
 loop-long b =
     let s = start-of b in
     as_long b.before.before.before.before.before.before.before.before.before.before.before (tables-of b)
-    (going-long s.args.sites (given-of b) s.requires.3 b.loop-i.i (tables-of b) b.loop-i.invariant.2)
+    (going-long s.args.sites (given-of b) s.requires.3 b.loop-i.i (tables-of b) b.loop-i.invariant.1)
 
 pub call_long :
     (b : (Lts.At-loop Tie.the-claims Reads.Pre Reads.Post goal.the-invariant-loop-i goal.the-decreases-loop-i)) (a : ℕ) (t : Tables) →
@@ -164,7 +164,7 @@ pub call_long :
 call_long b a t h =
     let s = start-of b in
     as_long b.before.before.before.before.before.before.before.before.before.before.before t
-    (next-long s.args.sites (given-of b) s.requires.3 b.loop-i.i (tables-of b) b.loop-i.invariant.2 a t h)
+    (next-long s.args.sites (given-of b) s.requires.3 b.loop-i.i (tables-of b) b.loop-i.invariant.1 a t h)
 
 -- ---- taking it
 
@@ -172,7 +172,7 @@ call_long b a t h =
 pub wide_at : (b : (Lts.At-loop Tie.the-claims Reads.Pre Reads.Post goal.the-invariant-loop-i goal.the-decreases-loop-i)) → length b.loop-i.held ≡ most_sites
 wide_at b =
     let s = start-of b in
-    (going-faithful s.args.sites (given-of b) s.requires.3 b.loop-i.i _ b.loop-i.invariant.2).kept.wide
+    (going-faithful s.args.sites (given-of b) s.requires.3 b.loop-i.i _ b.loop-i.invariant.1).kept.wide
 
 -- what it needs
 pub takes :
@@ -185,13 +185,13 @@ takes r =
     let s = start-of r.before in
     let l = b.loop-i in
     record {
-      is_sound = going-sound s.args.sites (given-of r.before) s.requires.3 l.i _ l.invariant.2;
+      is_sound = going-sound s.args.sites (given-of r.before) s.requires.3 l.i _ l.invariant.1;
       wide = wide_at r.before;
-      index = l.invariant.3;
-      apart = faithful-apart _ (going-faithful s.args.sites (given-of r.before) s.requires.3 l.i _ l.invariant.2);
+      index = l.invariant.2;
+      apart = faithful-apart _ (going-faithful s.args.sites (given-of r.before) s.requires.3 l.i _ l.invariant.1);
       room =
           next-room s.args.sites (given-of r.before) s.requires.3 l.i s.args.n r.loop-i-test.true (tables-of r.before)
-          l.invariant.2 l.places l.invariant.4;
+          l.invariant.1 l.places l.invariant.3;
     }
 
 -- what is taken is the stretch's record
@@ -225,7 +225,7 @@ held-now b =
     let s = start-of b in
     let l = b.loop-i in
     held-edits s.args.sites (given-of b) l.i (tables-of b)
-    (holds s.args.sites (given-of b) s.requires.3 l.i (tables-of b) l.invariant.2)
+    (holds s.args.sites (given-of b) s.requires.3 l.i (tables-of b) l.invariant.1)
 
 -- where it goes the long way, the index is as it was
 pub as_before :
@@ -284,7 +284,7 @@ wide-long : (c : (Lts.Joined1 Tie.the-claims Reads.Pre Reads.Post goal.the-invar
 wide-long c =
     elim c.if-form-eq-OLD.branch [
       | then-form-eq-OLD v ↦ rw v.wide-is (search rules)
-      | else-form-eq-OLD v ↦ rw v.wide-is c.loop-i.invariant.6
+      | else-form-eq-OLD v ↦ rw v.wide-is c.loop-i.invariant.5
     ]
 
 widened :
@@ -304,7 +304,7 @@ pub loop-i-init : goal.loop-i-init
 unfolding start_of edits_in
 loop-i-init c =
     let s = c in
-    (omega arith, refl, started c.before.before.before.before.before.before.before.before.before.before.before, s.requires.1, s.requires.2, s.requires.6, refl)
+    (refl, started c.before.before.before.before.before.before.before.before.before.before.before, s.requires.1, s.requires.2, s.requires.6, refl)
 
 pub slice_bounds-rest-count : goal.slice_bounds-rest-count
 slice_bounds-rest-count c = inside c.before
@@ -318,7 +318,7 @@ overflow_add-at c =
     let b = r in
     let l = b.loop-i in
     let s = start-of c.before.before.before.before in
-    let next = next-inside (form_of c.before.before.before.before) (recs-of c.before.before.before.before) l.i l.at l.invariant.1 s.args.n r.loop-i-test.true
+    let next = next-inside (form_of c.before.before.before.before) (recs-of c.before.before.before.before) l.i l.at l.invariant.0 s.args.n r.loop-i-test.true
     s.requires.5
     c.length_from-used.result c.length_from-used.ensures in
     omega (arith, next, s.well_formed)
@@ -348,19 +348,8 @@ take_short-t-requires c =
     let b = r in
     let l = b.loop-i in (
       rw (rec-is c.before.before.before.before.before.before.before.before.before.before.before) (takes-short c.before.before.before.before.before.before.before.before.before.before.before.before.before.before.before.before),
-      subst (λ (es : List Edit). KeptFor es l.names l.rows) (sym (held-now c.before.before.before.before.before.before.before.before.before.before.before.before.before.before.before.before.before)) l.invariant.5,
+      subst (λ (es : List Edit). KeptFor es l.names l.rows) (sym (held-now c.before.before.before.before.before.before.before.before.before.before.before.before.before.before.before.before.before)) l.invariant.4,
     )
-
-pub overflow_add-i : goal.overflow_add-i
-overflow_add-i c =
-    let r = round-of c.before.before.before.before.before.before.before.before.before.before.before.before.before.before.before.before.before.before.before.before.before in
-    omega (arith, r.loop-i-test.true, (start-of c.before.before.before.before.before.before.before.before.before.before.before.before.before.before.before.before.before.before.before.before.before.before.before.before.before.before.before.before.before.before.before.before.before.before.before.before.before.before).requires.4)
-
-pub loop-i-smaller-then-t : goal.loop-i-smaller-then-t
-loop-i-smaller-then-t c = omega (
-  arith,
-  (round-of c.before.before.before.before.before.before.before.before.before.before.before.before.before.before.before.before.before.before.before.before.before).loop-i-test.true,
-)
 
 pub loop-i-preserved-then-t : goal.loop-i-preserved-then-t
 loop-i-preserved-then-t c =
@@ -373,16 +362,15 @@ loop-i-preserved-then-t c =
     let w = q in
     let lv = short-took s.args.sites l.i (tables-of c.before.before.before.before.before.before.before.before.before.before.before.before.before.before.before.before.before.before.before.before.before.before.before.before.before.before.before.before.before.before.before.before.before.before.before.before.before.before) _ _ _ _ _ _ _ _ _ _ _ _ _ _ _ _
     p.take_short-t.ensures.0 c.if-t.true in (
-      omega (arith, r.loop-i-test.true),
       rw (add-one l.i)
-          (next_start (form_of c.before.before.before.before.before.before.before.before.before.before.before.before.before.before.before.before.before.before.before.before.before.before.before.before.before.before.before.before.before.before.before.before.before.before.before.before.before.before) (recs-of c.before.before.before.before.before.before.before.before.before.before.before.before.before.before.before.before.before.before.before.before.before.before.before.before.before.before.before.before.before.before.before.before.before.before.before.before.before.before) l.i l.at l.invariant.1 w.length_from-used.result
+          (next_start (form_of c.before.before.before.before.before.before.before.before.before.before.before.before.before.before.before.before.before.before.before.before.before.before.before.before.before.before.before.before.before.before.before.before.before.before.before.before.before.before) (recs-of c.before.before.before.before.before.before.before.before.before.before.before.before.before.before.before.before.before.before.before.before.before.before.before.before.before.before.before.before.before.before.before.before.before.before.before.before.before.before) l.i l.at l.invariant.0 w.length_from-used.result
           w.length_from-used.ensures),
-      going_next s.args.sites (given-of c.before.before.before.before.before.before.before.before.before.before.before.before.before.before.before.before.before.before.before.before.before.before.before.before.before.before.before.before.before.before.before.before.before.before.before.before.before.before) s.requires.3 l.i _ l.invariant.2 _
+      going_next s.args.sites (given-of c.before.before.before.before.before.before.before.before.before.before.before.before.before.before.before.before.before.before.before.before.before.before.before.before.before.before.before.before.before.before.before.before.before.before.before.before.before.before) s.requires.3 l.i _ l.invariant.1 _
           (lv.outcome ∙ ap (acceptance_of (tables-of c.before.before.before.before.before.before.before.before.before.before.before.before.before.before.before.before.before.before.before.before.before.before.before.before.before.before.before.before.before.before.before.before.before.before.before.before.before.before)) (rec-is c.before.before.before.before.before.before.before.before.before.before.before.before.before.before.before.before.before.before.before.before.before.before.before.before.before.before.before.before.before.before.before.before)),
       lv.index refl,
       spaced-same (counted-in (form_of c.before.before.before.before.before.before.before.before.before.before.before.before.before.before.before.before.before.before.before.before.before.before.before.before.before.before.before.before.before.before.before.before.before.before.before.before.before.before) (recs-of c.before.before.before.before.before.before.before.before.before.before.before.before.before.before.before.before.before.before.before.before.before.before.before.before.before.before.before.before.before.before.before.before.before.before.before.before.before.before) s.args.n) _ _ (lv.starts refl) (lv.index refl
           ).places-long
-          l.invariant.4,
+          l.invariant.3,
       kept-after (given-of c.before.before.before.before.before.before.before.before.before.before.before.before.before.before.before.before.before.before.before.before.before.before.before.before.before.before.before.before.before.before.before.before.before.before.before.before.before.before) l.i _ _ _ _ (held-now c.before.before.before.before.before.before.before.before.before.before.before.before.before.before.before.before.before.before.before.before.before.before.before.before.before.before.before.before.before.before.before.before.before.before.before.before.before.before) (ap decode_of (rec-is c.before.before.before.before.before.before.before.before.before.before.before.before.before.before.before.before.before.before.before.before.before.before.before.before.before.before.before.before.before.before.before.before))
           (rw c.if-t.true at p.take_short-t.ensures.1),
       wide-long c.before.before.before.before.before.before.before.before.before.before.before.before.before.before.before.before.before.before.before.before.before.before.before.before.before.before.before.before.before.before.before.before.before.before,
@@ -434,7 +422,7 @@ shape_of-places-then-number-ne0 c =
     let b = (round-of (short-of c.before.before.before.before.before.before.before.before.before.before.before.before.before.before.before.before.before.before.before.before.before.before)) in
     m.take_next-a.auto.places
     ∙ ap length (as_before c.before.before.before.before.before.before.before.before.before.before.before.before.before.before.before.before.before.before.before.before.before.before).0
-    ∙ b.loop-i.invariant.3.places-long
+    ∙ b.loop-i.invariant.2.places-long
     ∙ sym (start-of c.before.before.before.before.before.before.before.before.before.before.before.before.before.before.before.before.before.before.before.before.before.before.before.before.before.before.before.before.before.before.before.before.before.before.before.before.before.before.before.before.before.before.before.before.before.before.before.before.before.before.before.before.before.before.before.before.before.before.before.before.before.before.before.before.before.before.before.before.before).requires.1.places-long
 
 pub shape_of-numbers-then-number-ne0 : goal.shape_of-numbers-then-number-ne0
@@ -443,7 +431,7 @@ shape_of-numbers-then-number-ne0 c =
     let b = (round-of (short-of c.before.before.before.before.before.before.before.before.before.before.before.before.before.before.before.before.before.before.before.before.before.before)) in
     m.take_next-a.auto.numbers
     ∙ ap length (as_before c.before.before.before.before.before.before.before.before.before.before.before.before.before.before.before.before.before.before.before.before.before.before).1
-    ∙ b.loop-i.invariant.3.numbers-long
+    ∙ b.loop-i.invariant.2.numbers-long
     ∙ sym (start-of c.before.before.before.before.before.before.before.before.before.before.before.before.before.before.before.before.before.before.before.before.before.before.before.before.before.before.before.before.before.before.before.before.before.before.before.before.before.before.before.before.before.before.before.before.before.before.before.before.before.before.before.before.before.before.before.before.before.before.before.before.before.before.before.before.before.before.before.before.before).requires.1.numbers-long
 
 pub shape_of-counts-then-number-ne0 : goal.shape_of-counts-then-number-ne0
@@ -452,7 +440,7 @@ shape_of-counts-then-number-ne0 c =
     let b = (round-of (short-of c.before.before.before.before.before.before.before.before.before.before.before.before.before.before.before.before.before.before.before.before.before.before)) in
     m.take_next-a.auto.counts
     ∙ ap length (as_before c.before.before.before.before.before.before.before.before.before.before.before.before.before.before.before.before.before.before.before.before.before.before).2
-    ∙ b.loop-i.invariant.3.counts-long
+    ∙ b.loop-i.invariant.2.counts-long
     ∙ sym (start-of c.before.before.before.before.before.before.before.before.before.before.before.before.before.before.before.before.before.before.before.before.before.before.before.before.before.before.before.before.before.before.before.before.before.before.before.before.before.before.before.before.before.before.before.before.before.before.before.before.before.before.before.before.before.before.before.before.before.before.before.before.before.before.before.before.before.before.before.before.before).requires.1.counts-long
 
 pub shape_of-chains-then-number-ne0 : goal.shape_of-chains-then-number-ne0
@@ -461,7 +449,7 @@ shape_of-chains-then-number-ne0 c =
     let b = (round-of (short-of c.before.before.before.before.before.before.before.before.before.before.before.before.before.before.before.before.before.before.before.before.before.before)) in
     m.take_next-a.auto.chains
     ∙ ap length (as_before c.before.before.before.before.before.before.before.before.before.before.before.before.before.before.before.before.before.before.before.before.before.before).3
-    ∙ b.loop-i.invariant.3.chained.chains-long
+    ∙ b.loop-i.invariant.2.chained.chains-long
     ∙ sym (start-of c.before.before.before.before.before.before.before.before.before.before.before.before.before.before.before.before.before.before.before.before.before.before.before.before.before.before.before.before.before.before.before.before.before.before.before.before.before.before.before.before.before.before.before.before.before.before.before.before.before.before.before.before.before.before.before.before.before.before.before.before.before.before.before.before.before.before.before.before.before).requires.1.chained.chains-long
 
 pub shape_of-rows-then-number-ne0 : goal.shape_of-rows-then-number-ne0
@@ -487,19 +475,11 @@ returns-then-number-ne0 c =
     let b = r in
     let s = start-of c.before.before.before.before.before.before.before.before.before.before.before.before.before.before.before.before.before.before.before.before.before.before.before.before.before.before.before.before.before.before.before.before.before.before.before.before.before.before.before.before.before.before.before.before.before.before.before.before.before.before.before.before.before.before.before.before.before.before.before.before.before.before.before.before.before.before.before.before.before in
     let l = b.loop-i in
-    going-ends s.args.sites (given-of c.before.before.before.before.before.before.before.before.before.before.before.before.before.before.before.before.before.before.before.before.before.before.before.before.before.before.before.before.before.before.before.before.before.before.before.before.before.before.before.before.before.before.before.before.before.before.before.before.before.before.before.before.before.before.before.before.before.before.before.before.before.before.before.before.before.before.before.before.before) s.requires.3 l.i _ l.invariant.2
+    going-ends s.args.sites (given-of c.before.before.before.before.before.before.before.before.before.before.before.before.before.before.before.before.before.before.before.before.before.before.before.before.before.before.before.before.before.before.before.before.before.before.before.before.before.before.before.before.before.before.before.before.before.before.before.before.before.before.before.before.before.before.before.before.before.before.before.before.before.before.before.before.before.before.before.before.before) s.requires.3 l.i _ l.invariant.1
     (number_of m.take_next-a.result.answer) _ (long-outcome c.before.before.before.before.before.before.before.before.before.before.before.before.before.before.before.before.before.before.before.before.before.before)
     (λ z. c.if-number-ne0.true (c.number.ensures ∙ z))
     s.args.n
     r.loop-i-test.true
-
-pub overflow_add-i-in-loop-i : goal.overflow_add-i-in-loop-i
-overflow_add-i-in-loop-i c =
-    let r = round-of (short-of (call-of c.before.before.before)) in
-    omega (arith, r.loop-i-test.true, (start-of c.before.before.before.before.before.before.before.before.before.before.before.before.before.before.before.before.before.before.before.before.before.before.before.before.before.before.before.before.before.before.before.before.before.before.before.before.before.before.before.before.before.before.before.before.before.before.before.before.before.before.before.before.before.before.before.before.before.before.before.before.before.before.before.before.before.before.before.before.before.before).requires.4)
-
-pub loop-i-smaller : goal.loop-i-smaller
-loop-i-smaller c = omega (arith, (round-of (short-of (call-of c.before.before.before))).loop-i-test.true)
 
 pub loop-i-preserved : goal.loop-i-preserved
 loop-i-preserved c =
@@ -517,19 +497,18 @@ loop-i-preserved c =
     let lv = long-left c.before.before.before.before.before.before.before.before.before.before.before.before.before.before.before.before.before.before.before.before.before.before.before in
     let ok = rw z at (long-outcome c.before.before.before.before.before.before.before.before.before.before.before.before.before.before.before.before.before.before.before.before.before.before.before) in
     let parts = parts-after (tables-of c.before.before.before.before.before.before.before.before.before.before.before.before.before.before.before.before.before.before.before.before.before.before.before.before.before.before.before.before.before.before.before.before.before.before.before.before.before.before.before.before.before.before.before.before.before.before.before.before.before.before.before.before.before.before.before.before.before.before.before.before.before.before.before.before.before.before.before.before.before.before) _ (given-of c.before.before.before.before.before.before.before.before.before.before.before.before.before.before.before.before.before.before.before.before.before.before.before.before.before.before.before.before.before.before.before.before.before.before.before.before.before.before.before.before.before.before.before.before.before.before.before.before.before.before.before.before.before.before.before.before.before.before.before.before.before.before.before.before.before.before.before.before.before.before l.i) ok in (
-      omega (arith, r.loop-i-test.true),
       rw (add-one l.i)
-          (next_start (form_of c.before.before.before.before.before.before.before.before.before.before.before.before.before.before.before.before.before.before.before.before.before.before.before.before.before.before.before.before.before.before.before.before.before.before.before.before.before.before.before.before.before.before.before.before.before.before.before.before.before.before.before.before.before.before.before.before.before.before.before.before.before.before.before.before.before.before.before.before.before.before) (recs-of c.before.before.before.before.before.before.before.before.before.before.before.before.before.before.before.before.before.before.before.before.before.before.before.before.before.before.before.before.before.before.before.before.before.before.before.before.before.before.before.before.before.before.before.before.before.before.before.before.before.before.before.before.before.before.before.before.before.before.before.before.before.before.before.before.before.before.before.before.before.before) l.i l.at l.invariant.1 w.length_from-used.result
+          (next_start (form_of c.before.before.before.before.before.before.before.before.before.before.before.before.before.before.before.before.before.before.before.before.before.before.before.before.before.before.before.before.before.before.before.before.before.before.before.before.before.before.before.before.before.before.before.before.before.before.before.before.before.before.before.before.before.before.before.before.before.before.before.before.before.before.before.before.before.before.before.before.before.before) (recs-of c.before.before.before.before.before.before.before.before.before.before.before.before.before.before.before.before.before.before.before.before.before.before.before.before.before.before.before.before.before.before.before.before.before.before.before.before.before.before.before.before.before.before.before.before.before.before.before.before.before.before.before.before.before.before.before.before.before.before.before.before.before.before.before.before.before.before.before.before.before.before) l.i l.at l.invariant.0 w.length_from-used.result
           w.length_from-used.ensures),
       subst (Going s.args.sites (given-of c.before.before.before.before.before.before.before.before.before.before.before.before.before.before.before.before.before.before.before.before.before.before.before.before.before.before.before.before.before.before.before.before.before.before.before.before.before.before.before.before.before.before.before.before.before.before.before.before.before.before.before.before.before.before.before.before.before.before.before.before.before.before.before.before.before.before.before.before.before.before) (l.i + 1)) parts
-          (going_next s.args.sites (given-of c.before.before.before.before.before.before.before.before.before.before.before.before.before.before.before.before.before.before.before.before.before.before.before.before.before.before.before.before.before.before.before.before.before.before.before.before.before.before.before.before.before.before.before.before.before.before.before.before.before.before.before.before.before.before.before.before.before.before.before.before.before.before.before.before.before.before.before.before.before.before) s.requires.3 l.i _ l.invariant.2 _ ok),
+          (going_next s.args.sites (given-of c.before.before.before.before.before.before.before.before.before.before.before.before.before.before.before.before.before.before.before.before.before.before.before.before.before.before.before.before.before.before.before.before.before.before.before.before.before.before.before.before.before.before.before.before.before.before.before.before.before.before.before.before.before.before.before.before.before.before.before.before.before.before.before.before.before.before.before.before.before.before) s.requires.3 l.i _ l.invariant.1 _ ok),
       subst
           (λ (u : Tables). IndexOf u.records u.counters.records k.new.places
           k.new.numbers k.new.counts k.new.chains)
           parts
           (lv.index z),
       spaced-same (counted-in (form_of c.before.before.before.before.before.before.before.before.before.before.before.before.before.before.before.before.before.before.before.before.before.before.before.before.before.before.before.before.before.before.before.before.before.before.before.before.before.before.before.before.before.before.before.before.before.before.before.before.before.before.before.before.before.before.before.before.before.before.before.before.before.before.before.before.before.before.before.before.before.before) (recs-of c.before.before.before.before.before.before.before.before.before.before.before.before.before.before.before.before.before.before.before.before.before.before.before.before.before.before.before.before.before.before.before.before.before.before.before.before.before.before.before.before.before.before.before.before.before.before.before.before.before.before.before.before.before.before.before.before.before.before.before.before.before.before.before.before.before.before.before.before.before.before) s.args.n) _ _ (lv.starts z) (lv.index z).places-long
-          l.invariant.4,
+          l.invariant.3,
       kept-after (given-of c.before.before.before.before.before.before.before.before.before.before.before.before.before.before.before.before.before.before.before.before.before.before.before.before.before.before.before.before.before.before.before.before.before.before.before.before.before.before.before.before.before.before.before.before.before.before.before.before.before.before.before.before.before.before.before.before.before.before.before.before.before.before.before.before.before.before.before.before.before.before) l.i _ _ _ _ (held_at c.before.before.before.before.before.before.before.before.before.before.before.before.before.before.before.before.before.before.before.before.before.before.before.before.before.before.before.before.before.before.before.before.before.before.before.before.before.before.before.before.before.before.before.before.before.before.before.before.before.before.before.before.before (left-of c.before.before.before.before.before.before.before.before.before.before.before.before.before.before.before.before.before.before.before.before.before.before.before)) (ap decode_of (rec-is c.before.before.before.before.before.before.before.before.before.before.before.before.before.before.before.before.before.before.before.before.before.before.before.before.before.before.before.before.before.before.before.before.before.before.before.before.before.before.before.before.before.before.before.before.before.before.before.before.before.before.before.before.before.before.before.before.before.before.before.before.before.before.before.before)) k.ensures.1,
       wide-long c.before.before.before.before.before.before.before.before.before.before.before.before.before.before.before.before.before.before.before.before.before.before.before.before.before.before.before.before.before.before.before.before.before.before.before.before.before.before.before.before.before.before.before.before.before.before.before.before.before.before.before.before.before.before.before.before.before.before.before.before.before.before.before.before.before.before,
     )
@@ -544,26 +523,26 @@ pub shape_of-groups : goal.shape_of-groups
 shape_of-groups c = (loop-long c.before.before).2
 
 pub shape_of-places : goal.shape_of-places
-shape_of-places c = c.loop-i.invariant.3.places-long ∙ sym (start-of c.before.before).requires.1.places-long
+shape_of-places c = c.loop-i.invariant.2.places-long ∙ sym (start-of c.before.before).requires.1.places-long
 
 pub shape_of-numbers : goal.shape_of-numbers
-shape_of-numbers c = c.loop-i.invariant.3.numbers-long ∙ sym (start-of c.before.before).requires.1.numbers-long
+shape_of-numbers c = c.loop-i.invariant.2.numbers-long ∙ sym (start-of c.before.before).requires.1.numbers-long
 
 pub shape_of-counts : goal.shape_of-counts
-shape_of-counts c = c.loop-i.invariant.3.counts-long ∙ sym (start-of c.before.before).requires.1.counts-long
+shape_of-counts c = c.loop-i.invariant.2.counts-long ∙ sym (start-of c.before.before).requires.1.counts-long
 
 pub shape_of-chains : goal.shape_of-chains
 shape_of-chains c =
-    c.loop-i.invariant.3.chained.chains-long ∙ sym (start-of c.before.before).requires.1.chained.chains-long
+    c.loop-i.invariant.2.chained.chains-long ∙ sym (start-of c.before.before).requires.1.chained.chains-long
 
 pub shape_of-rows : goal.shape_of-rows
-shape_of-rows c = c.loop-i.invariant.5.rows_long ∙ sym (start-of c.before.before).requires.6.rows_long
+shape_of-rows c = c.loop-i.invariant.4.rows_long ∙ sym (start-of c.before.before).requires.6.rows_long
 
 pub shape_of-names : goal.shape_of-names
-shape_of-names c = c.loop-i.invariant.5.names-long ∙ sym (start-of c.before.before).requires.6.names-long
+shape_of-names c = c.loop-i.invariant.4.names-long ∙ sym (start-of c.before.before).requires.6.names-long
 
 pub returns : goal.returns
 returns c =
     let l = c.loop-i in
     let k : l.i ≡ (start-of c.before.before).args.n = omega arith in
-    rw k at l.invariant.2
+    rw k at l.invariant.1
