@@ -25,11 +25,9 @@ fn record_bytes(records: &[u8], n: usize) -> usize
     ensures { result ≡ length (chained (bytes_at records.now) n) }
 {
     let mut bytes: usize = 0;
-    let mut i: usize = 0;
-    while i < n {
+    for i in 0..n {
         let at = i * PLACE;
         bytes = bytes + edit_record::span_of(&records[at..]);
-        i += 1;
     }
     bytes
 }
@@ -42,14 +40,12 @@ fn write_records(out: &mut [u8], records: &[u8], n: usize)
         ++ drop (length (chained (bytes_at records.now) n)) out.old }
 {
     let mut end: usize = 0;
-    let mut i: usize = 0;
-    while i < n {
+    for i in 0..n {
         let at = i * PLACE;
         let rest = &records[at..];
         let bytes = edit_record::span_of(rest);
         copy_in(&mut out[end..], rest, bytes);
         end = end + bytes;
-        i += 1;
     }
 }
 
