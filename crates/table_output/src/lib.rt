@@ -3,17 +3,10 @@
 #![tactic(auto)]
 
 ghost use Rattle.std.specs.Prelude.{◌≡◌, ◌++◌, ◌+◌, ◌≤◌, leb, length, take, drop};
-ghost use Rattle.table_drawing.specs.AnswerNumbers.{number_of};
+ghost use Rattle.table_drawing.specs.AnswerNumbers.{answer_of, value_or};
 ghost use Rattle.table_output.specs.Output.{writing, written_at};
 
-use table_drawing::Answer;
-
-// An answer to a call that writes, and the number of bytes written.
-#[derive(Clone, Copy)]
-pub struct Written {
-    pub answer: Answer,
-    pub bytes: usize,
-}
+use table_drawing::Refusal;
 
 // The first n bytes of src at the start of out.
 pub fn copy_in(out: &mut [u8], src: &[u8], n: usize)
@@ -33,21 +26,14 @@ pub fn has_room(n: usize, start: usize, bytes: usize) -> bool
     bytes <= n - start
 }
 
-// Puts the first n bytes of src into out from the start on, if there is room for them.
-pub fn put_at(out: &mut [u8], start: usize, src: &[u8], n: usize) -> Written
+// Puts the first n bytes of src into out from the start on, if there is room for them, and says how many they are.
+pub fn put_at(out: &mut [u8], start: usize, src: &[u8], n: usize) -> Result<usize, Refusal>
     requires { n ≤ length src.now }
-    ensures { writing (number_of result.answer) result.bytes out.new
-        ≡ written_at out.old start (take n src.now) }
+    ensures { writing (answer_of result) (value_or 0 result) out.new ≡ written_at out.old start (take n src.now) }
 {
     if !has_room(out.len(), start, n) {
-        return Written {
-            answer: Answer::NoRoom,
-            bytes: 0,
-        };
+        return Err(Refusal::NoRoom);
     }
     copy_in(&mut out[start..], src, n);
-    Written {
-        answer: Answer::Done,
-        bytes: n,
-    }
+    Ok(n)
 }
