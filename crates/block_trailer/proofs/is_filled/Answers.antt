@@ -1,7 +1,7 @@
 -- `block_trailer::is_filled` meets its contract: `at` is where record i starts, and a record that starts past the end
 -- has none behind it that starts at the end. Assumes nothing.
 use mathlib.Core.Path.{◌≡◌, refl, sym, ap, ◌∙◌}
-use Prim.Native.Nat.{ℕ, ◌-◌}
+use Prim.Native.Nat.{ℕ}
 use native.Mathlib.Numerals.{add-one}
 use native.Mathlib.Omega.{arith}
 use lib.ListN.{length}
