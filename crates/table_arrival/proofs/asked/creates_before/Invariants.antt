@@ -1,6 +1,6 @@
 -- `table_arrival::asked::creates_before` meets its contract. Assumes nothing.
 use mathlib.Core.Path.{◌≡◌}
-use Prim.Native.Nat.{◌-◌, ◌≤◌}
+use Prim.Native.Nat.{◌≤◌}
 use Rattle.table_index.specs.IndexForms.{number_at}
 use Rattle.table_arrival.proofs.asked.creates_before.Given as goal
 

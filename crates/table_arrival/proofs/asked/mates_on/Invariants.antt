@@ -1,6 +1,5 @@
 -- `table_arrival::asked::mates_on` meets its contract: after i records it is told of the Sets among them. Assumes
 -- nothing.
-use Prim.Native.Nat.{◌-◌, ◌≤◌}
 use Rattle.edit_record.specs.RecordBytes.{decode_of}
 use Rattle.edit_history.specs.EditsHeld.{edits_of, sets_on}
 use Rattle.table_arrival.specs.ArrivalForms.{MatesOf}
