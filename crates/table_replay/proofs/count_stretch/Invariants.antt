@@ -1,7 +1,6 @@
 -- `table_replay::count_stretch` meets its contract: after i records the counts are theirs. A site without an entry is
 -- counted nowhere. Assumes nothing.
 use mathlib.Core.Path.{◌≡◌}
-use Prim.Native.Nat.{◌-◌, ◌≤◌}
 use lib.ListN.{length}
 use Rattle.edit_record.specs.Layout.{most_sites}
 use Rattle.edit_form.specs.OldForm.{start_of, stored_in}

@@ -8,7 +8,7 @@ use Rattle.table_index.specs.IndexForms.{IndexOf}
 use Rattle.table_given.specs.Replay.{edits_in}
 use Rattle.table_kept.specs.BoxForms.{KeptFor}
 use Rattle.table_given.proofs.ReplayGoes.{Going}
-use Prim.Native.Nat.{ℕ, ◌-◌, ◌≤◌}
+use Prim.Native.Nat.{ℕ}
 use lib.ListN.{length}
 use Rattle.edit_record.specs.Layout.{record_length}
 use Rattle.edit_form.specs.OldForm.{start_of, stored_in}
