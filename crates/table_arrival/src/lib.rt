@@ -5,12 +5,13 @@ pub mod asked;
 mod judging;
 
 ghost use Rattle.std.specs.Prelude.{◌≡◌, [], ◌∷◌, ◌+◌, ◌≤◌, ◌<◌, length, get_or};
+ghost use Rattle.std.specs.Result.{result_unwrap_or};
 ghost use Rattle.edit_record.specs.Layout.{two_bytes, record_length, place_length};
 ghost use Rattle.edit_record.specs.RecordBytes.{span_of};
 ghost use Rattle.edit_history.specs.EditsHeld.{most_records};
 ghost use Rattle.group_step.specs.GroupRows.{most_objects};
 ghost use Rattle.table_drawing.specs.Tables.{tables_of, records_length, objects_length};
-ghost use Rattle.table_drawing.specs.AnswerNumbers.{outcome_of, answer_of, value_or};
+ghost use Rattle.table_drawing.specs.AnswerNumbers.{outcome_of, answer_of};
 ghost use Rattle.table_arrival.specs.Answers6and7.{first_of, in_turn};
 ghost use Rattle.table_arrival.specs.Arrival.{counted, put_record, put_counts, put_entry, acceptance_of, arrival_of};
 ghost use Rattle.table_arrival.specs.ArrivalForms.{full_with, to_six_by, InHand, Ready};
@@ -216,7 +217,7 @@ fn take_set(
     apart: bool,
 ) -> Result<Counters, Refusal>
     requires { Ready (tables_of c records.old objects.old groups.old) rec.now v j apart }
-    ensures { outcome_of (answer_of result) (tables_of (value_or c result) records.new objects.new groups.new)
+    ensures { outcome_of (answer_of result) (tables_of (result_unwrap_or result c) records.new objects.new groups.new)
         ≡ acceptance_of (tables_of c records.old objects.old groups.old)
         rec.now }
 {
@@ -261,7 +262,7 @@ pub fn accept(
     apart: bool,
 ) -> Result<Counters, Refusal>
     requires { InHand (tables_of c records.old objects.old groups.old) rec.now v j apart }
-    ensures { outcome_of (answer_of result) (tables_of (value_or c result) records.new objects.new groups.new)
+    ensures { outcome_of (answer_of result) (tables_of (result_unwrap_or result c) records.new objects.new groups.new)
         ≡ acceptance_of (tables_of c records.old objects.old groups.old)
         rec.now }
 {
@@ -288,7 +289,7 @@ pub fn arrive(
     groups: &mut [u64],
     rec: &[u8],
 ) -> Result<Counters, Refusal>
-    ensures { outcome_of (answer_of result) (tables_of (value_or c result) records.new objects.new groups.new)
+    ensures { outcome_of (answer_of result) (tables_of (result_unwrap_or result c) records.new objects.new groups.new)
         ≡ arrival_of (tables_of c records.old objects.old groups.old)
         rec.now }
 {

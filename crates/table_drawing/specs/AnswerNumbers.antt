@@ -27,12 +27,6 @@ abbrev pub answer_of : {T : Type 0} → Result T Refusal → ℕ
 answer_of (Ok x) = 0
 answer_of (Err r) = number_of r
 
--- what a call gives where it is done, or else d: as the counters that it leaves, those that it was given where it is
--- refused
-abbrev pub value_or : {T : Type 0} → T → Result T Refusal → T
-value_or d (Ok x) = x
-value_or d (Err r) = d
-
 -- what a call gives back and the tables that it leaves
 pub record Outcome : Type 0 where
   pub answer : ℕ

@@ -4,8 +4,9 @@
 pub mod entries;
 
 ghost use Rattle.std.specs.Prelude.{◌≡◌, ◌&&◌, eqb};
+ghost use Rattle.std.specs.Result.{result_unwrap_or};
 ghost use Rattle.table_drawing.specs.Tables.{records_length, objects_length, groups_length, sites_right, tables_of};
-ghost use Rattle.table_drawing.specs.AnswerNumbers.{outcome_of, number_of, answer_of, value_or};
+ghost use Rattle.table_drawing.specs.AnswerNumbers.{outcome_of, number_of, answer_of};
 ghost use Rattle.table_drawing.specs.Opening.{opening_of};
 
 use edit_history::RECORDS;
@@ -101,7 +102,7 @@ pub fn open(
     groups: &mut [u64],
     n: u8,
 ) -> Result<Counters, Refusal>
-    ensures { outcome_of (answer_of result) (tables_of (value_or c result) records.new objects.new groups.new)
+    ensures { outcome_of (answer_of result) (tables_of (result_unwrap_or result c) records.new objects.new groups.new)
         ≡ opening_of (tables_of c records.old objects.old groups.old) n }
 {
     if !lengths_right(records.len(), objects.len(), groups.len()) {

@@ -3,6 +3,7 @@
 #![tactic(auto)]
 
 ghost use Rattle.std.specs.Prelude.{◌≡◌, false, ◌≤◌, length, IfOk};
+ghost use Rattle.std.specs.Result.{result_unwrap_or};
 ghost use Rattle.math_lists.specs.SortedLists.{Asc, any};
 ghost use Rattle.edit_record.specs.Answer1.{is_limited};
 ghost use Rattle.edit_history.specs.EditsHeld.{edits_of};
@@ -12,7 +13,7 @@ ghost use Rattle.group_step.specs.GroupRows.{most_groups, most_sets};
 ghost use Rattle.group_engine.specs.SearchForms.{Conflicts, by_masks};
 ghost use Rattle.group_sight.specs.SightForms.{sets_in};
 ghost use Rattle.table_drawing.specs.Tables.{tables_of};
-ghost use Rattle.table_drawing.specs.AnswerNumbers.{answer_of, value_or};
+ghost use Rattle.table_drawing.specs.AnswerNumbers.{answer_of};
 ghost use Rattle.table_soundness.specs.Sound.{sound};
 ghost use Rattle.table_index.specs.IndexForms.{Holds};
 ghost use Rattle.table_sets.specs.KeyForms.{Tells};
@@ -209,7 +210,7 @@ fn search(masks: &[u64], k: usize, out: &mut [u64]) -> Result<usize, Refusal>
         × (k ≤ length masks.now)
         × (length out.old ≡ most_groups)
         × Conflicts masks.now k }
-    ensures { enumeration (answer_of result) (value_or 0 result) out.new ≡ found_as (by_masks masks.now k) out.old }
+    ensures { enumeration (answer_of result) (result_unwrap_or result 0) out.new ≡ found_as (by_masks masks.now k) out.old }
 {
     let r = group_engine::enumerate(masks, k, out);
     if GROUPS < r {
@@ -229,7 +230,7 @@ pub fn enumerate_groups(
     seq: Seq,
     out: &mut [u64],
 ) -> Result<usize, Refusal>
-    ensures { enumeration (answer_of result) (value_or 0 result) out.new
+    ensures { enumeration (answer_of result) (result_unwrap_or result 0) out.new
         ≡ enumeration_of (tables_of c records.now objects.now groups.now) site seq
         out.old }
 {

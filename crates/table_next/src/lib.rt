@@ -5,10 +5,11 @@
 pub mod short;
 
 ghost use Rattle.std.specs.Prelude.{[], ◌∷◌, ◌++◌};
+ghost use Rattle.std.specs.Result.{result_unwrap_or};
 ghost use Rattle.edit_record.specs.RecordBytes.{decode_of};
 ghost use Rattle.edit_history.specs.EditsHeld.{edits_of};
 ghost use Rattle.table_drawing.specs.Tables.{tables_of};
-ghost use Rattle.table_drawing.specs.AnswerNumbers.{answer_of, value_or};
+ghost use Rattle.table_drawing.specs.AnswerNumbers.{answer_of};
 ghost use Rattle.table_kept.specs.BoxForms.{KeptFor};
 ghost use Rattle.table_plain.specs.TakingForms.{Takes, Leaves};
 
@@ -35,7 +36,7 @@ pub fn take_next(
         × KeptFor (edits_of records.old c.records) names.old rows.old }
     ensures { Leaves (tables_of c records.old objects.old groups.old)
         rec.now (answer_of result)
-        (tables_of (value_or c result) records.new objects.new groups.new)
+        (tables_of (result_unwrap_or result c) records.new objects.new groups.new)
         places.old places.new numbers.new counts.new chains.new
         × KeptFor (edits_of records.old c.records ++ (decode_of rec.now ∷ []))
         names.new rows.new }

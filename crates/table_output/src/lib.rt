@@ -3,7 +3,8 @@
 #![tactic(auto)]
 
 ghost use Rattle.std.specs.Prelude.{◌≡◌, ◌++◌, ◌+◌, ◌≤◌, leb, length, take, drop};
-ghost use Rattle.table_drawing.specs.AnswerNumbers.{answer_of, value_or};
+ghost use Rattle.std.specs.Result.{result_unwrap_or};
+ghost use Rattle.table_drawing.specs.AnswerNumbers.{answer_of};
 ghost use Rattle.table_output.specs.Output.{writing, written_at};
 
 use table_drawing::Refusal;
@@ -29,7 +30,7 @@ pub fn has_room(n: usize, start: usize, bytes: usize) -> bool
 // Puts the first n bytes of src into out from the start on, if there is room for them, and says how many they are.
 pub fn put_at(out: &mut [u8], start: usize, src: &[u8], n: usize) -> Result<usize, Refusal>
     requires { n ≤ length src.now }
-    ensures { writing (answer_of result) (value_or 0 result) out.new ≡ written_at out.old start (take n src.now) }
+    ensures { writing (answer_of result) (result_unwrap_or result 0) out.new ≡ written_at out.old start (take n src.now) }
 {
     if !has_room(out.len(), start, n) {
         return Err(Refusal::NoRoom);

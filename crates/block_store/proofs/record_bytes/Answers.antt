@@ -1,6 +1,5 @@
 -- `block_store::record_bytes` meets its contract: `bytes` is the length of the first i records. Assumes nothing.
 use mathlib.Core.Path.{◌≡◌, refl}
-use Prim.Native.Nat.{◌-◌}
 use native.Mathlib.Numerals.{add-one}
 use native.Mathlib.Omega.{arith}
 use Rattle.edit_form.specs.OldForm.{chained}

@@ -1,6 +1,5 @@
 -- `block_store::record_bytes` meets its contract: `bytes` is the length of the first i records. Assumes nothing.
 use mathlib.Core.Path.{◌≡◌}
-use Prim.Native.Nat.{◌-◌, ◌≤◌}
 use lib.ListN.{length}
 use Rattle.edit_form.specs.OldForm.{chained}
 use Rattle.edit_history.specs.EditsHeld.{bytes_at}

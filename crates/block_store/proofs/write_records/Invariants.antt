@@ -2,7 +2,7 @@
 -- copied into the part behind them. Assumes nothing.
 use mathlib.Core.Path.{◌≡◌}
 use mathlib.Core.List.{◌++◌}
-use Prim.Native.Nat.{◌+◌, ◌-◌, ◌≤◌}
+use Prim.Native.Nat.{◌≤◌}
 use lib.ListN.{length, drop}
 use Rattle.edit_form.specs.OldForm.{chained}
 use Rattle.edit_history.specs.EditsHeld.{bytes_at}
