@@ -2,11 +2,12 @@
 #![tactic(auto)]
 
 ghost use Rattle.std.specs.Prelude.{◌≡◌, true, [], ◌≤◌, ◌<◌, length, get_or, take};
+ghost use Rattle.std.specs.Result.{result_unwrap_or};
 ghost use Rattle.math_lists.specs.NumbersBelow.{sum};
 ghost use Rattle.edit_walk.specs.WalkForms.{Indexed};
 ghost use Rattle.group_step.specs.GroupRows.{most_objects};
 ghost use Rattle.table_drawing.specs.Tables.{groups_at, tables_of};
-ghost use Rattle.table_drawing.specs.AnswerNumbers.{number_of};
+ghost use Rattle.table_drawing.specs.AnswerNumbers.{answer_of};
 ghost use Rattle.table_soundness.specs.Sound.{sound};
 ghost use Rattle.table_output.specs.Output.{writing};
 ghost use Rattle.list_line.specs.Line.{line_length};
@@ -22,8 +23,8 @@ use list_objects::order::sort_objects;
 use list_objects::{gather, put_sets};
 use list_version::gathered::Gathered;
 use table_drawing::entries::at16;
-use table_drawing::{Answer, Counters, ENTRY};
-use table_output::{Written, put_at};
+use table_drawing::{Counters, ENTRY, Refusal};
+use table_output::put_at;
 
 // Where a line of a version is found: the object, and which of its versions it is.
 #[derive(Clone, Copy)]
@@ -140,7 +141,7 @@ fn put_numbered(
     Some(put_found(out, c, records, objects, groups, f.object, f.version))
 }
 
-// Puts line k into out from the start on; refused, everything stays as it was.
+// Puts line k into out from the start on, and says how many bytes it has; refused, everything stays as it was.
 pub fn print_line(
     c: Counters,
     records: &[u8],
@@ -149,25 +150,18 @@ pub fn print_line(
     k: usize,
     out: &mut [u8],
     start: usize,
-) -> Written
-    ensures { writing (number_of result.answer) result.bytes out.new
+) -> Result<usize, Refusal>
+    ensures { writing (answer_of result) (result_unwrap_or result 0) out.new
         ≡ line_of (tables_of c records.now objects.now groups.now) k
         out.old start }
 {
     // what work space holds at first does not matter; zeros would be set by memset (docs/DECISIONS.md, 24)
     let mut places = [1u16; PLACES];
     if !table_soundness::is_sound_with(c, records, objects, groups, &mut places) {
-        return Written {
-            answer: Answer::Unsound,
-            bytes: 0,
-        };
+        return Err(Refusal::Unsound);
     }
     let mut line = [1u8; LINE];
-    let Some(bytes) = put_numbered(&mut line, c, records, objects, groups, &places, k) else {
-        return Written {
-            answer: Answer::NoLine,
-            bytes: 0,
-        };
-    };
+    let bytes = put_numbered(&mut line, c, records, objects, groups, &places, k)
+        .ok_or(Refusal::NoLine)?;
     put_at(out, start, &line, bytes)
 }

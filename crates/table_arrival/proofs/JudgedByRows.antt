@@ -5,6 +5,7 @@ use mathlib.Core.Bool.{Bool, true, ◌&&◌}
 use mathlib.Core.List.{List}
 use Prim.Native.Nat.{ℕ, ◌<◌}
 use lib.ListN.{length}
+use Rattle.std.specs.Prelude.{Option}
 use Rattle.math_lists.specs.SortedLists.{any}
 use Rattle.math_lists.proofs.Booleans.{both}
 use Rattle.edit_record.specs.declared.Site.{Site}
@@ -23,7 +24,6 @@ use Rattle.group_named.specs.NamedForms.{SetsTold, BoxTold}
 use Rattle.table_drawing.specs.declared.Counters.{Counters}
 use Rattle.table_index.specs.IndexForms.{Holds}
 use Rattle.table_index.proofs.SurveyByIndex.{target-placed}
-use Rattle.table_arrival.specs.declared.Tested.{Tested}
 use Rattle.table_arrival.specs.ArrivalForms.{TestedFor}
 
 module _ (c : Counters) (rs : List ℕ) (h : Holds c rs) (ps : List ℕ) (ix : Indexed rs c.records ps) (e : Edit)
@@ -78,9 +78,9 @@ module _ (es : List Edit) (e : Edit) (v : Surveyed) (sv : SurveyedOf es e v) (b 
 
 -- what is tested where the target is held is tested in any case
 pub where_found :
-    (found : Bool) (rs : List ℕ) (n : ℕ) (e : Edit) (r : Tested) → TestedFor true rs n e r → TestedFor found rs n e r
+    (found : Bool) (rs : List ℕ) (n : ℕ) (e : Edit) (r : Option Judged) → TestedFor true rs n e r → TestedFor found rs n e r
 where_found found rs n e r t = record {
   named = t.named;
-  judged = λ h.
-      record { nameless = λ asked. (t.judged h).nameless (λ y. refl); conflicts = λ y. (t.judged h).conflicts refl };
+  judged = λ j h.
+      record { nameless = λ asked. (t.judged j h).nameless (λ y. refl); conflicts = λ y. (t.judged j h).conflicts refl };
 }

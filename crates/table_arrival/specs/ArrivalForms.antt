@@ -1,6 +1,6 @@
 -- Forms that the code uses: 1 to 6, with 16 after 5, from the counters, a survey of the records and what is judged of
 -- the edit. No one need believe them: laws in proofs/ tie them to `Arrival`. Assumes nothing.
-use Rattle.std.specs.Prelude.{ℕ, ◌<◌, List, [], ◌∷◌, ◌≡◌, Bool, true, false, not, ◌&&◌, ◌||◌, eqb, leb, length}
+use Rattle.std.specs.Prelude.{ℕ, ◌<◌, List, [], ◌∷◌, ◌≡◌, Bool, true, false, not, ◌&&◌, ◌||◌, eqb, leb, length, Option, Some, is_some}
 use Rattle.math_lists.specs.SortedLists.{any}
 use Rattle.edit_record.specs.Layout.{create_kind, set_kind, limited_kind}
 use Rattle.edit_record.specs.declared.Edit.{Edit}
@@ -21,7 +21,6 @@ use Rattle.table_drawing.specs.declared.Counters.{Counters}
 use Rattle.table_drawing.specs.Tables.{Tables, held_by}
 use Rattle.table_soundness.specs.Sound.{sound}
 use Rattle.table_arrival.specs.declared.Mates.{Mates}
-use Rattle.table_arrival.specs.declared.Tested.{Tested}
 use Rattle.table_arrival.specs.Answers6and7.{row_of, is_full, first_of, in_turn}
 
 -- 6 to an edit of this kind whose object has k Sets
@@ -102,8 +101,8 @@ pub record Ready (t : Tables) (b : List ℕ) (v : Surveyed) (j : Judged) (apart 
   pub passes : first_to_six t b ≡ 0
   pub set : is_set (decode_of b) ≡ true
 
--- whether 16 is given to none of the first n records, and what is judged of an edit e after them if so, where `found`
--- tells whether its target is held
-pub record TestedFor (found : Bool) (rs : List ℕ) (n : ℕ) (e : Edit) (r : Tested) : Type 0 where
-  pub named : r.named ≡ records_named rs n
-  pub judged : r.named ≡ true → JudgedWhere found (sets_on e.tsite e.tseq (edits_of rs n)) e r.judged
+-- what is judged of an edit e after the first n records, where 16 is given to none of them, or none; `found` tells
+-- whether its target is held
+pub record TestedFor (found : Bool) (rs : List ℕ) (n : ℕ) (e : Edit) (r : Option Judged) : Type 0 where
+  pub named : is_some r ≡ records_named rs n
+  pub judged : (j : Judged) → r ≡ Some j → JudgedWhere found (sets_on e.tsite e.tseq (edits_of rs n)) e j

@@ -11,7 +11,7 @@ ghost use Rattle.edit_history.specs.SurveyForms.{survey_of, SurveyedOf, repeated
 ghost use Rattle.edit_walk.specs.WalkForms.{Indexed, in_turn_against};
 ghost use Rattle.group_step.specs.GroupRows.{most_sets};
 ghost use Rattle.table_index.specs.IndexForms.{number_at, Holds};
-ghost use Rattle.table_drawing.specs.AnswerNumbers.{number_of};
+ghost use Rattle.table_drawing.specs.AnswerNumbers.{number_of, answer_of};
 ghost use Rattle.table_arrival.specs.Answers6and7.{first_of, in_turn};
 ghost use Rattle.table_arrival.specs.ArrivalForms.{three_by, MatesOf};
 
@@ -20,12 +20,12 @@ use edit_history::Surveyed;
 use edit_record::{
     AT_KIND, AT_SEQ, AT_SITE, AT_TARGET, AT_TARGET_SEQ, CREATE, LIMITED, PLACE, Seq, Site,
 };
-use table_drawing::{Answer, Counters};
+use table_drawing::{Counters, Refusal};
 
 // 2 or 3, if one of them applies to a record that is there whole, by the counts of the edits held.
-fn two_or_three(held: &[u16], rec: &[u8]) -> Answer
+fn two_or_three(held: &[u16], rec: &[u8]) -> Result<(), Refusal>
     requires { (record_length ≤ length rec.now) × (most_sites ≤ length held.now) }
-    ensures { number_of result ≡ first_of in_turn (false
+    ensures { answer_of result ≡ first_of in_turn (false
         ∷ repeated_against held.now (decode_of rec.now)
         ∷ early_against held.now (decode_of rec.now) ∷ []) }
 {
@@ -33,22 +33,22 @@ fn two_or_three(held: &[u16], rec: &[u8]) -> Answer
     let s = rec[AT_SITE];
     let q = edit_record::pair_at(rec, AT_SEQ);
     if edit_history::is_repeated(held, Site(s), Seq(q)) {
-        return Answer::Repeated;
+        return Err(Refusal::Repeated);
     }
     if edit_history::is_early(held, v, Site(s), Seq(q)) {
-        return Answer::Early;
+        return Err(Refusal::Early);
     }
-    Answer::Done
+    Ok(())
 }
 
 // 1 to 3, the first that applies to a record, by the counters. It says as well what the type of the counts says, for
 // callers that have them from a struct.
-pub fn one_to_three(c: Counters, rec: &[u8]) -> Answer
-    ensures { (number_of result ≡ first_of in_turn (three_by c rec.now)) × (length c.held ≡ most_sites) }
+pub fn one_to_three(c: Counters, rec: &[u8]) -> Result<(), Refusal>
+    ensures { (answer_of result ≡ first_of in_turn (three_by c rec.now)) × (length c.held ≡ most_sites) }
 {
     let held = c.held;
     if edit_fit::is_malformed(c.sites, rec) {
-        return Answer::Malformed;
+        return Err(Refusal::Malformed);
     }
     two_or_three(&held, rec)
 }
@@ -59,12 +59,10 @@ fn creates_before(recs: &[u8], p: usize) -> usize
     ensures { result ≡ number_at recs.now p }
 {
     let mut count: usize = 0;
-    let mut i: usize = 0;
-    while i < p {
+    for i in 0..p {
         if edit_history::kind_at(recs, i) == CREATE {
             count += 1;
         }
-        i += 1;
     }
     count
 }
@@ -80,8 +78,7 @@ fn mates_on(recs: &[u8], n: usize, s: Site, q: Seq, rec: &[u8]) -> Mates
     let mut sets: usize = 0;
     let mut plain: u64 = 0;
     let mut limited = false;
-    let mut i: usize = 0;
-    while i < n {
+    for i in 0..n {
         let at = i * PLACE;
         let place = &recs[at..];
         if edit_object::is_set_in(place, s, q) {
@@ -90,7 +87,6 @@ fn mates_on(recs: &[u8], n: usize, s: Site, q: Seq, rec: &[u8]) -> Mates
             limited = limited | (place[AT_KIND] == LIMITED);
             sets += 1;
         }
-        i += 1;
     }
     Mates {
         sets,
@@ -141,13 +137,14 @@ pub fn survey(c: Counters, recs: &[u8], places: &[u16], rec: &[u8]) -> Surveyed
     survey_held(c, recs, places, rec, a.torn)
 }
 
-// The answer to a record that asks nothing of the Sets held: 8 before it, where 16 is given to a record held.
-pub fn answer_where_named(c: Counters, recs: &[u8], places: &[u16], answer: Answer) -> Answer
+// Why a record that asks nothing of the Sets held is refused: 8 before r, where 16 is given to a record held.
+pub fn refusal_where_named(c: Counters, recs: &[u8], places: &[u16], r: Refusal) -> Refusal
     requires { Holds c recs.now × Indexed recs.now c.records places.now }
-    ensures { number_of result ≡ cond (records_named recs.now c.records) (number_of answer) 8 }
+    ensures { number_of result ≡ cond (records_named recs.now c.records) (number_of r) 8 }
 {
     if group_named::are_all_named(recs, c.records as usize, places) {
-        return answer;
+        r
+    } else {
+        Refusal::Unsound
     }
-    Answer::Unsound
 }

@@ -10,7 +10,6 @@ ghost use Rattle.edit_walk.specs.WalkForms.{Indexed};
 ghost use Rattle.table_index.specs.IndexForms.{Holds};
 ghost use Rattle.table_arrival.specs.ArrivalForms.{TestedFor};
 
-use super::Tested;
 use edit_history::Surveyed;
 use edit_record::{AT_KIND, AT_TARGET, AT_TARGET_SEQ, LIMITED, Seq, Site};
 use group_limited::Judged;
@@ -18,9 +17,9 @@ use group_sight::RECENT;
 use group_step::SETS;
 use table_drawing::Counters;
 
-// What is tested and judged by the rows of the box, which has k Sets: they are worked out once, as 16 of them is
+// What is judged by the rows of the box, which has k Sets: they are worked out once, as 16 of them is
 // tested.
-fn judge_by_rows(c: Counters, recs: &[u8], places: &[u16], rec: &[u8], k: usize) -> Tested
+fn judge_by_rows(c: Counters, recs: &[u8], places: &[u16], rec: &[u8], k: usize) -> Option<Judged>
     requires { Holds c recs.now
         × Indexed recs.now c.records places.now
         × (record_length ≤ length rec.now)
@@ -51,20 +50,16 @@ fn judge_by_rows(c: Counters, recs: &[u8], places: &[u16], rec: &[u8], k: usize)
         p as usize,
     );
     if !named {
-        let judged = Judged {
-            nameless: false,
-            conflicts: 0,
-        };
-        return Tested { named, judged };
+        return None;
     }
     let judged = group_limited::judge(recs, &members, &names, &sees, k, &plain, &ctx, rec);
-    Tested { named, judged }
+    Some(judged)
 }
 
-// What is tested and judged with the survey v. Where no Set of its object is limited, and it is not, document 01's
+// What is judged with the survey v, or none where 16 is given to a record held. Where no Set of its object is limited, and it is not, document 01's
 // conflicts are all that there are. One whose object is not held is not judged. The rows are asked for in two places,
 // so that their work space is no part of an arrival's, in which soundness was tested before.
-pub fn judge(c: Counters, recs: &[u8], places: &[u16], rec: &[u8], v: Surveyed) -> Tested
+pub fn judge(c: Counters, recs: &[u8], places: &[u16], rec: &[u8], v: Surveyed) -> Option<Judged>
     requires { Holds c recs.now
         × Indexed recs.now c.records places.now
         × (record_length ≤ length rec.now)
@@ -78,10 +73,11 @@ pub fn judge(c: Counters, recs: &[u8], places: &[u16], rec: &[u8], v: Surveyed) 
     if v.found & v.limited {
         return judge_by_rows(c, recs, places, rec, v.sets);
     }
-    let named = group_named::are_all_named(recs, c.records as usize, places);
-    let judged = Judged {
+    if !group_named::are_all_named(recs, c.records as usize, places) {
+        return None;
+    }
+    Some(Judged {
         nameless: false,
         conflicts: v.plain,
-    };
-    Tested { named, judged }
+    })
 }

@@ -15,7 +15,7 @@ ghost use Rattle.group_step.specs.GroupRows.{most_groups, most_sets, row};
 ghost use Rattle.group_step.specs.StepForms.{Apart};
 ghost use Rattle.group_sight.specs.SightForms.{most_recent, sets_in, NamesIn};
 ghost use Rattle.table_drawing.specs.Tables.{tables_of};
-ghost use Rattle.table_drawing.specs.AnswerNumbers.{number_of};
+ghost use Rattle.table_drawing.specs.AnswerNumbers.{answer_of};
 ghost use Rattle.table_soundness.specs.SoundnessForms.{sound_but_named};
 ghost use Rattle.table_sets.specs.ChainForms.{Chained};
 ghost use Rattle.table_sets.specs.KeyForms.{TellsIn};
@@ -28,7 +28,7 @@ use edit_walk::PLACES;
 use group_sight::{RECENT, put_names};
 use group_step::{GROUPS, SETS};
 use table_drawing::entries::at16;
-use table_drawing::{Answer, Counters, ENTRY};
+use table_drawing::{Counters, ENTRY, Refusal};
 use table_sets::by_key::KEY_CHAINS;
 use table_sets::by_mask::mark_set;
 
@@ -234,17 +234,17 @@ fn are_rows_true(
 }
 
 // The separate check: done exactly when the tables are what their records give from an empty drawing, else unsound.
-pub fn check(c: Counters, records: &[u8], objects: &[u16], groups: &[u64]) -> Answer
-    ensures { number_of result
+pub fn check(c: Counters, records: &[u8], objects: &[u16], groups: &[u64]) -> Result<(), Refusal>
+    ensures { answer_of result
         ≡ check_of (tables_of c records.now objects.now groups.now) }
 {
     let mut places = [1u16; PLACES];
     if !table_soundness::is_sound_but_named(c, records, objects, groups, &mut places) {
-        return Answer::Unsound;
+        return Err(Refusal::Unsound);
     }
     if are_rows_true(c, records, objects, groups, &places) {
-        Answer::Done
+        Ok(())
     } else {
-        Answer::Unsound
+        Err(Refusal::Unsound)
     }
 }

@@ -5,15 +5,16 @@
 pub mod short;
 
 ghost use Rattle.std.specs.Prelude.{[], ◌∷◌, ◌++◌};
+ghost use Rattle.std.specs.Result.{result_unwrap_or};
 ghost use Rattle.edit_record.specs.RecordBytes.{decode_of};
 ghost use Rattle.edit_history.specs.EditsHeld.{edits_of};
 ghost use Rattle.table_drawing.specs.Tables.{tables_of};
-ghost use Rattle.table_drawing.specs.AnswerNumbers.{number_of};
+ghost use Rattle.table_drawing.specs.AnswerNumbers.{answer_of};
 ghost use Rattle.table_kept.specs.BoxForms.{KeptFor};
 ghost use Rattle.table_plain.specs.TakingForms.{Takes, Leaves};
 
-use table_arrival::{Arrived, asked};
-use table_drawing::Counters;
+use table_arrival::asked;
+use table_drawing::{Counters, Refusal};
 
 // Takes one record at tables that are sound, by the index of their records and by what is kept of a box with a limited
 // Set, and puts it into the index if it is taken. The index has room for it.
@@ -29,24 +30,18 @@ pub fn take_next(
     rows: &mut [u64],
     names: &mut [u32],
     rec: &[u8],
-) -> Arrived
+) -> Result<Counters, Refusal>
     requires { Takes (tables_of c records.old objects.old groups.old) places.old numbers.old counts.old
         chains.old rec.now
         × KeptFor (edits_of records.old c.records) names.old rows.old }
     ensures { Leaves (tables_of c records.old objects.old groups.old)
-        rec.now (number_of result.answer)
-        (tables_of result.counters records.new objects.new groups.new)
+        rec.now (answer_of result)
+        (tables_of (result_unwrap_or result c) records.new objects.new groups.new)
         places.old places.new numbers.new counts.new chains.new
         × KeptFor (edits_of records.old c.records ++ (decode_of rec.now ∷ []))
         names.new rows.new }
 {
-    let early = asked::one_to_three(c, rec);
-    if table_drawing::number(early) != 0 {
-        return Arrived {
-            answer: early,
-            counters: c,
-        };
-    }
+    asked::one_to_three(c, rec)?;
     let v = table_index::survey(c, records, places, numbers, counts, chains, rec);
     let j = table_kept::judge(
         rows,
@@ -59,18 +54,15 @@ pub fn take_next(
         rec,
         v,
     );
-    let a = table_arrival::accept(c, records, objects, groups, rec, v, j, true);
-    let answer = a.answer;
-    if table_drawing::number(answer) == 0 {
-        table_index::add(
-            records,
-            c.records as usize,
-            c.objects,
-            places,
-            numbers,
-            counts,
-            chains,
-        );
-    }
-    a
+    let after = table_arrival::accept(c, records, objects, groups, rec, v, j, true)?;
+    table_index::add(
+        records,
+        c.records as usize,
+        c.objects,
+        places,
+        numbers,
+        counts,
+        chains,
+    );
+    Ok(after)
 }

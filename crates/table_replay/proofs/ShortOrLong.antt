@@ -20,11 +20,11 @@ use Rattle.table_given.proofs.ReplayGoes.{Going, going_on}
 
 module _
     (sites i : ℕ)
-    (t : Tables)
-    (b ps ns cs hs : List ℕ)
-    (ok : Bool)
-    (m sum : ℕ)
-    (held rs os gs ps' ns' cs' hs' : List ℕ)
+    {t : Tables}
+    {b ps ns cs hs : List ℕ}
+    {ok : Bool}
+    {m sum : ℕ}
+    {held rs os gs ps' ns' cs' hs' : List ℕ}
     (l :
     LeavesShort t b ok (tables_of (counters_of sites (i + cond ok 1 0) m held sum) rs os gs) ps ns cs hs ps' ns' cs'
     hs') where

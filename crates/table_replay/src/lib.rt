@@ -8,9 +8,8 @@ ghost use Rattle.edit_history.specs.EditsHeld.{most_records, count_from};
 ghost use Rattle.edit_history.specs.SurveyForms.{Counted};
 ghost use Rattle.edit_walk.specs.WalkForms.{Spaced};
 ghost use Rattle.table_drawing.specs.Tables.{tables_of, empty_drawing, lengths_right, sites_right};
-ghost use Rattle.table_drawing.specs.AnswerNumbers.{number_of};
 ghost use Rattle.table_index.specs.IndexForms.{IndexOf, counters_of};
-ghost use Rattle.table_given.specs.Replay.{replayed, replay_of, edits_in};
+ghost use Rattle.table_given.specs.Replay.{replayed_by, replay_of, edits_in};
 ghost use Rattle.table_kept.specs.BoxForms.{KeptFor};
 
 use edit_form::OLD;
@@ -19,17 +18,10 @@ use edit_record::{RECORD, SITES};
 use edit_walk::PLACES;
 use group_kept::ROWS;
 use group_step::OBJECTS;
-use table_drawing::{Answer, Counters};
+use table_drawing::Counters;
+use table_given::FileRefusal;
 use table_index::chain::CHAINS;
 use table_kept::NAMES;
-
-// The answer to the first refused record and its index, or 0 and 0; and the counters after the records before it.
-#[derive(Clone, Copy)]
-pub struct Taken {
-    pub answer: Answer,
-    pub index: usize,
-    pub counters: Counters,
-}
 
 // How many of the first n records of a stretch name each site.
 fn count_stretch(recs: &[u8], form: u8, n: usize) -> [u16; SITES]
@@ -38,15 +30,13 @@ fn count_stretch(recs: &[u8], form: u8, n: usize) -> [u16; SITES]
 {
     let mut counts = [0u16; SITES];
     let mut at: usize = 0;
-    let mut i: usize = 0;
-    while i < n {
+    for i in 0..n {
         let rest = &recs[at..];
         let site = edit_form::site_from(rest, form) as usize;
         at = at + edit_form::length_from(rest, form);
         if site < SITES {
             counts[site] = counts[site] + 1;
         }
-        i += 1;
     }
     counts
 }
@@ -67,7 +57,7 @@ fn take_records(
     recs: &[u8],
     form: u8,
     n: usize,
-) -> Taken
+) -> Result<Counters, FileRefusal>
     requires { (tables_of (counters_of sites 0 0 (replicate most_sites 0) 0) records.old objects.old groups.old
         ≡ empty_drawing sites)
         × IndexOf records.old 0 places.old numbers.old counts.old chains.old
@@ -76,8 +66,7 @@ fn take_records(
         × (n ≤ most_records)
         × (start_of form recs.now n ≤ length recs.now)
         × KeptFor [] names.old rows.old }
-    ensures { replayed (number_of result.answer) result.index
-        (tables_of result.counters records.new objects.new groups.new)
+    ensures { replayed_by result records.new objects.new groups.new
         ≡ replay_of sites (stored_in form recs.now) n }
 {
     let mut held = [0u16; SITES];
@@ -86,8 +75,7 @@ fn take_records(
     // written for old records alone: what was just written is read slowly
     let mut wide = [0u8; RECORD];
     let mut at: usize = 0;
-    let mut i: usize = 0;
-    while i < n {
+    for i in 0..n {
         let rest = &recs[at..];
         let used = edit_form::length_from(rest, form);
         at = at + used;
@@ -102,7 +90,6 @@ fn take_records(
         m = t.objects;
         sum = t.sum;
         if t.ok {
-            i += 1;
             continue;
         }
         let c = Counters {
@@ -112,36 +99,29 @@ fn take_records(
             held,
             sum,
         };
-        let a = table_next::take_next(
+        let next = match table_next::take_next(
             c, records, objects, groups, places, numbers, counts, chains, rows, names, rec,
-        );
-        let next = a.counters;
-        let answer = a.answer;
-        if table_drawing::number(answer) != 0 {
-            return Taken {
-                answer,
-                index: i,
-                counters: next,
-            };
-        }
-        let after = next.held;
-        held = after;
+        ) {
+            Ok(next) => next,
+            Err(refusal) => {
+                return Err(FileRefusal {
+                    refusal,
+                    index: i,
+                    counters: c,
+                });
+            }
+        };
+        held = next.held;
         m = next.objects;
         sum = next.sum;
-        i += 1;
     }
-    let counters = Counters {
+    Ok(Counters {
         sites,
         records: n as u16,
         objects: m,
         held,
         sum,
-    };
-    Taken {
-        answer: Answer::Done,
-        index: 0,
-        counters,
-    }
+    })
 }
 
 // Opens a drawing of so many sites in the tables and takes the first n records of a stretch in a form into it, one
@@ -154,13 +134,12 @@ pub fn replay(
     recs: &[u8],
     form: u8,
     n: usize,
-) -> Taken
+) -> Result<Counters, FileRefusal>
     requires { (lengths_right records.old objects.old groups.old ≡ true)
         × (sites_right sites ≡ true)
         × (n ≤ most_records)
         × (start_of form recs.now n ≤ length recs.now) }
-    ensures { replayed (number_of result.answer) result.index
-        (tables_of result.counters records.new objects.new groups.new)
+    ensures { replayed_by result records.new objects.new groups.new
         ≡ replay_of sites (stored_in form recs.now) n }
 {
     let held = [0u16; SITES];
@@ -171,7 +150,7 @@ pub fn replay(
         held,
         sum: 0,
     };
-    table_drawing::open(none, records, objects, groups, sites);
+    _ = table_drawing::open(none, records, objects, groups, sites);
     // what work space holds at first does not matter; zeros would be set by memset (docs/DECISIONS.md, 24)
     let mut places = [1u16; PLACES];
     let mut numbers = [1u8; RECORDS];

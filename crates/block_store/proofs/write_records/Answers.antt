@@ -23,8 +23,8 @@ long-still :
 long-still b =
     let l = b.loop-i in
     let a = b.args in
-    as_long a.out.now (chained (bytes_at a.records.now) l.i) l.end (sym l.invariant.1) l.invariant.2
-    l.invariant.3
+    as_long a.out.now (chained (bytes_at a.records.now) l.i) l.end (sym l.invariant.0) l.invariant.1
+    l.invariant.2
 
 -- and has room c the next record
 room :
@@ -42,13 +42,13 @@ room c =
       chained-inside (bytes_at rs) l.i a.n r.loop-i-test.true,
       held-long rs a.n s.requires.1 s.requires.2 l.i r.loop-i-test.true c.span_of-bytes.result
           c.span_of-bytes.ensures,
-      l.invariant.1,
+      l.invariant.0,
       s.requires.3,
     )
 
 pub loop-i-init : goal.loop-i-init
 unfolding chained
-loop-i-init c = (omega arith, refl, omega arith, refl)
+loop-i-init c = (refl, omega arith, refl)
 
 pub slice_bounds-copy_in-count : goal.slice_bounds-copy_in-count
 slice_bounds-copy_in-count c = omega (arith, room c.before, long-still c.before.before.before.before)
@@ -86,13 +86,12 @@ loop-i-preserved c =
     let copied = y.copy_in.ensures
     ∙ ap (λ (b : List ℕ). b ++ drop w (mid_of l.end (length l.out - l.end) l.out))
     (held-is rs a.n s.requires.1 s.requires.2 l.i r.loop-i-test.true w is) in (
-      omega arith,
       rw (add-one l.i) (held_next rs a.n s.requires.1 s.requires.2 l.i r.loop-i-test.true w is l.end
-          l.invariant.1),
+          l.invariant.0),
       room c.before.before.before.before.before,
       rw (add-one l.i)
-          (block-put a.out.now (chained (bytes_at rs) l.i) (bytes_at rs l.i) l.end w (sym l.invariant.1)
-          l.invariant.3
+          (block-put a.out.now (chained (bytes_at rs) l.i) (bytes_at rs l.i) l.end w (sym l.invariant.0)
+          l.invariant.2
           copied),
     )
 
@@ -103,4 +102,4 @@ pub returns : goal.returns
 returns c =
     let l = c.loop-i in
     let k : l.i ≡ c.args.n = omega arith in
-    rw (← k, ← l.invariant.1) l.invariant.3
+    rw (← k, ← l.invariant.0) l.invariant.2

@@ -1,7 +1,7 @@
 -- `block_trailer::is_filled` meets its contract: `at` is where record i starts, and a record that starts past the end
 -- has none behind it that starts at the end. Assumes nothing.
 use mathlib.Core.Path.{◌≡◌, refl, sym, ap, ◌∙◌}
-use Prim.Native.Nat.{ℕ, ◌-◌}
+use Prim.Native.Nat.{ℕ}
 use native.Mathlib.Numerals.{add-one}
 use native.Mathlib.Omega.{arith}
 use lib.ListN.{length}
@@ -13,7 +13,7 @@ use Rattle.block_trailer.proofs.is_filled.Goals as goal
 
 pub loop-i-init : goal.loop-i-init
 unfolding start_of
-loop-i-init c = (omega arith, refl)
+loop-i-init c = (refl)
 
 pub returns-then-stretch-at : goal.returns-then-stretch-at
 returns-then-stretch-at c =
@@ -21,7 +21,7 @@ returns-then-stretch-at c =
     let a = c.args in
     let s = a.stretch.now in
     let later = ends-before a.form s l.i a.n c.loop-i-test.true in
-    sym (ne_eqb (start_of a.form s a.n) (length s) (λ e. omega (arith, e, later, l.invariant.1, c.if-stretch-at.true)))
+    sym (ne_eqb (start_of a.form s a.n) (length s) (λ e. omega (arith, e, later, l.invariant, c.if-stretch-at.true)))
 
 pub overflow_add-at : goal.overflow_add-at
 overflow_add-at c =
@@ -30,7 +30,7 @@ overflow_add-at c =
     let a = b.args in
     omega (
       arith,
-      few_bytes a.form a.stretch.now l.i l.at l.invariant.1
+      few_bytes a.form a.stretch.now l.i l.at l.invariant
           (λ k. omega (arith, b.shared_slice_known-1.given k))
           c.length_from-at.result
           c.length_from-at.ensures,
@@ -40,12 +40,9 @@ pub loop-i-preserved : goal.loop-i-preserved
 loop-i-preserved c =
     let b = c in
     let l = b.loop-i in
-    let a = b.args in (
-      omega arith,
-      rw (add-one l.i)
-          (next_start a.form a.stretch.now l.i l.at l.invariant.1 c.length_from-at.result
-          c.length_from-at.ensures),
-    )
+    let a = b.args in (rw (add-one l.i)
+    (next_start a.form a.stretch.now l.i l.at l.invariant c.length_from-at.result
+    c.length_from-at.ensures))
 
 pub returns : goal.returns
 returns c =
@@ -53,4 +50,4 @@ returns c =
     let a = c.args in
     let s = a.stretch.now in
     let k : l.i ≡ a.n = omega arith in
-    ap (λ (x : ℕ). eqb x (length s)) (l.invariant.1 ∙ ap (start_of a.form s) k)
+    ap (λ (x : ℕ). eqb x (length s)) (l.invariant ∙ ap (start_of a.form s) k)

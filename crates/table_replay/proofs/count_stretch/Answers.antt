@@ -2,7 +2,7 @@
 -- counted nowhere. Assumes nothing.
 use mathlib.Core.Path.{◌≡◌, refl, sym, ap, ◌∙◌}
 use mathlib.Core.List.{List}
-use Prim.Native.Nat.{ℕ, ◌+◌, ◌-◌, ◌≤◌}
+use Prim.Native.Nat.{ℕ, ◌+◌, ◌≤◌}
 use native.Mathlib.Numerals.{add-one}
 use native.Mathlib.Omega.{arith}
 use lib.ListN.{length, get_or, set, length-set}
@@ -27,11 +27,11 @@ inside r =
     let l = r.loop-i in
     let s = r in
     let a = s.args in
-    start-inside a.form a.recs.now l.i l.at l.invariant.1 a.n r.loop-i-test.true s.requires.1
+    start-inside a.form a.recs.now l.i l.at l.invariant.0 a.n r.loop-i-test.true s.requires.1
 
 pub loop-i-init : goal.loop-i-init
 unfolding edits_in start_of
-loop-i-init c = (omega arith, refl, search rules, counted_none)
+loop-i-init c = (refl, search rules, counted_none)
 
 pub slice_bounds-rest-count : goal.slice_bounds-rest-count
 slice_bounds-rest-count c = inside c.before
@@ -45,7 +45,7 @@ site_from-site-requires c =
     let l = r.loop-i in
     let s = r in
     let a = s.args in
-    lent-there a.form a.recs.now l.i l.at l.invariant.1 a.n r.loop-i-test.true s.requires.1
+    lent-there a.form a.recs.now l.i l.at l.invariant.0 a.n r.loop-i-test.true s.requires.1
 
 pub overflow_add-at : goal.overflow_add-at
 overflow_add-at c =
@@ -53,7 +53,7 @@ overflow_add-at c =
     let l = r.loop-i in
     let s = r in
     let a = s.args in
-    let next = next-inside a.form a.recs.now l.i l.at l.invariant.1 a.n r.loop-i-test.true s.requires.1
+    let next = next-inside a.form a.recs.now l.i l.at l.invariant.0 a.n r.loop-i-test.true s.requires.1
     c.length_from-at.result c.length_from-at.ensures in
     omega (arith, next)
 
@@ -66,7 +66,7 @@ overflow_add-counts c =
     let es = edits_in (stored_in a.form a.recs.now) l.i in
     omega (
       arith,
-      counted-few l.counts es l.invariant.2 l.invariant.3 c.site_from-site.result,
+      counted-few l.counts es l.invariant.1 l.invariant.2 c.site_from-site.result,
       edits-in-length (stored_in a.form a.recs.now) l.i,
       s.requires.0,
       r.loop-i-test.true,
@@ -83,23 +83,22 @@ loop-i-preserved c =
     let site = n.site_from-site.result in
     let is : site ≡ get_or (rs l.i) site_at 0
     = n.site_from-site.ensures
-    ∙ ap (λ (b : List ℕ). get_or b site_at 0) (lent_is a.form recs l.i l.at l.invariant.1 _ refl) in
+    ∙ ap (λ (b : List ℕ). get_or b site_at 0) (lent_is a.form recs l.i l.at l.invariant.0 _ refl) in
     let more = get_or l.counts site 0 + 1 in
     let e : c.if-site-lt-SITES.counts ≡ set l.counts site more
     = elim c.if-site-lt-SITES.branch [
       | then-site-lt-SITES w ↦ w.counts-is
       | else-site-lt-SITES w ↦ w.counts-is ∙ sym (set_out l.counts site more (omega arith))
     ] in (
-      omega arith,
       rw (add-one l.i)
-          (next_start a.form recs l.i l.at l.invariant.1 n.length_from-at.result n.length_from-at.ensures),
-      rw e (simp length-set l.invariant.2),
+          (next_start a.form recs l.i l.at l.invariant.0 n.length_from-at.result n.length_from-at.ensures),
+      rw e (simp length-set l.invariant.1),
       rw (add-one, e, is)
           (unfold edits_in in
-          counted-more l.counts (edits_in rs l.i) l.invariant.2 l.invariant.3 (decode_of (rs l.i))),
+          counted-more l.counts (edits_in rs l.i) l.invariant.1 l.invariant.2 (decode_of (rs l.i))),
     )
 
 pub returns : goal.returns
 returns c =
     let k : c.loop-i.i ≡ c.args.n = omega arith in
-    rw (← k) c.loop-i.invariant.3
+    rw (← k) c.loop-i.invariant.2

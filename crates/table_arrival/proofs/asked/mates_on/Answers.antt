@@ -42,19 +42,19 @@ few c is =
     let l = c.loop-i in
     let s = c in
     let a = s.args in
-    mates-few (decode_of a.rec.now) a.recs.now a.s a.q l.i _ l.invariant.1 a.n (omega arith)
+    mates-few (decode_of a.rec.now) a.recs.now a.s a.q l.i _ l.invariant a.n (omega arith)
     (told c ∙ is) s.requires.3
 
 pub loop-i-init : goal.loop-i-init
 loop-i-init c =
     let a = c.args in
-    (omega arith, mates-none (decode_of a.rec.now) a.recs.now a.s a.q)
+    (mates-none (decode_of a.rec.now) a.recs.now a.s a.q)
 
 pub marked_if-plain-requires : goal.marked_if-plain-requires
 marked_if-plain-requires c =
     let l = c.loop-i in
     let a = c.args in
-    (mates-below (decode_of a.rec.now) _ _ l.invariant.1, λ y. few c.before.before.before c.if-is_set_in.true)
+    (mates-below (decode_of a.rec.now) _ _ l.invariant, λ y. few c.before.before.before c.if-is_set_in.true)
 
 pub overflow_add-sets : goal.overflow_add-sets
 overflow_add-sets c = omega (arith, few c.before.before.before.before.before c.if-is_set_in.true)
@@ -67,15 +67,9 @@ loop-i-preserved c =
     let rs = a.recs.now in
     elim c.if-is_set_in.branch [
       | then-is_set_in v ↦
-          rw (v.sets-is, v.plain-is, v.limited-is, v.marked_if-plain.ensures, v.is_conflict_in-b.ensures, here c.before.before) (
-            omega arith,
-            mate-found e rs a.s a.q l.i _ l.invariant.1 (told c.before.before ∙ v.if-is_set_in.true),
-          )
+          rw (v.sets-is, v.plain-is, v.limited-is, v.marked_if-plain.ensures, v.is_conflict_in-b.ensures, here c.before.before) (mate-found e rs a.s a.q l.i _ l.invariant (told c.before.before ∙ v.if-is_set_in.true))
       | else-is_set_in v ↦
-          rw (v.sets-is, v.plain-is, v.limited-is) (
-            omega arith,
-            no-mate-found e rs a.s a.q l.i _ l.invariant.1 (told c.before.before ∙ v.if-is_set_in.false),
-          )
+          rw (v.sets-is, v.plain-is, v.limited-is) (no-mate-found e rs a.s a.q l.i _ l.invariant (told c.before.before ∙ v.if-is_set_in.false))
     ]
 
 pub returns : goal.returns
@@ -83,4 +77,4 @@ returns c =
     let l = c.loop-i in
     let a = c.args in
     let done : l.i ≡ a.n = omega arith in
-    rw (← done) l.invariant.1
+    rw (← done) l.invariant
