@@ -161,7 +161,8 @@ pub fn print_line(
         return Err(Refusal::Unsound);
     }
     let mut line = [1u8; LINE];
-    let bytes = put_numbered(&mut line, c, records, objects, groups, &places, k)
-        .ok_or(Refusal::NoLine)?;
+    let Some(bytes) = put_numbered(&mut line, c, records, objects, groups, &places, k) else {
+        return Err(Refusal::NoLine);
+    };
     put_at(out, start, &line, bytes)
 }
