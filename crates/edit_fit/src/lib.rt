@@ -13,7 +13,8 @@ use edit_record::{
     is_layer_kind, name_in, own_entry, pair_at, span_of, value_of,
 };
 
-// Whether an entry of the vector of a record that is there whole is nonzero at or past n.
+// Whether an entry of the vector of a record that is there whole is nonzero at or past n. All are looked at, which is
+// faster than to stop at the first.
 fn is_nonzero_past(n: u8, rec: &[u8]) -> bool
     requires { record_length ≤ length rec.now }
     ensures { result ≡ nonzero_past n (counts most_sites (drop vector_at rec.now)) }

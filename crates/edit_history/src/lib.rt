@@ -82,7 +82,8 @@ pub fn is_repeated(held: &[u16], s: Site, q: Seq) -> bool
     q.0 <= held_from(held, s)
 }
 
-// Whether an entry of v other than the site's own is above that of held.
+// Whether an entry of v other than the site's own is above that of held. All are looked at, which is faster than to
+// stop at the first.
 fn is_ahead_elsewhere(held: &[u16], v: [u16; SITES], s: Site) -> bool
     requires { most_sites ≤ length held.now }
     ensures { result ≡ ahead_elsewhere held.now v s }
@@ -105,7 +106,7 @@ pub fn is_early(held: &[u16], v: [u16; SITES], s: Site, q: Seq) -> bool
     (own as u32 + 1 < q.0 as u32) | is_ahead_elsewhere(held, v, s)
 }
 
-// Whether an entry of v is larger than w's.
+// Whether an entry of v is larger than w's. All are looked at, which is faster than to stop at the first.
 pub fn is_larger_somewhere(v: [u16; SITES], w: [u16; SITES]) -> bool
     ensures { result ≡ larger_somewhere v w }
 {

@@ -20,7 +20,8 @@ use edit_record::{
 };
 use edit_walk::{is_passing, is_passing_at, is_target_held, is_torn_by_news, place_at};
 
-// Whether rec has in every entry but that of the site s what x has; both are there whole.
+// Whether rec has in every entry but that of the site s what x has; both are there whole. All are looked at, which is
+// faster than to stop at the first that differs.
 fn is_same_but(x: &[u8], rec: &[u8], s: u8) -> bool
     requires { (record_length ≤ length x.now) × (record_length ≤ length rec.now) }
     ensures { result ≡ same_but (decode_of x.now).vector (decode_of rec.now).vector s }

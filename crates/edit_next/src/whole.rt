@@ -25,7 +25,8 @@ fn is_last_seen(recs: &[u8], n: usize, rec: &[u8]) -> bool
     edit_record::pair_at(recs, last + AT_SEQ) <= seen
 }
 
-// Whether rec, which is there whole, has in every entry but that of the site s what is counted.
+// Whether rec, which is there whole, has in every entry but that of the site s what is counted. All are looked at here
+// too.
 fn is_as_counted(held: &[u16], rec: &[u8], s: u8) -> bool
     requires { (length held.now ≡ most_sites) × (record_length ≤ length rec.now) }
     ensures { result ≡ same_but held.now (decode_of rec.now).vector s }

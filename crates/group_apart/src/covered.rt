@@ -7,7 +7,7 @@ ghost use Rattle.math_maximal.specs.Step.{step};
 ghost use Rattle.group_step.specs.GroupRows.{most_groups, most_sets, settled};
 ghost use Rattle.group_step.specs.StepForms.{staying, Apart, part_of, wholes, all_covered};
 
-use group_step::{GROUPS, candidate_of, copy_in, is_compatible, step_row};
+use group_step::{GROUPS, candidate_of, is_compatible, step_row};
 
 // Whether each member of g is one of h.
 fn is_part(g: u64, h: u64) -> bool
@@ -94,6 +94,6 @@ pub fn step_split(gs: &mut [u64], n: usize, m: u64, k: usize, t: usize) -> usize
     if !are_covered(&out, t, n, m, k) {
         return step_row(gs, n, m, k);
     }
-    copy_in(gs, &out, GROUPS);
+    gs.copy_from_slice(&out);
     n
 }
