@@ -31,12 +31,11 @@ pub struct Aim {
     pub held: bool,
 }
 
-// Whether none of 1 to 6 is given to a record, as far as it is looked at; and of a Set whether a Set of its object is
-// limited, the number of its object, how many Sets that has, and which of them conflict with it by document 01's rule,
-// bit i for the i-th.
+// What is found of a record to which none of 1 to 6 is given, as far as it is looked at: of a Set whether a Set of its
+// object is limited, the number of its object, how many Sets that has, and which of them conflict with it by document
+// 01's rule, bit i for the i-th.
 #[derive(Clone, Copy)]
 pub struct Looked {
-    pub ok: bool,
     pub limited: bool,
     pub object: usize,
     pub sets: usize,

@@ -155,7 +155,6 @@ module _
     pub judged-so :
         JudgedBy t ps ns cs b
         (record {
-          ok = true;
           limited = r.limited;
           object = r.object;
           sets = r.sets;

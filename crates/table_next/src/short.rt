@@ -68,7 +68,6 @@ fn take_limited(
         return table_plain::not_taken(m, sum);
     }
     let judged = Looked {
-        ok: true,
         limited: a.limited,
         object: a.object,
         sets: a.sets,
@@ -120,12 +119,11 @@ pub fn take_short(
         (edits_of records.old n))
         names.new rows.new }
 {
-    let a = look(
+    let Some(a) = look(
         sites, held, records, n, m, places, numbers, counts, chains, rec,
-    );
-    if !a.ok {
+    ) else {
         return table_plain::not_taken(m, sum);
-    }
+    };
     let kind = rec[AT_KIND];
     if a.limited | (kind == LIMITED) {
         return take_limited(

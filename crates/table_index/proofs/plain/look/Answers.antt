@@ -10,6 +10,8 @@ use Rattle.edit_history.specs.Answers2to5.{passes}
 use Rattle.edit_walk.proofs.NewsDecide.{news-decide}
 use Rattle.table_index.specs.IndexForms.{counters_of}
 use Rattle.table_index.proofs.LookByIndex.{turn-of, target-of, create-room-of}
+use Rattle.std.proofs.Common.{Option, Some, None, IfSome}
+use Rattle.table_index.specs.declared.Looked.{Looked}
 use Rattle.table_index.proofs.plain.look.Goals as goal
 use Rattle.table_index.proofs.plain.look.Goals.{After-is_passing_with}
 
@@ -27,8 +29,10 @@ passed c ok =
     ∙ sym c.is_passing_with.ensures
     ∙ ok
 
-pub returns-then-not-is_passing_with : goal.returns-then-not-is_passing_with
-returns-then-not-is_passing_with c ok = clash ok c.no_set.ensures.0
+-- what is found, and so more is known of it
+found-so : {P Q : Looked → Type 0} (r : Option Looked) → ((x : Looked) → P x → Q x) → IfSome r P → IfSome r Q
+found-so None f h = h
+found-so (Some x) f h = f x h
 
 pub look_at_set-requires : goal.look_at_set-requires
 look_at_set-requires c =
@@ -55,27 +59,22 @@ look_at_set-requires c =
     )
 
 pub returns-then-is_set_kind : goal.returns-then-is_set_kind
-returns-then-is_set_kind c ok =
-    let k = c in
-    let c4 = k in
+returns-then-is_set_kind c =
     let e = decode_of c.args.rec.now in
-    let set : is_set e ≡ true = sym k.is_set_kind.ensures ∙ c.if-is_set_kind.true in
-    record {
-      pass = passed (goal.at.returns-then-is_set_kind c).After-is_passing_with (k.if-not-is_passing_with.false);
+    let set : is_set e ≡ true = sym c.is_set_kind.ensures ∙ c.if-is_set_kind.true in
+    found-so c.look_at_set.result
+    (λ r met. record {
+      pass = passed (goal.at.returns-then-is_set_kind c).After-is_passing_with c.if-not-is_passing_with.false;
       create-room = λ y. clash y (set-not-create e set);
-      set = λ y. c.look_at_set.ensures ok;
+      set = λ y. met;
       no_other = λ y. set;
-    }
+    })
+    c.look_at_set.ensures
 
-pub returns : goal.returns
-returns c ok =
-    let k = c in
-    let c4 = k in
-    let s = c in
-    let e = decode_of c.args.rec.now in
-    record {
-      pass = passed (goal.at.returns c).After-is_passing_with (k.if-not-is_passing_with.false);
-      create-room = create-room-of e s.args.m (sym c.no_set-2.ensures.0 ∙ ok);
-      set = λ y. clash y (sym k.is_set_kind.ensures ∙ c.if-is_set_kind.false);
-      no_other = λ y. clash y c.no_set-2.ensures.1;
-    }
+pub returns-then-kind-m : goal.returns-then-kind-m
+returns-then-kind-m c = record {
+  pass = passed (goal.at.returns-then-kind-m c).After-is_passing_with c.if-not-is_passing_with.false;
+  create-room = create-room-of (decode_of c.args.rec.now) c.args.m c.if-kind-m.true;
+  set = λ y. clash y (sym c.is_set_kind.ensures ∙ c.if-is_set_kind.false);
+  no_other = λ y. clash y c.no_set.ensures;
+}

@@ -4,7 +4,7 @@ use mathlib.Core.Bool.{not}
 use Prim.Native.Nat.{ℕ}
 use lib.Dec.{eqb}
 use lib.ListN.{get_or}
-use borrow.Author.Tests.{ltb-true}
+use native.Mathlib.Omega.{arith}
 use Rattle.edit_record.specs.RecordBytes.{decode_of}
 use Rattle.edit_walk.specs.WalkForms.{place_of}
 use Rattle.table_index.specs.IndexForms.{marks_on}
@@ -42,7 +42,7 @@ marks_unless-conflicts-requires c =
     )
 
 pub returns : goal.returns
-returns c ok =
+returns c =
     let c1 = c in
     let c2 = c1 in
     let c4 = c2 in
@@ -56,4 +56,4 @@ returns c ok =
     c2.at16-sets.ensures
     (ap (λ (k : ℕ). not (eqb k 0)) c1.byte_at-limits.ensures)
     (c.marks_unless-conflicts.ensures ∙ ap (λ (i : ℕ). marks_on a.recs.now a.n i (decode_of c.args.rec.now)) is)
-    (ltb-true c2.at16-sets.result _ ok)
+    (omega arith)

@@ -5,18 +5,10 @@ use native.Mathlib.Omega.{arith}
 use borrow.Author.Tests.{not-true, not-false}
 use Rattle.math_lists.proofs.Booleans.{clash}
 use Rattle.table_next.proofs.LimitedTaken.{surveyed-so, indexed-so, judged-so}
-use Rattle.table_next.proofs.short.take_limited.Lts
-use Rattle.table_next.proofs.short.take_limited.Tie
-use Rattle.table_next.proofs.short.take_limited.Reads
 use Rattle.table_next.proofs.short.take_limited.Goals as goal
 
 none_more : (n : ℕ) → n + 0 ≡ n
 none_more n = omega arith
-
-abbrev start-of : (Lts.After-judge Tie.the-claims Reads.Pre Reads.Post) → (Lts.Start Tie.the-claims Reads.Pre Reads.Post)
-start-of c =
-    let c8 = c in
-    c.before.before.before.before.before.before.before.before.before.before.before.before.before.before
 
 pub judge-j-requires : goal.judge-j-requires
 judge-j-requires c =
@@ -35,7 +27,7 @@ pub returns-then-j : goal.returns-then-j
 returns-then-j c =
     let j = c in
     let x = c.not_taken.ensures in
-    rw (x.0, x.1, x.2, none_more (start-of c.before.before.before.before.before.before.before.before.before.before.before).args.n) (
+    rw (x.0, x.1, x.2, none_more c.args.n) (
       record { taken = λ y. clash y refl; tables = λ y. refl; index = λ y. (refl, refl, refl, refl) },
       c.forget.ensures _ _ j.judge-j.ensures.1.rows_long,
     )
@@ -44,7 +36,7 @@ pub take_judged-t-requires : goal.take_judged-t-requires
 take_judged-t-requires c =
     let i = c in
     let j = i in
-    let s = start-of c.before.before.before.before.before.before.before.before.before.before.before.before.before.before in
+    let s = c in
     let a = s.args in (
       s.requires.0,
       judged-so a.sites a.n a.m a.sum a.held.now a.records.now a.objects.now a.groups.now
