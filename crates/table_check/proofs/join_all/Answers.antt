@@ -1,7 +1,7 @@
 -- `table_check::join_all` meets its contract: those passed have the members of m, and the rest is as it was. Assumes
 -- nothing.
 use mathlib.Core.Path.{refl}
-use Prim.Native.Nat.{ℕ}
+use Prim.Native.Nat.{ℕ, ◌-◌}
 use native.Mathlib.Omega.{arith}
 use lib.Bits.{bit_or}
 use lib.ListN.{length-set}
