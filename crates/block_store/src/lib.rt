@@ -64,7 +64,8 @@ fn write_block(out: &mut [u8], records: &[u8], n: u16, sites: u8, end: usize)
     copy_in(&mut out[end..], &bytes, TRAILER);
 }
 
-// Writes the block of the tables into out from the start on, and says how many bytes it has; refused, everything stays as it was.
+// Writes the block of the tables into out from the start on, and says how many bytes it has; refused, everything stays
+// as it was.
 pub fn write(
     c: Counters,
     records: &[u8],

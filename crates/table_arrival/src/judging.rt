@@ -17,8 +17,8 @@ use group_sight::RECENT;
 use group_step::SETS;
 use table_drawing::Counters;
 
-// What is judged by the rows of the box, which has k Sets: they are worked out once, as 16 of them is
-// tested.
+// What is judged by the rows of the box, which has k Sets, or none where 16 is given to a record held: the rows are
+// worked out once, as 16 of them is tested.
 fn judge_by_rows(c: Counters, recs: &[u8], places: &[u16], rec: &[u8], k: usize) -> Option<Judged>
     requires { Holds c recs.now
         × Indexed recs.now c.records places.now
@@ -56,9 +56,10 @@ fn judge_by_rows(c: Counters, recs: &[u8], places: &[u16], rec: &[u8], k: usize)
     Some(judged)
 }
 
-// What is judged with the survey v, or none where 16 is given to a record held. Where no Set of its object is limited, and it is not, document 01's
-// conflicts are all that there are. One whose object is not held is not judged. The rows are asked for in two places,
-// so that their work space is no part of an arrival's, in which soundness was tested before.
+// What is judged with the survey v, or none where 16 is given to a record held. Where no Set of its object is limited,
+// and it is not, document 01's conflicts are all that there are. One whose object is not held is not judged. The rows
+// are asked for in two places, so that their work space is no part of an arrival's, in which soundness was tested
+// before.
 pub fn judge(c: Counters, recs: &[u8], places: &[u16], rec: &[u8], v: Surveyed) -> Option<Judged>
     requires { Holds c recs.now
         × Indexed recs.now c.records places.now

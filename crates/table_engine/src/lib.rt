@@ -217,8 +217,9 @@ fn search(masks: &[u64], k: usize, out: &mut [u64]) -> Result<usize, Refusal>
     Ok(r)
 }
 
-// The groups of the box whose Create is the one named, ascending, with zeros after, and how many there are; refused, out stays as it was: 8,
-// then 11 unless out is 32 numbers, 5 when no such Create is held, 18 above 20 Sets, 7 when more than 32 groups exist.
+// The groups of the box whose Create is the one named, ascending, with zeros after, and how many there are; refused,
+// out stays as it was: 8, then 11 unless out is 32 numbers, 5 when no such Create is held, 18 above 20 Sets, 7 when more
+// than 32 groups exist.
 pub fn enumerate_groups(
     c: Counters,
     records: &[u8],

@@ -1,7 +1,7 @@
 -- `table_engine::put_plainly` meets its contract: after i places their Sets have their masks, and stand among those of
 -- their keys. Assumes nothing.
 use mathlib.Core.Path.{◌≡◌, refl, sym, ap, ◌∙◌}
-use Prim.Native.Nat.{ℕ}
+use Prim.Native.Nat.{ℕ, ◌-◌}
 use native.Mathlib.Omega.{arith}
 use lib.ListN.{length, get_or-replicate}
 use Rattle.math_lists.specs.NumbersBelow.{mask}
