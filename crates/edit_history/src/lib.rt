@@ -27,12 +27,18 @@ pub struct Surveyed {
     pub limited: bool,
 }
 
-// The edit in place p of a table of records; a place past the end holds zeros.
+// The edit in place p of a table of records; a place past the end holds zeros. With `get` and `unwrap_or` in place of
+// the test, the walk over the records takes longer.
 pub fn decode_at(recs: &[u8], p: usize) -> Edit
     requires { p < two_bytes }
     ensures { result ≡ record_at recs.now p }
 {
-    edit_record::decode(recs.get(p * PLACE..).unwrap_or(&[]))
+    let at = p * PLACE;
+    if at <= recs.len() {
+        edit_record::decode(&recs[at..])
+    } else {
+        edit_record::decode(&recs[..0])
+    }
 }
 
 // The vector of the edit in place p, read where it stands.
