@@ -180,7 +180,7 @@ fn mark_in_rows(plain: &mut [u64], n: usize, row: u64)
     let mut left = row;
     while left != 0 {
         let j = u64::trailing_zeros(left) as usize;
-        plain[j] = plain[j] | own;
+        plain[j] |= own;
         left = group_context::but_first(left);
     }
 }

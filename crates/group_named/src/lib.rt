@@ -127,7 +127,7 @@ fn are_named_each(
             p,
             i == end,
         );
-        named = named & own;
+        named &= own;
     }
     named
 }

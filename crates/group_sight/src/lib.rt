@@ -132,7 +132,7 @@ fn sum_of_name(names: &[u32], k: usize, x: u32) -> u32
     let mut t: u32 = 0;
     for (i, &name) in names[..k].iter().enumerate() {
         if name == x {
-            t = t + (FOUND + i as u32);
+            t += FOUND + i as u32;
         }
     }
     t
@@ -209,8 +209,8 @@ pub fn listed_among(names: &[u32], k: usize, seen: u64, rec: &[u8]) -> NamedBefo
     let mut strange = false;
     for i in 0..n {
         let m = marks_of_name(names, k, edit_record::name_in(member_of(rec, count, i)));
-        named = named | m;
-        strange = strange | (m & seen == 0);
+        named |= m;
+        strange |= m & seen == 0;
     }
     NamedBefore { named, strange }
 }

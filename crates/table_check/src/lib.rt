@@ -57,7 +57,7 @@ fn join_all(gs: &mut [u64], n: usize, m: u64)
         × (take n gs.new ≡ joined_with m (take n gs.old)) }
 {
     for g in &mut gs[..n] {
-        *g = *g | m;
+        *g |= m;
     }
 }
 
@@ -228,7 +228,7 @@ fn are_rows_true(
     table_sets::chain_sets(records, n, places, &mut chain);
     let mut right = true;
     for o in 0..m {
-        right = right & is_row_true(c, records, objects, groups, &chain, o);
+        right &= is_row_true(c, records, objects, groups, &chain, o);
     }
     right
 }

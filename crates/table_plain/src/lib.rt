@@ -42,7 +42,7 @@ pub fn enter(held: &mut [u16], n: usize, places: &mut [u16], rec: &[u8])
     let s = rec[AT_SITE];
     let q = edit_record::pair_at(rec, AT_SEQ);
     let own = s as usize;
-    held[own] = held[own] + 1;
+    held[own] += 1;
     let at = edit_walk::slot_of(places, Site(s), Seq(q));
     places[at] = n as u16;
 }

@@ -46,7 +46,7 @@ fn marks_among(
         let j = u64::trailing_zeros(left) as usize;
         let rest = but_first(left);
         if is_unlike(tolds[j], y, rec) {
-            marks = marks | (left - rest);
+            marks |= left - rest;
         }
         left = rest;
     }

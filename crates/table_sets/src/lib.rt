@@ -25,8 +25,8 @@ fn link(chain: &mut [u16], p: usize, q: usize)
 }
 
 // Makes the chain of the first n records, by the index of their places. It is made from the back, so that a Set is put
-// before those that stand behind it. It wants no zeros at first, as the chain of bytes in group_named does, which has to
-// tell its own end: here an object's row says how many Sets there are.
+// before those that stand behind it. The chain of bytes in group_named wants zeros at first, since it has to tell its
+// own end: here an object's entry says how many Sets there are, so that what it holds at first does not matter.
 pub fn chain_sets(recs: &[u8], n: usize, places: &[u16], chain: &mut [u16])
     requires { (n ≤ most_records)
         × (n ≤ length chain.old)

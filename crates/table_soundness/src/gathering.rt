@@ -57,7 +57,7 @@ fn tally_set(tallies: &mut [u8], recs: &[u8], i: usize, places: &[u16])
     let p = edit_walk::place_at(places, Site(site), Seq(seq)) as usize;
     let more = u8::from(edit_record::is_set_kind(kind));
     if p < RECORDS {
-        tallies[p] = tallies[p] + more;
+        tallies[p] += more;
     }
 }
 
@@ -94,7 +94,7 @@ pub fn gather(
         tally_set(tallies, recs, i, places);
         let kind = recs[i * PLACE + AT_KIND];
         earlier[i] = creates as u8;
-        creates = creates + u16::from(kind == CREATE);
+        creates += u16::from(kind == CREATE);
         edit_walk::put_next(recs, i, &mut held, places);
     }
     Some(Tally { held, sum, creates })

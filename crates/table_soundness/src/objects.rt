@@ -43,10 +43,10 @@ fn row_sound(groups: &[u64], o: usize, k: u64, g: usize) -> bool
     }
     let mut sound = true;
     for i in 0..g {
-        sound = sound & slot_sound(groups, o, k, g, i);
+        sound &= slot_sound(groups, o, k, g, i);
     }
     for &unused in &groups[o * GROUPS + g..(o + 1) * GROUPS] {
-        sound = sound & (unused == 0);
+        sound &= unused == 0;
     }
     sound
 }
@@ -109,7 +109,7 @@ pub fn objects_sound(
 {
     let mut sound = true;
     for o in 0..m {
-        sound = sound & object_sound(recs, n, objects, groups, numbers, tallies, o);
+        sound &= object_sound(recs, n, objects, groups, numbers, tallies, o);
     }
     sound
 }

@@ -29,7 +29,7 @@ pub fn is_zero_from8(s: &[u8], k: usize) -> bool
         bits = bits | s[k + i] | s[second + i] | s[third + i] | s[fourth + i];
     }
     for &byte in &s[fourth + part..] {
-        bits = bits | byte;
+        bits |= byte;
     }
     bits == 0
 }
@@ -43,7 +43,7 @@ pub fn is_zero_from16(s: &[u16], k: usize) -> bool
     }
     let mut zero = true;
     for &number in &s[k..] {
-        zero = zero & (number == 0);
+        zero &= number == 0;
     }
     zero
 }
@@ -65,7 +65,7 @@ pub fn is_zero_from64(s: &[u64], k: usize) -> bool
         bits = bits | s[k + i] | s[second + i] | s[third + i] | s[fourth + i];
     }
     for &group in &s[fourth + part..] {
-        bits = bits | group;
+        bits |= group;
     }
     bits == 0
 }
@@ -78,7 +78,7 @@ fn is_zero_down8(s: &[u8], k: usize) -> bool
 {
     let mut bits: u8 = 0;
     for i in (k..s.len()).rev() {
-        bits = bits | s[i];
+        bits |= s[i];
     }
     bits == 0
 }
