@@ -13,8 +13,7 @@ ghost use Rattle.table_arrival.specs.ArrivalForms.{TestedFor};
 use edit_history::Surveyed;
 use edit_record::{AT_KIND, AT_TARGET, AT_TARGET_SEQ, LIMITED, Seq, Site};
 use group_limited::Judged;
-use group_sight::RECENT;
-use group_step::SETS;
+use group_named::BoxRows;
 use table_drawing::Counters;
 
 // What is judged by the rows of the box, which has k Sets, or none where 16 is given to a record held: the rows are
@@ -31,28 +30,22 @@ fn judge_by_rows(c: Counters, recs: &[u8], places: &[u16], rec: &[u8], k: usize)
     let s = rec[AT_TARGET];
     let q = edit_record::pair_at(rec, AT_TARGET_SEQ);
     let p = edit_walk::place_at(places, Site(s), Seq(q));
-    // what work space holds at first does not matter; zeros would be set by memset (docs/DECISIONS.md, 24)
-    let mut members = [1u16; SETS];
-    let mut plain = [1u64; SETS];
-    let mut ctx = [1u64; SETS];
-    let mut sees = [1u64; RECENT];
-    let mut names = [1u32; SETS];
+    let mut rows = BoxRows::none();
     let n = c.records as usize;
-    let named = group_named::are_named_last(
-        &mut members,
-        &mut plain,
-        &mut ctx,
-        &mut sees,
-        &mut names,
-        recs,
-        n,
-        places,
-        p as usize,
-    );
+    let named = group_named::are_named_last(&mut rows, recs, n, places, p as usize);
     if !named {
         return None;
     }
-    let judged = group_limited::judge(recs, &members, &names, &sees, k, &plain, &ctx, rec);
+    let judged = group_limited::judge(
+        recs,
+        &rows.members,
+        &rows.names,
+        &rows.sees,
+        k,
+        &rows.plain,
+        &rows.contexts,
+        rec,
+    );
     Some(judged)
 }
 

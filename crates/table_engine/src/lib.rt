@@ -23,7 +23,7 @@ ghost use Rattle.table_engine.specs.EngineForms.{PreparedFor, found_as};
 
 use edit_record::{Seq, Site};
 use edit_walk::PLACES;
-use group_sight::RECENT;
+use group_named::BoxRows;
 use group_step::{GROUPS, SETS};
 use table_drawing::{Counters, Refusal};
 use table_sets::by_key::KEY_CHAINS;
@@ -58,36 +58,20 @@ fn put_by_rows(
     recs: &[u8],
     index: &[u16],
     p: usize,
-    members: &mut [u16],
     k: usize,
     masks: &mut [u64],
 ) -> bool
     requires { BoxIn c recs.now index.now p k
-        × (most_sets ≤ length members.old)
         × (most_decided ≤ length masks.old) }
     ensures { MaskedWhere recs.now c.records k (sets_of recs.now c.records p)
         masks.new result }
 {
-    // what work space holds at first does not matter; zeros would be set by memset (docs/DECISIONS.md, 24)
-    let mut plain = [1u64; SETS];
-    let mut ctx = [1u64; SETS];
-    let mut sees = [1u64; RECENT];
-    let mut names = [1u32; SETS];
-    let named = group_named::are_named_last(
-        members,
-        &mut plain,
-        &mut ctx,
-        &mut sees,
-        &mut names,
-        recs,
-        c.records as usize,
-        index,
-        p,
-    );
+    let mut rows = BoxRows::none();
+    let named = group_named::are_named_last(&mut rows, recs, c.records as usize, index, p);
     if !(named & (k <= DECIDED)) {
         return named;
     }
-    group_context::put_conflicts(masks, &plain, &ctx, k);
+    group_context::put_conflicts(masks, &rows.plain, &rows.contexts, k);
     named
 }
 
@@ -111,10 +95,10 @@ fn put_masks(
 {
     let limited = group_limited::is_any_limited(recs, members, k);
     if limited & (k == DECIDED) {
-        return put_by_rows(c, recs, index, p, members, k, masks);
+        return put_by_rows(c, recs, index, p, k, masks);
     }
     if limited {
-        return put_by_rows(c, recs, index, p, members, k, masks);
+        return put_by_rows(c, recs, index, p, k, masks);
     }
     let named = group_named::are_all_named(recs, c.records as usize, index);
     if k == DECIDED {

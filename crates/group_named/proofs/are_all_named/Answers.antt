@@ -22,7 +22,7 @@ are_named_last-requires c =
     let s = c in
     let a = c.args in
     let more = some-limited a.recs.now a.n (sym c.is_limited_held.ensures ∙ c.if-not-is_limited_held.false) in
-    (s.requires.0, omega (arith, more), s.requires.1, search rules, search rules, search rules, search rules, search rules)
+    (s.requires.0, omega (arith, more), s.requires.1)
 
 pub returns : goal.returns
 returns c sites few pass index =

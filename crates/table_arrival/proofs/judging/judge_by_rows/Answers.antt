@@ -23,11 +23,6 @@ are_named_last-named-requires c =
       h.few-records,
       box-below a.c a.recs.now h a.places.now ix e held _ at,
       h.few-sets,
-      search rules,
-      search rules,
-      search rules,
-      search rules,
-      search rules,
     )
 
 pub returns-then-not-named : goal.returns-then-not-named
