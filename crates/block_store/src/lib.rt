@@ -121,6 +121,17 @@ fn read_records(
     }
 }
 
+// Why a file is refused of which no record was looked at: the counters stay.
+fn refused(refusal: Refusal, counters: Counters) -> FileRefusal
+    ensures { result ≡ record { refusal = refusal; index = 0; counters = counters } }
+{
+    FileRefusal {
+        refusal,
+        index: 0,
+        counters,
+    }
+}
+
 // Reads a file, any bytes, into the tables: lengths (8), 10, 9, then its records in turn.
 pub fn read_file(
     c: Counters,
@@ -134,21 +145,11 @@ pub fn read_file(
         file.now }
 {
     if !table_drawing::lengths_right(records.len(), objects.len(), groups.len()) {
-        return Err(FileRefusal {
-            refusal: Refusal::Unsound,
-            index: 0,
-            counters: c,
-        });
+        return Err(refused(Refusal::Unsound, c));
     }
     let t = match block_trailer::read_trailer(file) {
         Ok(t) => t,
-        Err(refusal) => {
-            return Err(FileRefusal {
-                refusal,
-                index: 0,
-                counters: c,
-            });
-        }
+        Err(r) => return Err(refused(r, c)),
     };
     // by what was read of the trailer, which else would be looked into twice
     let end = block_trailer::trailer_at(file.len());

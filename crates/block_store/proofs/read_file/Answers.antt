@@ -9,14 +9,16 @@ use Rattle.block_store.proofs.read_file.Goals as goal
 
 pub returns-then-not-lengths_right : goal.returns-then-not-lengths_right
 returns-then-not-lengths_right c =
-    wrong-lengths (tables_of c.args.c c.args.records.now c.args.objects.now c.args.groups.now) c.args.file.now
-    (sym c.lengths_right.ensures ∙ c.if-not-lengths_right.true)
+    rw c.refused.ensures
+    (wrong-lengths (tables_of c.args.c c.args.records.now c.args.objects.now c.args.groups.now) c.args.file.now
+    (sym c.lengths_right.ensures ∙ c.if-not-lengths_right.true))
 
 pub returns-in-Err : goal.returns-in-Err
 returns-in-Err c =
-    let r = c.in-Err.refusal in
-    file-refused (tables_of c.args.c c.args.records.now c.args.objects.now c.args.groups.now) c.args.file.now
-    (sym c.lengths_right.ensures ∙ c.if-not-lengths_right.false) (number_of r) 0 0 0 c.in-Err.ensures.0 (refused r)
+    let r = c.in-Err.r in
+    rw c.refused-in-Err.ensures
+    (file-refused (tables_of c.args.c c.args.records.now c.args.objects.now c.args.groups.now) c.args.file.now
+    (sym c.lengths_right.ensures ∙ c.if-not-lengths_right.false) (number_of r) 0 0 0 c.in-Err.ensures.0 (refused r))
 
 pub slice_bounds-stretch-count : goal.slice_bounds-stretch-count
 slice_bounds-stretch-count c =
