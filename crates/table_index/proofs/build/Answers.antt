@@ -11,14 +11,14 @@ pub start_places-requires : goal.start_places-requires
 start_places-requires c =
     let s = c in
     let (d, h, e) = s.requires.0 in
-    (omega (arith, h.few-records, e), s.requires.1)
+    omega (arith, h.few-records, e)
 
 pub loop-i-init : goal.loop-i-init
 loop-i-init c =
     let s = c in
     let spaced = c.start_places.ensures in (
-      rw (s.requires.3, s.requires.4)
-          (index-starts s.args.recs.now _ s.args.numbers.now spaced.entries s.requires.2),
+      rw (s.requires.1, s.requires.2)
+          (index-starts s.args.recs.now _ s.args.ix.now.numbers spaced.entries (omega arith)),
       none-numbered s.args.recs.now,
       spaced,
     )
@@ -32,7 +32,7 @@ add-m-requires c =
       (d, h, omega (arith, e)),
       l.invariant.0,
       l.invariant.1,
-      spaced-before s.args.recs.now l.places (l.i + 1) s.args.n (omega arith) l.invariant.2,
+      spaced-before s.args.recs.now l.ix.places (l.i + 1) s.args.n (omega arith) l.invariant.2,
     )
 
 pub loop-i-preserved : goal.loop-i-preserved
@@ -45,26 +45,6 @@ loop-i-preserved c =
       m.1,
       spaced-same (count_in s.args.recs.now s.args.n) _ _ m.2 m.0.places-long at.loop-i.invariant.2,
     )
-
-pub shape_of-places : goal.shape_of-places
-shape_of-places c =
-    let s = c in
-    c.loop-i.invariant.0.places-long ∙ sym s.requires.1
-
-pub shape_of-numbers : goal.shape_of-numbers
-shape_of-numbers c =
-    let s = c in
-    c.loop-i.invariant.0.numbers-long ∙ sym s.requires.2
-
-pub shape_of-counts : goal.shape_of-counts
-shape_of-counts c =
-    let s = c in
-    c.loop-i.invariant.0.counts-long ∙ sym (rw s.requires.3 refl)
-
-pub shape_of-chains : goal.shape_of-chains
-shape_of-chains c =
-    let s = c in
-    c.loop-i.invariant.0.chained.chains-long ∙ sym (rw s.requires.4 refl)
 
 pub returns : goal.returns
 returns c =

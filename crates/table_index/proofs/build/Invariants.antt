@@ -6,6 +6,6 @@ use Rattle.table_index.proofs.build.Given as goal
 
 abbrev pub invariant-loop-i : goal.invariant-loop-i
 invariant-loop-i l =
-    IndexOf l.recs l.i l.places l.numbers l.counts l.chains
+    IndexOf l.recs l.i l.ix.places l.ix.numbers l.ix.counts l.ix.chains
     × (l.m ≡ number_at l.recs l.i)
-    × Spaced (count_in l.recs l.n) l.places
+    × Spaced (count_in l.recs l.n) l.ix.places

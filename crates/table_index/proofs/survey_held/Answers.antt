@@ -20,19 +20,19 @@ use Rattle.table_index.proofs.survey_held.Goals.{After-place_at-q}
 target :
     (c : After-place_at-q) →
     (let s = c in
-    Aimed s.args.c s.args.recs.now s.requires.0 s.args.places.now s.args.numbers.now
-    s.args.counts.now s.args.chains.now s.requires.2 (decode_of c.args.rec.now) c.place_at-q.result)
+    Aimed s.args.c s.args.recs.now s.requires.0 s.args.ix.now.places s.args.ix.now.numbers
+    s.args.ix.now.counts s.args.ix.now.chains s.requires.2 (decode_of c.args.rec.now) c.place_at-q.result)
 target c =
     let s = c in
     let a = s.args in
     let e = decode_of c.args.rec.now in
-    let is : c.place_at-q.result ≡ place_of a.places.now e.tsite.0 e.tseq.0
-    = c.place_at-q.ensures ∙ ap (place_of a.places.now e.tsite.0) c.pair_at-seq.ensures in
+    let is : c.place_at-q.result ≡ place_of a.ix.now.places e.tsite.0 e.tseq.0
+    = c.place_at-q.ensures ∙ ap (place_of a.ix.now.places e.tsite.0) c.pair_at-seq.ensures in
     subst
-    (Aimed a.c a.recs.now s.requires.0 a.places.now a.numbers.now a.counts.now a.chains.now
+    (Aimed a.c a.recs.now s.requires.0 a.ix.now.places a.ix.now.numbers a.ix.now.counts a.ix.now.chains
     s.requires.2 e)
     (sym is)
-    (aimed a.c a.recs.now s.requires.0 a.places.now a.numbers.now a.counts.now a.chains.now
+    (aimed a.c a.recs.now s.requires.0 a.ix.now.places a.ix.now.numbers a.ix.now.counts a.ix.now.chains
     s.requires.2 e s.requires.5)
 
 pub marks_for-plain-requires : goal.marks_for-plain-requires
@@ -64,13 +64,13 @@ returns c torn =
     let ms = sets_on e.tsite e.tseq es in
     let q = c5.place_at-q.result in
     let o : c4.byte_at-object.result ≡ number_at rs q = c4.byte_at-object.ensures ∙ t.number in
-    let k : c3.at16-sets.result ≡ get_or a.counts.now (number_at rs q) 0
-    = c3.at16-sets.ensures ∙ ap (λ (i : ℕ). get_or a.counts.now i 0) o in
+    let k : c3.at16-sets.result ≡ get_or a.ix.now.counts (number_at rs q) 0
+    = c3.at16-sets.ensures ∙ ap (λ (i : ℕ). get_or a.ix.now.counts i 0) o in
     let plain = c1.marks_for-plain.ensures ∙ ap (plain_marks e) t.sets in
     let limit : c.byte_at-limited.result ≡ cond (any is_limited ms) 1 0
-    = c.byte_at-limited.ensures ∙ ap (λ (i : ℕ). get_or a.chains.now (limit_at i) 0) o ∙ t.limits in
-    let is : q ≡ place_of a.places.now e.tsite.0 e.tseq.0
-    = c5.place_at-q.ensures ∙ ap (place_of a.places.now e.tsite.0) c5.pair_at-seq.ensures in
-    survey-found a.c rs s.requires.0 a.places.now s.requires.2.indexed e s.requires.5 a.torn
+    = c.byte_at-limited.ensures ∙ ap (λ (i : ℕ). get_or a.ix.now.chains (limit_at i) 0) o ∙ t.limits in
+    let is : q ≡ place_of a.ix.now.places e.tsite.0 e.tseq.0
+    = c5.place_at-q.ensures ∙ ap (place_of a.ix.now.places e.tsite.0) c5.pair_at-seq.ensures in
+    survey-found a.c rs s.requires.0 a.ix.now.places s.requires.2.indexed e s.requires.5 a.torn
     (not (eqb c.byte_at-limited.result 0)) c4.byte_at-object.result c3.at16-sets.result c1.marks_for-plain.result torn
     (o ∙ ap (number_at rs) is) (k ∙ t.count) plain (told (any is_limited ms) c.byte_at-limited.result limit)

@@ -19,7 +19,7 @@ bounds-rec-0 c =
     let s = c in
     let a = s.args in
     let there = judged-there a.sites a.n a.m a.sum a.held.now a.records.now a.objects.now a.groups.now
-    a.places.now a.numbers.now a.counts.now a.chains.now a.rec.now s.requires.0 a.a s.requires.1 in
+    a.ix.now.places a.ix.now.numbers a.ix.now.counts a.ix.now.chains a.rec.now s.requires.0 a.a s.requires.1 in
     search (rules, there)
 
 pub bounds-rec-37 : goal.bounds-rec-37
@@ -27,7 +27,7 @@ bounds-rec-37 c =
     let s = c in
     let a = s.args in
     let there = judged-there a.sites a.n a.m a.sum a.held.now a.records.now a.objects.now a.groups.now
-    a.places.now a.numbers.now a.counts.now a.chains.now a.rec.now s.requires.0 a.a s.requires.1 in
+    a.ix.now.places a.ix.now.numbers a.ix.now.counts a.ix.now.chains a.rec.now s.requires.0 a.a s.requires.1 in
     search (rules, there)
 
 pub store_set-requires : goal.store_set-requires
@@ -36,7 +36,7 @@ store_set-requires c =
     let a = s.args in (
       s.requires.0.few,
       judged-steps a.sites a.n a.m a.sum a.held.now a.records.now a.objects.now a.groups.now
-          a.places.now a.numbers.now a.counts.now a.chains.now a.rec.now s.requires.0 a.a s.requires.1,
+          a.ix.now.places a.ix.now.numbers a.ix.now.counts a.ix.now.chains a.rec.now s.requires.0 a.a s.requires.1,
     )
 
 pub returns-then-not-store_set : goal.returns-then-not-store_set
@@ -45,10 +45,10 @@ returns-then-not-store_set c =
     let s = c in
     let a = s.args in
     let x = c.not_taken.ensures in
-    rw (x.0, x.1, x.2, none_more a.n)
+    rw (x.0, x.1, x.2, none_more a.n, w.store_set.ensures.1)
     (judged-crowded a.sites a.n a.m a.sum a.held.now a.records.now a.objects.now a.groups.now
-    a.places.now a.numbers.now a.counts.now a.chains.now a.rec.now s.requires.0 a.a s.requires.1 _ _ _ _ _
-    (rw (c.if-not-store_set.true) at w.store_set.ensures))
+    a.ix.now.places a.ix.now.numbers a.ix.now.counts a.ix.now.chains a.rec.now s.requires.0 a.a s.requires.1 _ _ _ _ _
+    (rw (c.if-not-store_set.true) at w.store_set.ensures.0))
 
 pub enter-requires : goal.enter-requires
 enter-requires c =
@@ -56,10 +56,11 @@ enter-requires c =
     let s = c in
     let a = s.args in (
       judged-there a.sites a.n a.m a.sum a.held.now a.records.now a.objects.now a.groups.now
-          a.places.now a.numbers.now a.counts.now a.chains.now a.rec.now s.requires.0 a.a s.requires.1,
-      judged-enters a.sites a.n a.m a.sum a.held.now a.records.now a.objects.now a.groups.now
-          a.places.now a.numbers.now a.counts.now a.chains.now a.rec.now s.requires.0 a.a s.requires.1 _ _ _ _ _
-          (rw (c.if-not-store_set.false) at w.store_set.ensures),
+          a.ix.now.places a.ix.now.numbers a.ix.now.counts a.ix.now.chains a.rec.now s.requires.0 a.a s.requires.1,
+      rw w.store_set.ensures.1
+          (judged-enters a.sites a.n a.m a.sum a.held.now a.records.now a.objects.now a.groups.now
+          a.ix.now.places a.ix.now.numbers a.ix.now.counts a.ix.now.chains a.rec.now s.requires.0 a.a s.requires.1 _ _ _ _ _
+          (rw (c.if-not-store_set.false) at w.store_set.ensures.0)),
     )
 
 pub put_record-requires : goal.put_record-requires
@@ -67,7 +68,7 @@ put_record-requires c =
     let s = c in
     let a = s.args in
     judged-put a.sites a.n a.m a.sum a.held.now a.records.now a.objects.now a.groups.now
-    a.places.now a.numbers.now a.counts.now a.chains.now a.rec.now s.requires.0 a.a s.requires.1
+    a.ix.now.places a.ix.now.numbers a.ix.now.counts a.ix.now.chains a.rec.now s.requires.0 a.a s.requires.1
 
 pub sum_record-requires : goal.sum_record-requires
 sum_record-requires c =
@@ -80,8 +81,9 @@ returns c =
     let s = c in
     let a = s.args in
     let n = c.enter.ensures in
+    let at = rw w.store_set.ensures.1 at n.1 in
     judged-left a.sites a.n a.m a.sum a.held.now a.records.now a.objects.now a.groups.now
-    a.places.now a.numbers.now a.counts.now a.chains.now a.rec.now s.requires.0 a.a s.requires.1 _ _ _ _ _
-    (rw (c.if-not-store_set.false) at w.store_set.ensures) _ _ _ _ _ n.0
-    c.put_record.ensures n.1 (more-none a.m)
+    a.ix.now.places a.ix.now.numbers a.ix.now.counts a.ix.now.chains a.rec.now s.requires.0 a.a s.requires.1 _ _ _ _ _
+    (rw (c.if-not-store_set.false) at w.store_set.ensures.0) _ _ _ _ _ n.0
+    c.put_record.ensures at (more-none a.m)
     (c.added.ensures ∙ ap (λ (k : ℕ). wrapped (a.sum + k)) c.sum_record.ensures)

@@ -21,7 +21,7 @@ long_of : (s : Start) → length s.args.rec.now ≡ record_length
 long_of s =
     let a = s.args in
     long-is a.sites a.n a.m a.sum a.held.now a.records.now a.objects.now a.groups.now
-    a.places.now a.numbers.now a.counts.now a.chains.now a.rec.now s.requires.0 a.a s.requires.1
+    a.ix.now.places a.ix.now.numbers a.ix.now.counts a.ix.now.chains a.rec.now s.requires.0 a.a s.requires.1
 
 there : (s : Start) → record_length ≤ length s.args.rec.now
 there s = omega (arith, long_of s)
@@ -33,7 +33,7 @@ store-requires c =
       s.requires.0.few,
       there (goal.at.store-requires c).Start,
       store_asks a.sites a.n a.m a.sum a.held.now a.records.now a.objects.now a.groups.now
-          a.places.now a.numbers.now a.counts.now a.chains.now a.rec.now s.requires.0 a.a s.requires.1,
+          a.ix.now.places a.ix.now.numbers a.ix.now.counts a.ix.now.chains a.rec.now s.requires.0 a.a s.requires.1,
     )
 
 pub returns-then-not-store : goal.returns-then-not-store
@@ -42,10 +42,10 @@ returns-then-not-store c =
     let s = c in
     let a = s.args in
     let x = c.not_taken.ensures in
-    rw (x.0, x.1, x.2, none_more a.n)
+    rw (x.0, x.1, x.2, none_more a.n, w.store.ensures.1)
     (not-stored a.sites a.n a.m a.sum a.held.now a.records.now a.objects.now a.groups.now
-    a.places.now a.numbers.now a.counts.now a.chains.now a.rec.now s.requires.0 a.a s.requires.1 _ _ _ _ _
-    (rw (c.if-not-store.true) at w.store.ensures))
+    a.ix.now.places a.ix.now.numbers a.ix.now.counts a.ix.now.chains a.rec.now s.requires.0 a.a s.requires.1 _ _ _ _ _
+    (rw (c.if-not-store.true) at w.store.ensures.0))
 
 pub enter-requires : goal.enter-requires
 enter-requires c =
@@ -53,9 +53,10 @@ enter-requires c =
     let s = c in
     let a = s.args in (
       there (goal.at.enter-requires c).Start,
-      enters a.sites a.n a.m a.sum a.held.now a.records.now a.objects.now a.groups.now
-          a.places.now a.numbers.now a.counts.now a.chains.now a.rec.now s.requires.0 a.a s.requires.1 _ _ _ _ _
-          (rw (c.if-not-store.false) at w.store.ensures),
+      rw w.store.ensures.1
+          (enters a.sites a.n a.m a.sum a.held.now a.records.now a.objects.now a.groups.now
+          a.ix.now.places a.ix.now.numbers a.ix.now.counts a.ix.now.chains a.rec.now s.requires.0 a.a s.requires.1 _ _ _ _ _
+          (rw (c.if-not-store.false) at w.store.ensures.0)),
     )
 
 pub whole_of-whole-requires : goal.whole_of-whole-requires
@@ -72,7 +73,7 @@ taken-requires c =
     let a = s.args in (
       long_of (goal.at.taken-requires c).Start,
       span-is a.sites a.n a.m a.sum a.held.now a.records.now a.objects.now a.groups.now
-          a.places.now a.numbers.now a.counts.now a.chains.now a.rec.now s.requires.0 a.a s.requires.1,
+          a.ix.now.places a.ix.now.numbers a.ix.now.counts a.ix.now.chains a.rec.now s.requires.0 a.a s.requires.1,
       s.requires.1.create-room,
     )
 
@@ -84,9 +85,10 @@ returns c =
     let put = c.put_plain.ensures
     ∙ ap (λ (b : List ℕ). put_record a.records.now a.n b) c.whole_of-whole.ensures in
     let n = c.enter.ensures in
+    let at = rw w.store.ensures.1 at n.1 in
     let x = c.taken.ensures in
     rw x.0
     (stored-left a.sites a.n a.m a.sum a.held.now a.records.now a.objects.now a.groups.now
-    a.places.now a.numbers.now a.counts.now a.chains.now a.rec.now s.requires.0 a.a s.requires.1 _ _ _ _ _
-    (rw (c.if-not-store.false) at w.store.ensures) _ _ _ _ _ n.0 put n.1
+    a.ix.now.places a.ix.now.numbers a.ix.now.counts a.ix.now.chains a.rec.now s.requires.0 a.a s.requires.1 _ _ _ _ _
+    (rw (c.if-not-store.false) at w.store.ensures.0) _ _ _ _ _ n.0 put at
     x.1 x.2)

@@ -24,7 +24,7 @@ passed c ok =
     let a = s.args in
     let h = s.requires.0 in
     sym
-    (news-decide a.sites h.few-sites a.recs.now a.n h.pass a.places.now s.requires.2.indexed
+    (news-decide a.sites h.few-sites a.recs.now a.n h.pass a.ix.now.places s.requires.2.indexed
     a.held.now s.requires.4 h.held (decode_of c.args.rec.now))
     ∙ sym c.is_passing_with.ensures
     ∙ ok
@@ -47,7 +47,7 @@ look_at_set-requires c =
         counters_of a.sites a.n a.m a.held.now 0,
         s.requires.0,
         refl,
-        turn-of a.sites a.held.now a.recs.now a.places.now e
+        turn-of a.sites a.held.now a.recs.now a.ix.now.places e
             (sym c3.is_passing_with.ensures ∙ ok),
         c3.is_all_seen-all.ensures,
       ),

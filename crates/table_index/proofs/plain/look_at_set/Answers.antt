@@ -16,11 +16,11 @@ use Rattle.table_index.proofs.plain.look_at_set.Goals.{After-place_at-q}
 place_is :
     (c : After-place_at-q) →
     (let s = c in c.place_at-q.result
-    ≡ place_of s.args.places.now (decode_of c.args.rec.now).tsite.0 (decode_of c.args.rec.now).tseq.0)
+    ≡ place_of s.args.ix.now.places (decode_of c.args.rec.now).tsite.0 (decode_of c.args.rec.now).tseq.0)
 place_is c =
     let s = c in
     c.place_at-q.ensures
-    ∙ ap (place_of s.args.places.now (decode_of c.args.rec.now).tsite.0) c.pair_at-seq.ensures
+    ∙ ap (place_of s.args.ix.now.places (decode_of c.args.rec.now).tsite.0) c.pair_at-seq.ensures
 
 pub marks_unless-conflicts-requires : goal.marks_unless-conflicts-requires
 marks_unless-conflicts-requires c =
@@ -29,8 +29,8 @@ marks_unless-conflicts-requires c =
     let a = s.args in
     let (d, h, count, turn, sees) = s.requires.0 in
     let x = s.requires.2 in
-    let t = target d a.recs.now h a.n count a.places.now a.numbers.now a.counts.now
-    a.chains.now x (decode_of c.args.rec.now) s.requires.5 in
+    let t = target d a.recs.now h a.n count a.ix.now.places a.ix.now.numbers a.ix.now.counts
+    a.ix.now.chains x (decode_of c.args.rec.now) s.requires.5 in
     rw (place_is (goal.at.marks_unless-conflicts-requires c).After-place_at-q) (
       (d, h, count, record { in-turn = turn; place = t.low; target = t.target }, sees),
       s.requires.1,
@@ -50,9 +50,9 @@ returns c =
     let a = s.args in
     let (d, h, count, turn, sees) = s.requires.0 in
     let is = place_is (goal.at.returns c).After-place_at-q in
-    met_of d a.recs.now h a.n count a.places.now a.numbers.now a.counts.now
-    a.chains.now s.requires.2 (decode_of c.args.rec.now) s.requires.5 _
-    (c2.byte_at-object.ensures ∙ ap (λ (i : ℕ). get_or a.numbers.now i 0) is)
+    met_of d a.recs.now h a.n count a.ix.now.places a.ix.now.numbers a.ix.now.counts
+    a.ix.now.chains s.requires.2 (decode_of c.args.rec.now) s.requires.5 _
+    (c2.byte_at-object.ensures ∙ ap (λ (i : ℕ). get_or a.ix.now.numbers i 0) is)
     c2.at16-sets.ensures
     (ap (λ (k : ℕ). not (eqb k 0)) c1.byte_at-limits.ensures)
     (c.marks_unless-conflicts.ensures ∙ ap (λ (i : ℕ). marks_on a.recs.now a.n i (decode_of c.args.rec.now)) is)
