@@ -24,6 +24,7 @@ use edit_record::{AT_KIND, AT_TARGET, AT_TARGET_SEQ, LIMITED, Seq, Site};
 use group_limited::Judged;
 use group_sight::put_names;
 use group_step::SETS;
+use table_index::Index;
 
 // Behind the names of the Sets: the site and the sequence number of their box, and how many of its Sets are told of.
 const BOX_SITE: usize = SETS;
@@ -49,14 +50,13 @@ fn is_kept(names: &[u32], s: Site, q: Seq, k: u32) -> bool
 fn put_anew(
     rows: &mut [u64],
     names: &mut [u32],
+    ix: &Index,
     recs: &[u8],
     n: usize,
-    numbers: &[u8],
-    chains: &[u8],
     q: usize,
     k: usize,
 )
-    requires { ChainsOn recs.now n numbers.now chains.now q
+    requires { ChainsOn recs.now n ix.now.numbers ix.now.chains q
         × (k ≡ length (places_on recs.now n q))
         × (length names.old ≡ kept_length)
         × (length rows.old ≡ rows_length) }
@@ -65,7 +65,7 @@ fn put_anew(
 {
     // what work space holds at first does not matter; zeros would be set by memset (docs/DECISIONS.md, 24)
     let mut spots = [1u16; SETS];
-    chained::put_chains(&mut spots, recs, n, numbers, chains, q);
+    chained::put_chains(&mut spots, recs, n, &ix.numbers, &ix.chains, q);
     put_names(names, recs, &spots, k);
     group_kept::put_rows(rows, recs, &spots, names, k);
 }
@@ -75,15 +75,13 @@ fn put_anew(
 fn make_ready(
     rows: &mut [u64],
     names: &mut [u32],
+    ix: &Index,
     recs: &[u8],
     n: usize,
-    places: &[u16],
-    numbers: &[u8],
-    chains: &[u8],
     rec: &[u8],
     k: usize,
 )
-    requires { IndexedIn recs.now n places.now numbers.now chains.now
+    requires { IndexedIn recs.now n ix.now.places ix.now.numbers ix.now.chains
         × (any (is_target (decode_of rec.now)) (edits_of recs.now n) ≡ true)
         × (k ≡ length (sets_on (decode_of rec.now).tsite (decode_of rec.now).tseq (edits_of recs.now n)))
         × KeptFor (edits_of recs.now n) names.old rows.old }
@@ -95,8 +93,8 @@ fn make_ready(
     let s = Site(edit_record::byte_at(rec, AT_TARGET));
     let q = Seq(edit_record::two_at(rec, AT_TARGET_SEQ));
     if !is_kept(names, s, q, k as u32) {
-        let at = edit_walk::place_at(places, s, q) as usize;
-        put_anew(rows, names, recs, n, numbers, chains, at, k);
+        let at = edit_walk::place_at(&ix.places, s, q) as usize;
+        put_anew(rows, names, ix, recs, n, at, k);
     }
 }
 
@@ -134,15 +132,13 @@ pub fn forget(names: &mut [u32])
 fn judge_by_rows(
     rows: &mut [u64],
     names: &mut [u32],
+    ix: &Index,
     recs: &[u8],
     n: usize,
-    places: &[u16],
-    numbers: &[u8],
-    chains: &[u8],
     rec: &[u8],
     v: Surveyed,
 ) -> Judged
-    requires { IndexedIn recs.now n places.now numbers.now chains.now
+    requires { IndexedIn recs.now n ix.now.places ix.now.numbers ix.now.chains
         × SurveyedOf (edits_of recs.now n) (decode_of rec.now) v
         × (v.found ≡ true)
         × KeptFor (edits_of recs.now n) names.old rows.old }
@@ -154,7 +150,7 @@ fn judge_by_rows(
         rows.new }
 {
     let k = v.sets;
-    make_ready(rows, names, recs, n, places, numbers, chains, rec, k);
+    make_ready(rows, names, ix, recs, n, rec, k);
     let j = group_kept::judge(rows, names, k, rec, v.plain);
     let told = told_after(k, edit_record::byte_at(rec, AT_KIND));
     put_box(names, rec, told);
@@ -167,15 +163,13 @@ fn judge_by_rows(
 pub fn judge(
     rows: &mut [u64],
     names: &mut [u32],
+    ix: &Index,
     recs: &[u8],
     n: usize,
-    places: &[u16],
-    numbers: &[u8],
-    chains: &[u8],
     rec: &[u8],
     v: Surveyed,
 ) -> Judged
-    requires { IndexedIn recs.now n places.now numbers.now chains.now
+    requires { IndexedIn recs.now n ix.now.places ix.now.numbers ix.now.chains
         × SurveyedOf (edits_of recs.now n) (decode_of rec.now) v
         × KeptFor (edits_of recs.now n) names.old rows.old }
     ensures { JudgedWhere v.found
@@ -192,5 +186,5 @@ pub fn judge(
             conflicts: v.plain,
         };
     }
-    judge_by_rows(rows, names, recs, n, places, numbers, chains, rec, v)
+    judge_by_rows(rows, names, ix, recs, n, rec, v)
 }

@@ -15,54 +15,35 @@ ghost use Rattle.table_plain.specs.TakingForms.{Takes, Leaves};
 
 use table_arrival::asked;
 use table_drawing::{Counters, Refusal};
+use table_index::Index;
 
 // Takes one record at tables that are sound, by the index of their records and by what is kept of a box with a limited
 // Set, and puts it into the index if it is taken. The index has room for it.
 pub fn take_next(
+    ix: &mut Index,
     c: Counters,
     records: &mut [u8],
     objects: &mut [u16],
     groups: &mut [u64],
-    places: &mut [u16],
-    numbers: &mut [u8],
-    counts: &mut [u16],
-    chains: &mut [u8],
     rows: &mut [u64],
     names: &mut [u32],
     rec: &[u8],
 ) -> Result<Counters, Refusal>
-    requires { Takes (tables_of c records.old objects.old groups.old) places.old numbers.old counts.old
-        chains.old rec.now
+    requires { Takes (tables_of c records.old objects.old groups.old)
+        ix.old.places ix.old.numbers ix.old.counts ix.old.chains rec.now
         × KeptFor (edits_of records.old c.records) names.old rows.old }
     ensures { Leaves (tables_of c records.old objects.old groups.old)
         rec.now (answer_of result)
         (tables_of (result_unwrap_or result c) records.new objects.new groups.new)
-        places.old places.new numbers.new counts.new chains.new
+        ix.old.places ix.new.places ix.new.numbers ix.new.counts ix.new.chains
         × KeptFor (edits_of records.old c.records ++ (decode_of rec.now ∷ []))
         names.new rows.new }
 {
     asked::one_to_three(c, rec)?;
-    let v = table_index::survey(c, records, places, numbers, counts, chains, rec);
-    let j = table_kept::judge(
-        rows,
-        names,
-        records,
-        c.records as usize,
-        places,
-        numbers,
-        chains,
-        rec,
-        v,
-    );
+    let n = c.records as usize;
+    let v = table_index::survey(ix, c, records, rec);
+    let j = table_kept::judge(rows, names, ix, records, n, rec, v);
     let after = table_arrival::accept(c, records, objects, groups, rec, v, j, true)?;
-    table_index::add(
-        records,
-        c.records as usize,
-        c.objects,
-        places,
-        numbers,
-        counts,
-        chains,
-    );
+    table_index::add(ix, records, n, c.objects);
     Ok(after)
 }

@@ -11,13 +11,14 @@ ghost use Rattle.table_plain.specs.TakingForms.{TakesShort, LeavesShort};
 
 use edit_history::Surveyed;
 use edit_record::{AT_KIND, LIMITED};
-use table_index::Looked;
+use table_index::{Index, Looked};
 use table_index::plain::look;
 use table_plain::Took;
 
 // Takes a Set of which a was found, by what is kept of its box, unless it names no version or there is no room for the
 // groups of the box: then nothing is changed, but that no more is kept of it.
 fn take_limited(
+    ix: &mut Index,
     sites: u8,
     n: usize,
     m: u16,
@@ -26,10 +27,6 @@ fn take_limited(
     records: &mut [u8],
     objects: &mut [u16],
     groups: &mut [u64],
-    places: &mut [u16],
-    numbers: &mut [u8],
-    counts: &mut [u16],
-    chains: &mut [u8],
     rows: &mut [u64],
     names: &mut [u32],
     rec: &[u8],
@@ -37,8 +34,8 @@ fn take_limited(
 ) -> Took
     requires { TakesShort
         (tables_of (counters_of sites n m held.old sum) records.old objects.old groups.old)
-        places.old numbers.old counts.old chains.old rec.now
-        × PassedOf sites n m records.old places.old numbers.old counts.old (decode_of rec.now) a
+        ix.old.places ix.old.numbers ix.old.counts ix.old.chains rec.now
+        × PassedOf sites n m records.old ix.old.places ix.old.numbers ix.old.counts (decode_of rec.now) a
         × (is_set (decode_of rec.now) ≡ true)
         × KeptFor (edits_of records.old n) names.old rows.old }
     ensures { LeavesShort
@@ -47,8 +44,8 @@ fn take_limited(
         rec.now result.ok
         (tables_of (counters_of sites (n + cond result.ok 1 0) result.objects held.new result.sum)
         records.new objects.new groups.new)
-        places.old numbers.old counts.old chains.old
-        places.new numbers.new counts.new chains.new
+        ix.old.places ix.old.numbers ix.old.counts ix.old.chains
+        ix.new.places ix.new.numbers ix.new.counts ix.new.chains
         × KeptFor
         (cond result.ok (edits_of records.old n ++ (decode_of rec.now ∷ []))
         (edits_of records.old n))
@@ -62,7 +59,7 @@ fn take_limited(
         plain: a.conflicts,
         limited: a.limited,
     };
-    let j = table_kept::judge(rows, names, records, n, places, numbers, chains, rec, v);
+    let j = table_kept::judge(rows, names, ix, records, n, rec, v);
     if j.nameless {
         table_kept::forget(names);
         return table_plain::not_taken(m, sum);
@@ -74,8 +71,7 @@ fn take_limited(
         conflicts: j.conflicts,
     };
     let t = table_plain::take_judged(
-        sites, n, m, sum, held, records, objects, groups, places, numbers, counts, chains, rec,
-        judged,
+        ix, sites, n, m, sum, held, records, objects, groups, rec, judged,
     );
     if !t.ok {
         table_kept::forget(names);
@@ -86,6 +82,7 @@ fn take_limited(
 // Takes a record, unless it is refused: then nothing is changed, but that no more may be kept of its box. There are n
 // records, m objects and so many edits of each site, and this sum; the index has room for the record.
 pub fn take_short(
+    ix: &mut Index,
     sites: u8,
     n: usize,
     m: u16,
@@ -94,17 +91,13 @@ pub fn take_short(
     records: &mut [u8],
     objects: &mut [u16],
     groups: &mut [u64],
-    places: &mut [u16],
-    numbers: &mut [u8],
-    counts: &mut [u16],
-    chains: &mut [u8],
     rows: &mut [u64],
     names: &mut [u32],
     rec: &[u8],
 ) -> Took
     requires { TakesShort
         (tables_of (counters_of sites n m held.old sum) records.old objects.old groups.old)
-        places.old numbers.old counts.old chains.old rec.now
+        ix.old.places ix.old.numbers ix.old.counts ix.old.chains rec.now
         × KeptFor (edits_of records.old n) names.old rows.old }
     ensures { LeavesShort
         (tables_of (counters_of sites n m held.old sum) records.old objects.old
@@ -112,26 +105,23 @@ pub fn take_short(
         rec.now result.ok
         (tables_of (counters_of sites (n + cond result.ok 1 0) result.objects held.new result.sum)
         records.new objects.new groups.new)
-        places.old numbers.old counts.old chains.old
-        places.new numbers.new counts.new chains.new
+        ix.old.places ix.old.numbers ix.old.counts ix.old.chains
+        ix.new.places ix.new.numbers ix.new.counts ix.new.chains
         × KeptFor
         (cond result.ok (edits_of records.old n ++ (decode_of rec.now ∷ []))
         (edits_of records.old n))
         names.new rows.new }
 {
-    let Some(a) = look(
-        sites, held, records, n, m, places, numbers, counts, chains, rec,
-    ) else {
+    let Some(a) = look(ix, sites, held, records, n, m, rec) else {
         return table_plain::not_taken(m, sum);
     };
     let kind = rec[AT_KIND];
     if a.limited | (kind == LIMITED) {
         return take_limited(
-            sites, n, m, sum, held, records, objects, groups, places, numbers, counts, chains,
-            rows, names, rec, a,
+            ix, sites, n, m, sum, held, records, objects, groups, rows, names, rec, a,
         );
     }
     table_plain::take_plain(
-        sites, n, m, sum, held, records, objects, groups, places, numbers, counts, chains, rec, a,
+        ix, sites, n, m, sum, held, records, objects, groups, rec, a,
     )
 }

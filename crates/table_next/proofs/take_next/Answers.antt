@@ -53,7 +53,7 @@ judge-j-requires c =
     let t = tables_of c.args.c c.args.records.now c.args.objects.now c.args.groups.now in (
       record {
         counters = a.c;
-        counts = a.counts.now;
+        counts = a.ix.now.counts;
         holds = holds t c.requires.0.is_sound;
         all = refl;
         index = c.requires.0.index;
@@ -94,9 +94,9 @@ add-requires c =
     let wide = c.requires.0.wide in
     let ok = c.in_ok-after.ensures in (
       (c.in_ok-after.after, holds_on t sound wide b _ ok, omega (arith, counted-on t sound wide b _ ok)),
-      index_on t sound wide b _ ok a.places.now a.numbers.now a.counts.now a.chains.now c.requires.0.index,
+      index_on t sound wide b _ ok a.ix.now.places a.ix.now.numbers a.ix.now.counts a.ix.now.chains c.requires.0.index,
       numbered-on t sound wide b _ ok,
-      room-on t sound wide b _ ok a.places.now c.requires.0.room,
+      room-on t sound wide b _ ok a.ix.now.places c.requires.0.room,
     )
 
 pub returns : goal.returns

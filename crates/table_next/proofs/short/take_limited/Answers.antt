@@ -15,10 +15,10 @@ judge-j-requires c =
     let s = c in
     let a = s.args in (
       indexed-so a.sites a.n a.m a.sum a.held.now a.records.now a.objects.now a.groups.now
-          a.places.now a.numbers.now a.counts.now a.chains.now a.rec.now s.requires.0 a.a s.requires.1
+          a.ix.now.places a.ix.now.numbers a.ix.now.counts a.ix.now.chains a.rec.now s.requires.0 a.a s.requires.1
           s.requires.2,
       surveyed-so a.sites a.n a.m a.sum a.held.now a.records.now a.objects.now a.groups.now
-          a.places.now a.numbers.now a.counts.now a.chains.now a.rec.now s.requires.0 a.a s.requires.1
+          a.ix.now.places a.ix.now.numbers a.ix.now.counts a.ix.now.chains a.rec.now s.requires.0 a.a s.requires.1
           s.requires.2,
       s.requires.3,
     )
@@ -40,7 +40,7 @@ take_judged-t-requires c =
     let a = s.args in (
       s.requires.0,
       judged-so a.sites a.n a.m a.sum a.held.now a.records.now a.objects.now a.groups.now
-          a.places.now a.numbers.now a.counts.now a.chains.now a.rec.now s.requires.0 a.a s.requires.1
+          a.ix.now.places a.ix.now.numbers a.ix.now.counts a.ix.now.chains a.rec.now s.requires.0 a.a s.requires.1
           s.requires.2
           j.judge-j.result j.judge-j.ensures.0 i.if-j.false,
     )

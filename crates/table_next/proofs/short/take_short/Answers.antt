@@ -56,7 +56,7 @@ take_limited-requires c =
     let f = c.in-Some.ensures in (
       s.requires.0,
       f,
-      set-where a.sites a.n a.m a.records.now a.places.now a.numbers.now a.counts.now
+      set-where a.sites a.n a.m a.records.now a.ix.now.places a.ix.now.numbers a.ix.now.counts
           (decode_of a.rec.now) c.in-Some.a f i.if-a-kind.true,
       s.requires.1,
     )
@@ -72,7 +72,7 @@ take_plain-requires c =
     let f = c.in-Some.ensures in
     let (none, plain) = neither c.in-Some.a.limited (is_limited (decode_of a.rec.now)) i.if-a-kind.false in (
       s.requires.0,
-      fit_of a.sites a.n a.m a.records.now a.places.now a.numbers.now a.counts.now
+      fit_of a.sites a.n a.m a.records.now a.ix.now.places a.ix.now.numbers a.ix.now.counts
           (decode_of a.rec.now)
           c.in-Some.a f plain none,
     )
