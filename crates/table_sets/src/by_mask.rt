@@ -135,7 +135,7 @@ pub fn disputed_in(tolds: &mut [u64], recs: &[u8], places: &[u16], t: usize) -> 
     for i in 0..t {
         let m = mark_in_place(&mut sets, tolds, recs, places, i);
         if m != 0 {
-            all = all | m | (1 << i);
+            all |= m | (1 << i);
         }
     }
     all

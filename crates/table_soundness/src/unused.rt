@@ -26,7 +26,7 @@ pub fn is_zero_from8(s: &[u8], k: usize) -> bool
     let fourth = third + part;
     let mut bits: u8 = 0;
     for i in 0..part {
-        bits = bits | s[k + i] | s[second + i] | s[third + i] | s[fourth + i];
+        bits |= s[k + i] | s[second + i] | s[third + i] | s[fourth + i];
     }
     for &byte in &s[fourth + part..] {
         bits |= byte;
@@ -62,7 +62,7 @@ pub fn is_zero_from64(s: &[u64], k: usize) -> bool
     let fourth = third + part;
     let mut bits: u64 = 0;
     for i in 0..part {
-        bits = bits | s[k + i] | s[second + i] | s[third + i] | s[fourth + i];
+        bits |= s[k + i] | s[second + i] | s[third + i] | s[fourth + i];
     }
     for &group in &s[fourth + part..] {
         bits |= group;
