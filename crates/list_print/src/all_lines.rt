@@ -14,7 +14,6 @@ ghost use Rattle.list_print.specs.PrintForms.{all_lines, Behind};
 
 use super::object_lines::{put_behind, put_versions};
 use edit_history::RECORDS;
-use edit_walk::PLACES;
 use group_step::{OBJECTS, SETS};
 use list_line::BUFFER;
 use list_line::pieces::Pieces;
@@ -23,7 +22,7 @@ use list_objects::order::sort_objects;
 use list_objects::{gather, put_chained};
 use list_version::gathered::Gathered;
 use table_drawing::Counters;
-use table_index::chain::CHAINS;
+use table_index::Index;
 
 // Puts line 0 at the front; says where it ends. The line is formed in a buffer of its own.
 fn put_head(out: &mut [u8], line: &mut [u8], c: Counters, objects: &[u16]) -> usize
@@ -140,19 +139,7 @@ pub fn put_list(
         (list_of (tables_of c records.now objects.now groups.now))
         list_length out.new result }
 {
-    // what work space holds at first does not matter; zeros would be set by memset (docs/DECISIONS.md, 24)
-    let mut places = [1u16; PLACES];
-    let mut numbers = [1u8; RECORDS];
-    let mut counts = [0u16; OBJECTS];
-    let mut chains = [0u8; CHAINS];
-    let k = c.records as usize;
-    table_index::build(
-        records,
-        k,
-        &mut places,
-        &mut numbers,
-        &mut counts,
-        &mut chains,
-    );
-    put_list_by(out, c, records, objects, groups, &places)
+    let mut ix = Index::none();
+    table_index::build(&mut ix, records, c.records as usize);
+    put_list_by(out, c, records, objects, groups, &ix.places)
 }

@@ -13,14 +13,11 @@ ghost use Rattle.table_given.specs.Replay.{replayed_by, replay_of, edits_in};
 ghost use Rattle.table_kept.specs.BoxForms.{KeptFor};
 
 use edit_form::OLD;
-use edit_history::RECORDS;
 use edit_record::{RECORD, SITES};
-use edit_walk::PLACES;
 use group_kept::ROWS;
-use group_step::OBJECTS;
 use table_drawing::Counters;
 use table_given::FileRefusal;
-use table_index::chain::CHAINS;
+use table_index::Index;
 use table_kept::NAMES;
 
 // How many of the first n records of a stretch name each site.
@@ -44,14 +41,11 @@ fn count_stretch(recs: &[u8], form: u8, n: usize) -> [u16; SITES]
 // Takes the first n records of a stretch, one after another, into an empty drawing: an old one as a long one, a long
 // one where it stands. Each goes the short way if it can, else the long one. The index has room for all of them.
 fn take_records(
+    ix: &mut Index,
     sites: u8,
     records: &mut [u8],
     objects: &mut [u16],
     groups: &mut [u64],
-    places: &mut [u16],
-    numbers: &mut [u8],
-    counts: &mut [u16],
-    chains: &mut [u8],
     rows: &mut [u64],
     names: &mut [u32],
     recs: &[u8],
@@ -60,8 +54,8 @@ fn take_records(
 ) -> Result<Counters, FileRefusal>
     requires { (tables_of (counters_of sites 0 0 (replicate most_sites 0) 0) records.old objects.old groups.old
         ≡ empty_drawing sites)
-        × IndexOf records.old 0 places.old numbers.old counts.old chains.old
-        × Spaced (λ s. count_from s (edits_in (stored_in form recs.now) n)) places.old
+        × IndexOf records.old 0 ix.old.places ix.old.numbers ix.old.counts ix.old.chains
+        × Spaced (λ s. count_from s (edits_in (stored_in form recs.now) n)) ix.old.places
         × (sites_right sites ≡ true)
         × (n ≤ most_records)
         × (start_of form recs.now n ≤ length recs.now)
@@ -84,8 +78,7 @@ fn take_records(
         }
         let rec = edit_form::long_in(rest, form, used, &wide);
         let t = table_next::short::take_short(
-            sites, i, m, sum, &mut held, records, objects, groups, places, numbers, counts, chains,
-            rows, names, rec,
+            ix, sites, i, m, sum, &mut held, records, objects, groups, rows, names, rec,
         );
         m = t.objects;
         sum = t.sum;
@@ -99,9 +92,7 @@ fn take_records(
             held,
             sum,
         };
-        let next = match table_next::take_next(
-            c, records, objects, groups, places, numbers, counts, chains, rows, names, rec,
-        ) {
+        let next = match table_next::take_next(ix, c, records, objects, groups, rows, names, rec) {
             Ok(next) => next,
             Err(refusal) => {
                 return Err(FileRefusal {
@@ -152,27 +143,12 @@ pub fn replay(
     };
     _ = table_drawing::open(none, records, objects, groups, sites);
     // what work space holds at first does not matter; zeros would be set by memset (docs/DECISIONS.md, 24)
-    let mut places = [1u16; PLACES];
-    let mut numbers = [1u8; RECORDS];
-    let mut counts = [0u16; OBJECTS];
-    let mut chains = [0u8; CHAINS];
     let mut rows = [1u64; ROWS];
     let mut names = [0u32; NAMES];
+    let mut ix = Index::none();
     let by_site = count_stretch(recs, form, n);
-    edit_walk::space_places(by_site, &mut places);
+    edit_walk::space_places(by_site, &mut ix.places);
     take_records(
-        sites,
-        records,
-        objects,
-        groups,
-        &mut places,
-        &mut numbers,
-        &mut counts,
-        &mut chains,
-        &mut rows,
-        &mut names,
-        recs,
-        form,
-        n,
+        &mut ix, sites, records, objects, groups, &mut rows, &mut names, recs, form, n,
     )
 }

@@ -14,7 +14,7 @@ pub space_places-requires : goal.space_places-requires
 space_places-requires c =
     let a = c.args in
     let counted = c.count_stretch-by_site in
-    (omega (arith, counts-in-all (stored_in a.form a.recs.now) a.n counted.result counted.ensures, c.requires.2), refl)
+    (omega (arith, counts-in-all (stored_in a.form a.recs.now) a.n counted.result counted.ensures, c.requires.2), omega arith)
 
 pub take_records-requires : goal.take_records-requires
 take_records-requires c =
@@ -24,7 +24,7 @@ take_records-requires c =
     let e = opened (tables_of _ a.records.now a.objects.now a.groups.now) _ _ a.sites c.requires.0 c.requires.1
     c.«open».ensures in (
       opened-parts _ a.sites e,
-      index-starts _ _ _ spaced.entries refl,
+      rw (c.none-ix.ensures.0, c.none-ix.ensures.1) (index-starts _ _ _ spaced.entries (omega arith)),
       room-for-all (stored_in a.form a.recs.now) a.n counted.result counted.ensures _ spaced,
       c.requires.1,
       c.requires.2,

@@ -220,26 +220,6 @@ shape_of-groups-in-Err c =
     (stored_in a.form a.recs.now l.i) _ _ _ _ _ _ (rw is at c.in-Err.ensures.0) in
     (same-lengths a.sites (stored_in a.form a.recs.now) c.requires.3 c.requires.0 _ _ _ (next-long a.sites _ c.requires.3 l.i _ l.invariant.1 _ _ lv.outcome)).2
 
-pub shape_of-places-in-Err : goal.shape_of-places-in-Err
-shape_of-places-in-Err c =
-    c.take_next.auto.places ∙ ap length (c.take_short-t.ensures.0.index c.if-t.false).0
-    ∙ c.loop-i.invariant.2.places-long ∙ sym c.requires.1.places-long
-
-pub shape_of-numbers-in-Err : goal.shape_of-numbers-in-Err
-shape_of-numbers-in-Err c =
-    c.take_next.auto.numbers ∙ ap length (c.take_short-t.ensures.0.index c.if-t.false).1
-    ∙ c.loop-i.invariant.2.numbers-long ∙ sym c.requires.1.numbers-long
-
-pub shape_of-counts-in-Err : goal.shape_of-counts-in-Err
-shape_of-counts-in-Err c =
-    c.take_next.auto.counts ∙ ap length (c.take_short-t.ensures.0.index c.if-t.false).2
-    ∙ c.loop-i.invariant.2.counts-long ∙ sym c.requires.1.counts-long
-
-pub shape_of-chains-in-Err : goal.shape_of-chains-in-Err
-shape_of-chains-in-Err c =
-    c.take_next.auto.chains ∙ ap length (c.take_short-t.ensures.0.index c.if-t.false).3
-    ∙ c.loop-i.invariant.2.chained.chains-long ∙ sym c.requires.1.chained.chains-long
-
 pub shape_of-rows-in-Err : goal.shape_of-rows-in-Err
 shape_of-rows-in-Err c = c.take_next.auto.rows ∙ c.take_short-t.ensures.1.rows_long ∙ sym c.requires.6.rows_long
 
@@ -272,7 +252,7 @@ loop-i-preserved c =
       subst (Going a.sites (stored_in a.form a.recs.now) (l.i + 1)) parts
           (going_next a.sites _ c.requires.3 l.i _ l.invariant.1 _ lv.outcome),
       subst
-          (λ (u : Tables). IndexOf u.records u.counters.records k.new.places k.new.numbers k.new.counts k.new.chains)
+          (λ (u : Tables). IndexOf u.records u.counters.records k.new.ix.places k.new.ix.numbers k.new.ix.counts k.new.ix.chains)
           parts (lv.index refl),
       spaced-same (counted-in a.form a.recs.now a.n) _ _ (lv.starts refl) (lv.index refl).places-long l.invariant.3,
       kept-after (stored_in a.form a.recs.now) l.i _ _ _ _
@@ -302,18 +282,6 @@ shape_of-groups c =
     let a = c.args in
     let l = c.loop-i in
     (same-lengths a.sites (stored_in a.form a.recs.now) c.requires.3 c.requires.0 _ _ _ (going-long a.sites _ c.requires.3 l.i _ l.invariant.1)).2
-
-pub shape_of-places : goal.shape_of-places
-shape_of-places c = c.loop-i.invariant.2.places-long ∙ sym c.requires.1.places-long
-
-pub shape_of-numbers : goal.shape_of-numbers
-shape_of-numbers c = c.loop-i.invariant.2.numbers-long ∙ sym c.requires.1.numbers-long
-
-pub shape_of-counts : goal.shape_of-counts
-shape_of-counts c = c.loop-i.invariant.2.counts-long ∙ sym c.requires.1.counts-long
-
-pub shape_of-chains : goal.shape_of-chains
-shape_of-chains c = c.loop-i.invariant.2.chained.chains-long ∙ sym c.requires.1.chained.chains-long
 
 pub shape_of-rows : goal.shape_of-rows
 shape_of-rows c = c.loop-i.invariant.4.rows_long ∙ sym c.requires.6.rows_long

@@ -27,7 +27,7 @@ abbrev pub invariant-loop-i : goal.invariant-loop-i
 invariant-loop-i l =
     (l.at ≡ start_of l.form l.recs l.i)
     × Going l.sites (stored_in l.form l.recs) l.i (tables_of (counters_of l.sites l.i l.m l.held l.sum) l.records l.objects l.groups)
-    × IndexOf l.records l.i l.places l.numbers l.counts l.chains
-    × Spaced (counted-in l.form l.recs l.n) l.places
+    × IndexOf l.records l.i l.ix.places l.ix.numbers l.ix.counts l.ix.chains
+    × Spaced (counted-in l.form l.recs l.n) l.ix.places
     × KeptFor (edits_in (stored_in l.form l.recs) l.i) l.names l.rows
     × (length l.wide ≡ record_length)
