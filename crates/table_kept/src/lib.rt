@@ -21,6 +21,7 @@ ghost use Rattle.table_kept.specs.BoxForms.{box_site_at, box_seq_at, told_at, ke
 
 use edit_history::Surveyed;
 use edit_record::{AT_KIND, AT_TARGET, AT_TARGET_SEQ, LIMITED, Seq, Site};
+use group_kept::ROWS;
 use group_limited::Judged;
 use group_sight::put_names;
 use group_step::SETS;
@@ -33,7 +34,27 @@ const BOX_SEQ: usize = SETS + 1;
 
 const COUNT: usize = SETS + 2;
 
-pub const NAMES: usize = SETS + 3;
+const NAMES: usize = SETS + 3;
+
+// What is kept: the rows, and the names with what is behind them.
+#[derive(Clone, Copy)]
+pub struct Kept {
+    pub rows: [u64; ROWS],
+    pub names: [u32; NAMES],
+}
+
+impl Kept {
+    // What is kept of no box.
+    pub fn none() -> Kept
+        ensures { KeptFor [] result.names result.rows }
+    {
+        // what the rows hold at first does not matter; zeros would be set by memset (docs/DECISIONS.md, 24)
+        Kept {
+            rows: [1u64; ROWS],
+            names: [0u32; NAMES],
+        }
+    }
+}
 
 // Whether what is kept tells of the first k Sets of the box s.q.
 fn is_kept(names: &[u32], s: Site, q: Seq, k: u32) -> bool
@@ -47,34 +68,22 @@ fn is_kept(names: &[u32], s: Site, q: Seq, k: u32) -> bool
 }
 
 // Works out the names and the rows of the k Sets, among the first n records, on the Create in place q.
-fn put_anew(
-    rows: &mut [u64],
-    names: &mut [u32],
-    ix: &Index,
-    recs: &[u8],
-    n: usize,
-    q: usize,
-    k: usize,
-)
+fn put_anew(kept: &mut Kept, ix: &Index, recs: &[u8], n: usize, q: usize, k: usize)
     requires { ChainsOn recs.now n ix.now.numbers ix.now.chains q
-        × (k ≡ length (places_on recs.now n q))
-        × (length names.old ≡ kept_length)
-        × (length rows.old ≡ rows_length) }
-    ensures { TellOf (map (record_at recs.now) (places_on recs.now n q))
-        names.new rows.new }
+        × (k ≡ length (places_on recs.now n q)) }
+    ensures { TellOf (map (record_at recs.now) (places_on recs.now n q)) kept.new.names kept.new.rows }
 {
     // what work space holds at first does not matter; zeros would be set by memset (docs/DECISIONS.md, 24)
     let mut spots = [1u16; SETS];
     chained::put_chains(&mut spots, recs, n, &ix.numbers, &ix.chains, q);
-    put_names(names, recs, &spots, k);
-    group_kept::put_rows(rows, recs, &spots, names, k);
+    put_names(&mut kept.names, recs, &spots, k);
+    group_kept::put_rows(&mut kept.rows, recs, &spots, &kept.names, k);
 }
 
 // Sees to it that the names and the rows tell of the k Sets, among the first n records, of the box that rec targets and
 // that is held.
 fn make_ready(
-    rows: &mut [u64],
-    names: &mut [u32],
+    kept: &mut Kept,
     ix: &Index,
     recs: &[u8],
     n: usize,
@@ -84,17 +93,17 @@ fn make_ready(
     requires { IndexedIn recs.now n ix.now.places ix.now.numbers ix.now.chains
         × (any (is_target (decode_of rec.now)) (edits_of recs.now n) ≡ true)
         × (k ≡ length (sets_on (decode_of rec.now).tsite (decode_of rec.now).tseq (edits_of recs.now n)))
-        × KeptFor (edits_of recs.now n) names.old rows.old }
+        × KeptFor (edits_of recs.now n) kept.old.names kept.old.rows }
     ensures { TellOf
         (sets_on (decode_of rec.now).tsite (decode_of rec.now).tseq
         (edits_of recs.now n))
-        names.new rows.new }
+        kept.new.names kept.new.rows }
 {
     let s = Site(edit_record::byte_at(rec, AT_TARGET));
     let q = Seq(edit_record::two_at(rec, AT_TARGET_SEQ));
-    if !is_kept(names, s, q, k as u32) {
+    if !is_kept(&kept.names, s, q, k as u32) {
         let at = edit_walk::place_at(&ix.places, s, q) as usize;
-        put_anew(rows, names, ix, recs, n, at, k);
+        put_anew(kept, ix, recs, n, at, k);
     }
 }
 
@@ -120,18 +129,15 @@ fn put_box(names: &mut [u32], rec: &[u8], k: u32)
 }
 
 // Puts down that it is told of no Set.
-pub fn forget(names: &mut [u32])
-    requires { length names.old ≡ kept_length }
-    ensures { (es : List Edit) (rows : List ℕ) → length rows ≡ rows_length →
-        KeptFor es names.new rows }
+pub fn forget(kept: &mut Kept)
+    ensures { (es : List Edit) → KeptFor es kept.new.names kept.new.rows }
 {
-    names[COUNT] = 0;
+    kept.names[COUNT] = 0;
 }
 
 // What is judged, by the rows of its box, of a record whose target is held among the first n.
 fn judge_by_rows(
-    rows: &mut [u64],
-    names: &mut [u32],
+    kept: &mut Kept,
     ix: &Index,
     recs: &[u8],
     n: usize,
@@ -141,19 +147,18 @@ fn judge_by_rows(
     requires { IndexedIn recs.now n ix.now.places ix.now.numbers ix.now.chains
         × SurveyedOf (edits_of recs.now n) (decode_of rec.now) v
         × (v.found ≡ true)
-        × KeptFor (edits_of recs.now n) names.old rows.old }
+        × KeptFor (edits_of recs.now n) kept.old.names kept.old.rows }
     ensures { JudgedWhere v.found
         (sets_on (decode_of rec.now).tsite (decode_of rec.now).tseq
         (edits_of recs.now n))
         (decode_of rec.now) result
-        × KeptFor (edits_of recs.now n ++ (decode_of rec.now ∷ [])) names.new
-        rows.new }
+        × KeptFor (edits_of recs.now n ++ (decode_of rec.now ∷ [])) kept.new.names kept.new.rows }
 {
     let k = v.sets;
-    make_ready(rows, names, ix, recs, n, rec, k);
-    let j = group_kept::judge(rows, names, k, rec, v.plain);
+    make_ready(kept, ix, recs, n, rec, k);
+    let j = group_kept::judge(&mut kept.rows, &mut kept.names, k, rec, v.plain);
     let told = told_after(k, edit_record::byte_at(rec, AT_KIND));
-    put_box(names, rec, told);
+    put_box(&mut kept.names, rec, told);
     j
 }
 
@@ -161,8 +166,7 @@ fn judge_by_rows(
 // Where no Set of its object is limited, and it is not, document 01's conflicts are all that there are. One whose
 // object is not held is not judged.
 pub fn judge(
-    rows: &mut [u64],
-    names: &mut [u32],
+    kept: &mut Kept,
     ix: &Index,
     recs: &[u8],
     n: usize,
@@ -171,13 +175,12 @@ pub fn judge(
 ) -> Judged
     requires { IndexedIn recs.now n ix.now.places ix.now.numbers ix.now.chains
         × SurveyedOf (edits_of recs.now n) (decode_of rec.now) v
-        × KeptFor (edits_of recs.now n) names.old rows.old }
+        × KeptFor (edits_of recs.now n) kept.old.names kept.old.rows }
     ensures { JudgedWhere v.found
         (sets_on (decode_of rec.now).tsite (decode_of rec.now).tseq
         (edits_of recs.now n))
         (decode_of rec.now) result
-        × KeptFor (edits_of recs.now n ++ (decode_of rec.now ∷ [])) names.new
-        rows.new }
+        × KeptFor (edits_of recs.now n ++ (decode_of rec.now ∷ [])) kept.new.names kept.new.rows }
 {
     let limited = edit_record::byte_at(rec, AT_KIND) == LIMITED;
     if !(v.found & (limited | v.limited)) {
@@ -186,5 +189,5 @@ pub fn judge(
             conflicts: v.plain,
         };
     }
-    judge_by_rows(rows, names, ix, recs, n, rec, v)
+    judge_by_rows(kept, ix, recs, n, rec, v)
 }

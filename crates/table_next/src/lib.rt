@@ -16,6 +16,7 @@ ghost use Rattle.table_plain.specs.TakingForms.{Takes, Leaves};
 use table_arrival::asked;
 use table_drawing::{Counters, Refusal};
 use table_index::Index;
+use table_kept::Kept;
 
 // Takes one record at tables that are sound, by the index of their records and by what is kept of a box with a limited
 // Set, and puts it into the index if it is taken. The index has room for it.
@@ -25,24 +26,23 @@ pub fn take_next(
     records: &mut [u8],
     objects: &mut [u16],
     groups: &mut [u64],
-    rows: &mut [u64],
-    names: &mut [u32],
+    kept: &mut Kept,
     rec: &[u8],
 ) -> Result<Counters, Refusal>
     requires { Takes (tables_of c records.old objects.old groups.old)
         ix.old.places ix.old.numbers ix.old.counts ix.old.chains rec.now
-        × KeptFor (edits_of records.old c.records) names.old rows.old }
+        × KeptFor (edits_of records.old c.records) kept.old.names kept.old.rows }
     ensures { Leaves (tables_of c records.old objects.old groups.old)
         rec.now (answer_of result)
         (tables_of (result_unwrap_or result c) records.new objects.new groups.new)
         ix.old.places ix.new.places ix.new.numbers ix.new.counts ix.new.chains
         × KeptFor (edits_of records.old c.records ++ (decode_of rec.now ∷ []))
-        names.new rows.new }
+        kept.new.names kept.new.rows }
 {
     asked::one_to_three(c, rec)?;
     let n = c.records as usize;
     let v = table_index::survey(ix, c, records, rec);
-    let j = table_kept::judge(rows, names, ix, records, n, rec, v);
+    let j = table_kept::judge(kept, ix, records, n, rec, v);
     let after = table_arrival::accept(c, records, objects, groups, rec, v, j, true)?;
     table_index::add(ix, records, n, c.objects);
     Ok(after)

@@ -13,6 +13,7 @@ use edit_history::Surveyed;
 use edit_record::{AT_KIND, LIMITED};
 use table_index::{Index, Looked};
 use table_index::plain::look;
+use table_kept::Kept;
 use table_plain::Took;
 
 // Takes a Set of which a was found, by what is kept of its box, unless it names no version or there is no room for the
@@ -27,8 +28,7 @@ fn take_limited(
     records: &mut [u8],
     objects: &mut [u16],
     groups: &mut [u64],
-    rows: &mut [u64],
-    names: &mut [u32],
+    kept: &mut Kept,
     rec: &[u8],
     a: Looked,
 ) -> Took
@@ -37,7 +37,7 @@ fn take_limited(
         ix.old.places ix.old.numbers ix.old.counts ix.old.chains rec.now
         × PassedOf sites n m records.old ix.old.places ix.old.numbers ix.old.counts (decode_of rec.now) a
         × (is_set (decode_of rec.now) ≡ true)
-        × KeptFor (edits_of records.old n) names.old rows.old }
+        × KeptFor (edits_of records.old n) kept.old.names kept.old.rows }
     ensures { LeavesShort
         (tables_of (counters_of sites n m held.old sum) records.old objects.old
         groups.old)
@@ -49,7 +49,7 @@ fn take_limited(
         × KeptFor
         (cond result.ok (edits_of records.old n ++ (decode_of rec.now ∷ []))
         (edits_of records.old n))
-        names.new rows.new }
+        kept.new.names kept.new.rows }
 {
     let v = Surveyed {
         torn: false,
@@ -59,9 +59,9 @@ fn take_limited(
         plain: a.conflicts,
         limited: a.limited,
     };
-    let j = table_kept::judge(rows, names, ix, records, n, rec, v);
+    let j = table_kept::judge(kept, ix, records, n, rec, v);
     if j.nameless {
-        table_kept::forget(names);
+        table_kept::forget(kept);
         return table_plain::not_taken(m, sum);
     }
     let judged = Looked {
@@ -74,7 +74,7 @@ fn take_limited(
         ix, sites, n, m, sum, held, records, objects, groups, rec, judged,
     );
     if !t.ok {
-        table_kept::forget(names);
+        table_kept::forget(kept);
     }
     t
 }
@@ -91,14 +91,13 @@ pub fn take_short(
     records: &mut [u8],
     objects: &mut [u16],
     groups: &mut [u64],
-    rows: &mut [u64],
-    names: &mut [u32],
+    kept: &mut Kept,
     rec: &[u8],
 ) -> Took
     requires { TakesShort
         (tables_of (counters_of sites n m held.old sum) records.old objects.old groups.old)
         ix.old.places ix.old.numbers ix.old.counts ix.old.chains rec.now
-        × KeptFor (edits_of records.old n) names.old rows.old }
+        × KeptFor (edits_of records.old n) kept.old.names kept.old.rows }
     ensures { LeavesShort
         (tables_of (counters_of sites n m held.old sum) records.old objects.old
         groups.old)
@@ -110,7 +109,7 @@ pub fn take_short(
         × KeptFor
         (cond result.ok (edits_of records.old n ++ (decode_of rec.now ∷ []))
         (edits_of records.old n))
-        names.new rows.new }
+        kept.new.names kept.new.rows }
 {
     let Some(a) = look(ix, sites, held, records, n, m, rec) else {
         return table_plain::not_taken(m, sum);
@@ -118,7 +117,7 @@ pub fn take_short(
     let kind = rec[AT_KIND];
     if a.limited | (kind == LIMITED) {
         return take_limited(
-            ix, sites, n, m, sum, held, records, objects, groups, rows, names, rec, a,
+            ix, sites, n, m, sum, held, records, objects, groups, kept, rec, a,
         );
     }
     table_plain::take_plain(

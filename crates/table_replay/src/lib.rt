@@ -14,11 +14,10 @@ ghost use Rattle.table_kept.specs.BoxForms.{KeptFor};
 
 use edit_form::OLD;
 use edit_record::{RECORD, SITES};
-use group_kept::ROWS;
 use table_drawing::Counters;
 use table_given::FileRefusal;
 use table_index::Index;
-use table_kept::NAMES;
+use table_kept::Kept;
 
 // How many of the first n records of a stretch name each site.
 fn count_stretch(recs: &[u8], form: u8, n: usize) -> [u16; SITES]
@@ -46,8 +45,7 @@ fn take_records(
     records: &mut [u8],
     objects: &mut [u16],
     groups: &mut [u64],
-    rows: &mut [u64],
-    names: &mut [u32],
+    kept: &mut Kept,
     recs: &[u8],
     form: u8,
     n: usize,
@@ -59,7 +57,7 @@ fn take_records(
         × (sites_right sites ≡ true)
         × (n ≤ most_records)
         × (start_of form recs.now n ≤ length recs.now)
-        × KeptFor [] names.old rows.old }
+        × KeptFor [] kept.old.names kept.old.rows }
     ensures { replayed_by result records.new objects.new groups.new
         ≡ replay_of sites (stored_in form recs.now) n }
 {
@@ -78,7 +76,7 @@ fn take_records(
         }
         let rec = edit_form::long_in(rest, form, used, &wide);
         let t = table_next::short::take_short(
-            ix, sites, i, m, sum, &mut held, records, objects, groups, rows, names, rec,
+            ix, sites, i, m, sum, &mut held, records, objects, groups, kept, rec,
         );
         m = t.objects;
         sum = t.sum;
@@ -92,7 +90,7 @@ fn take_records(
             held,
             sum,
         };
-        let next = match table_next::take_next(ix, c, records, objects, groups, rows, names, rec) {
+        let next = match table_next::take_next(ix, c, records, objects, groups, kept, rec) {
             Ok(next) => next,
             Err(refusal) => {
                 return Err(FileRefusal {
@@ -142,13 +140,11 @@ pub fn replay(
         sum: 0,
     };
     _ = table_drawing::open(none, records, objects, groups, sites);
-    // what work space holds at first does not matter; zeros would be set by memset (docs/DECISIONS.md, 24)
-    let mut rows = [1u64; ROWS];
-    let mut names = [0u32; NAMES];
+    let mut kept = Kept::none();
     let mut ix = Index::none();
     let by_site = count_stretch(recs, form, n);
     edit_walk::space_places(by_site, &mut ix.places);
     take_records(
-        &mut ix, sites, records, objects, groups, &mut rows, &mut names, recs, form, n,
+        &mut ix, sites, records, objects, groups, &mut kept, recs, form, n,
     )
 }

@@ -17,7 +17,7 @@ returns-then-not-v-limited c =
     let e = decode_of a.rec.now in
     let es = edits_of a.recs.now a.n in (
       judged-plainly es e a.v s.requires.1 (rw c.byte_at-limited.ensures at c.if-not-v-limited.true-raw),
-      kept_more es e a.names.now a.rows.now s.requires.2,
+      kept_more es e a.kept.now.names a.kept.now.rows s.requires.2,
     )
 
 pub judge_by_rows-requires : goal.judge_by_rows-requires

@@ -61,14 +61,12 @@ put_anew-requires c =
       chains,
       s.requires.2 ∙ sym (ap length sets)
           ∙ length-map (places_on rs s.args.n c.place_at-at.result) (record_at rs),
-      h.names-long,
-      h.rows_long,
     )
 
 pub returns-then-not-is_kept : goal.returns-then-not-is_kept
 returns-then-not-is_kept c =
     let p = c.put_anew in
-    subst (λ (ms : List Edit). TellOf ms p.new.names p.new.rows) (chains-at (goal.at.returns-then-not-is_kept c).After-place_at-at).1
+    subst (λ (ms : List Edit). TellOf ms p.new.kept.names p.new.kept.rows) (chains-at (goal.at.returns-then-not-is_kept c).After-place_at-at).1
     p.ensures
 
 pub returns-else-not-is_kept : goal.returns-else-not-is_kept
@@ -77,5 +75,5 @@ returns-else-not-is_kept c =
     let a = s.args in
     let same = rw (c.byte_at.ensures, c.two_at.ensures) at
     (sym c.is_kept.ensures ∙ c.if-not-is_kept.false) in
-    kept-all (edits_of a.recs.now a.n) a.names.now a.rows.now s.requires.3
+    kept-all (edits_of a.recs.now a.n) a.kept.now.names a.kept.now.rows s.requires.3
     (decode_of a.rec.now).tsite (decode_of a.rec.now).tseq a.k s.requires.2 same

@@ -30,7 +30,7 @@ returns-in_err-one_to_three c =
         index = λ z. absurd (refused r z);
         starts = λ z. absurd (refused r z);
       },
-      kept_more (held_by t) (decode_of a.rec.now) a.names.now a.rows.now c.requires.1,
+      kept_more (held_by t) (decode_of a.rec.now) a.kept.now.names a.kept.now.rows c.requires.1,
     )
 
 pub survey-v-requires : goal.survey-v-requires

@@ -6,7 +6,6 @@ use Rattle.edit_form.specs.OldForm.{stored_in}
 use Rattle.table_drawing.specs.Tables.{tables_of}
 use Rattle.table_index.proofs.OneRecordMore.{index-starts}
 use Rattle.table_given.proofs.ReplayGoes.{opened, opened-parts}
-use Rattle.table_kept.proofs.KeptAlong.{none_kept}
 use Rattle.table_replay.proofs.RoomForAll.{counts-in-all, room-for-all}
 use Rattle.table_replay.proofs.replay.Goals as goal
 
@@ -29,5 +28,5 @@ take_records-requires c =
       c.requires.1,
       c.requires.2,
       c.requires.3,
-      none_kept [] _ _ refl refl refl,
+      c.none-kept.ensures,
     )

@@ -145,7 +145,7 @@ take_short-t-requires c =
         whole =
             subst (λ (y : List ℕ). length y ≡ span_of y) lent (long-from-whole a.form rest there);
       }),
-      subst (λ (es : List Edit). KeptFor es l.names l.rows)
+      subst (λ (es : List Edit). KeptFor es l.kept.names l.kept.rows)
           (sym (held-now a.sites _ c.requires.3 l.i _ l.invariant.1)) l.invariant.4,
     )
 
@@ -187,7 +187,7 @@ take_next-requires c =
           (long-takes a.sites l.i p.ensures.0 c.if-t.false
           (stored_in a.form a.recs.now l.i)
           (takes a.sites _ c.requires.3 l.i _ l.invariant.1 a.n c.loop-i-test.true _ _ _ _ l.invariant.2 l.invariant.3)),
-      subst (λ (es : List Edit). KeptFor es p.new.names p.new.rows) (sym same) (rw c.if-t.false at p.ensures.1),
+      subst (λ (es : List Edit). KeptFor es p.new.kept.names p.new.kept.rows) (sym same) (rw c.if-t.false at p.ensures.1),
     )
 
 pub shape_of-records-in-Err : goal.shape_of-records-in-Err
@@ -219,12 +219,6 @@ shape_of-groups-in-Err c =
     let lv = long-leaves a.sites l.i p.ensures.0 c.if-t.false
     (stored_in a.form a.recs.now l.i) _ _ _ _ _ _ (rw is at c.in-Err.ensures.0) in
     (same-lengths a.sites (stored_in a.form a.recs.now) c.requires.3 c.requires.0 _ _ _ (next-long a.sites _ c.requires.3 l.i _ l.invariant.1 _ _ lv.outcome)).2
-
-pub shape_of-rows-in-Err : goal.shape_of-rows-in-Err
-shape_of-rows-in-Err c = c.take_next.auto.rows ∙ c.take_short-t.ensures.1.rows_long ∙ sym c.requires.6.rows_long
-
-pub shape_of-names-in-Err : goal.shape_of-names-in-Err
-shape_of-names-in-Err c = c.take_next.auto.names ∙ c.take_short-t.ensures.1.names-long ∙ sym c.requires.6.names-long
 
 pub returns-in-Err : goal.returns-in-Err
 returns-in-Err c =
@@ -282,12 +276,6 @@ shape_of-groups c =
     let a = c.args in
     let l = c.loop-i in
     (same-lengths a.sites (stored_in a.form a.recs.now) c.requires.3 c.requires.0 _ _ _ (going-long a.sites _ c.requires.3 l.i _ l.invariant.1)).2
-
-pub shape_of-rows : goal.shape_of-rows
-shape_of-rows c = c.loop-i.invariant.4.rows_long ∙ sym c.requires.6.rows_long
-
-pub shape_of-names : goal.shape_of-names
-shape_of-names c = c.loop-i.invariant.4.names-long ∙ sym c.requires.6.names-long
 
 pub returns : goal.returns
 returns c =

@@ -29,5 +29,5 @@ invariant-loop-i l =
     × Going l.sites (stored_in l.form l.recs) l.i (tables_of (counters_of l.sites l.i l.m l.held l.sum) l.records l.objects l.groups)
     × IndexOf l.records l.i l.ix.places l.ix.numbers l.ix.counts l.ix.chains
     × Spaced (counted-in l.form l.recs l.n) l.ix.places
-    × KeptFor (edits_in (stored_in l.form l.recs) l.i) l.names l.rows
+    × KeptFor (edits_in (stored_in l.form l.recs) l.i) l.kept.names l.kept.rows
     × (length l.wide ≡ record_length)

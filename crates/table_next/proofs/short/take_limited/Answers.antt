@@ -29,7 +29,7 @@ returns-then-j c =
     let x = c.not_taken.ensures in
     rw (x.0, x.1, x.2, none_more c.args.n) (
       record { taken = λ y. clash y refl; tables = λ y. refl; index = λ y. (refl, refl, refl, refl) },
-      c.forget.ensures _ _ j.judge-j.ensures.1.rows_long,
+      c.forget.ensures _,
     )
 
 pub take_judged-t-requires : goal.take_judged-t-requires
@@ -45,15 +45,12 @@ take_judged-t-requires c =
           j.judge-j.result j.judge-j.ensures.0 i.if-j.false,
     )
 
-pub forget-requires-then-not-t : goal.forget-requires-then-not-t
-forget-requires-then-not-t c = c.judge-j.ensures.1.names-long
-
 pub returns-then-not-t : goal.returns-then-not-t
 returns-then-not-t c =
     let t = c.take_judged-t in
     let left = not-true t.result.ok c.if-not-t.true in
     let j = c.judge-j in
-    (t.ensures, rw left (c.forget-then-not-t.ensures _ _ j.ensures.1.rows_long))
+    (t.ensures, rw left (c.forget-then-not-t.ensures _))
 
 pub returns-else-not-t : goal.returns-else-not-t
 returns-else-not-t c =

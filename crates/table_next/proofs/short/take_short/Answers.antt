@@ -83,5 +83,5 @@ returns c =
     let s = c in
     let a = s.args in (
       t.ensures,
-      kept_either t.result.ok (edits_of a.records.now a.n) (decode_of a.rec.now) a.names.now a.rows.now s.requires.1,
+      kept_either t.result.ok (edits_of a.records.now a.n) (decode_of a.rec.now) a.kept.now.names a.kept.now.rows s.requires.1,
     )
