@@ -56,7 +56,7 @@ fn is_filled(stretch: &[u8], form: u8, n: usize) -> bool
     ensures { result ≡ eqb (start_of form stretch.now n) (length stretch.now) }
 {
     let mut at: usize = 0;
-    for i in 0..n {
+    for _ in 0..n {
         if stretch.len() < at {
             return false;
         }

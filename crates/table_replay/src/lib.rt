@@ -26,7 +26,7 @@ fn count_stretch(recs: &[u8], form: u8, n: usize) -> [u16; SITES]
 {
     let mut counts = [0u16; SITES];
     let mut at: usize = 0;
-    for i in 0..n {
+    for _ in 0..n {
         let rest = &recs[at..];
         let site = edit_form::site_from(rest, form) as usize;
         at = at + edit_form::length_from(rest, form);

@@ -4,5 +4,5 @@ use mathlib.Core.Path.{◌≡◌}
 use Rattle.edit_form.specs.OldForm.{start_of}
 use Rattle.block_trailer.proofs.is_filled.Given as goal
 
-abbrev pub invariant-loop-i : goal.invariant-loop-i
-invariant-loop-i l = l.at ≡ start_of l.form l.stretch l.i
+abbrev pub invariant-loop : goal.invariant-loop
+invariant-loop l = l.at ≡ start_of l.form l.stretch l.counter

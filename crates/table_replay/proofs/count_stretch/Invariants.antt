@@ -8,8 +8,8 @@ use Rattle.edit_history.specs.SurveyForms.{Counted}
 use Rattle.table_given.specs.Replay.{edits_in}
 use Rattle.table_replay.proofs.count_stretch.Given as goal
 
-abbrev pub invariant-loop-i : goal.invariant-loop-i
-invariant-loop-i l =
-    (l.at ≡ start_of l.form l.recs l.i)
+abbrev pub invariant-loop : goal.invariant-loop
+invariant-loop l =
+    (l.at ≡ start_of l.form l.recs l.counter)
     × (length l.counts ≡ most_sites)
-    × Counted l.counts (edits_in (stored_in l.form l.recs) l.i)
+    × Counted l.counts (edits_in (stored_in l.form l.recs) l.counter)
