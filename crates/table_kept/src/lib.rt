@@ -82,14 +82,7 @@ fn put_anew(kept: &mut Kept, ix: &Index, recs: &[u8], n: usize, q: usize, k: usi
 
 // Sees to it that the names and the rows tell of the k Sets, among the first n records, of the box that rec targets and
 // that is held.
-fn make_ready(
-    kept: &mut Kept,
-    ix: &Index,
-    recs: &[u8],
-    n: usize,
-    rec: &[u8],
-    k: usize,
-)
+fn make_ready(kept: &mut Kept, ix: &Index, recs: &[u8], n: usize, rec: &[u8], k: usize)
     requires { IndexedIn recs.now n ix.now.places ix.now.numbers ix.now.chains
         × (any (is_target (decode_of rec.now)) (edits_of recs.now n) ≡ true)
         × (k ≡ length (sets_on (decode_of rec.now).tsite (decode_of rec.now).tseq (edits_of recs.now n)))
@@ -165,14 +158,7 @@ fn judge_by_rows(
 // What is judged of an arriving record with its survey v, where the first n records are held, and what is kept with it.
 // Where no Set of its object is limited, and it is not, document 01's conflicts are all that there are. One whose
 // object is not held is not judged.
-pub fn judge(
-    kept: &mut Kept,
-    ix: &Index,
-    recs: &[u8],
-    n: usize,
-    rec: &[u8],
-    v: Surveyed,
-) -> Judged
+pub fn judge(kept: &mut Kept, ix: &Index, recs: &[u8], n: usize, rec: &[u8], v: Surveyed) -> Judged
     requires { IndexedIn recs.now n ix.now.places ix.now.numbers ix.now.chains
         × SurveyedOf (edits_of recs.now n) (decode_of rec.now) v
         × KeptFor (edits_of recs.now n) kept.old.names kept.old.rows }

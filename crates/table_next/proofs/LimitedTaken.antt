@@ -1,13 +1,14 @@
 -- A Set that is judged by what is kept of its box: what the look found of it is its survey, and where it names a
 -- version none of 1 to 6 is given to it. Assumes nothing.
 use mathlib.Core.Path.{◌≡◌, refl, sym, ◌∙◌}
-use mathlib.Core.Bool.{Bool, true, false, ◌&&◌, ◌||◌, cond}
+use mathlib.Core.Bool.{Bool, true, false, ◌&&◌, ◌||◌}
 use mathlib.Core.List.{List, [], ◌∷◌, ◌++◌}
 use mathlib.Core.Logic.{inl, inr}
 use Prim.Native.Nat.{ℕ}
 use lib.Dec.{eqb, leb}
 use lib.ListN.{length}
 use borrow.Author.Tests.{eq-eqb, eqb-true, lt-leb, not-true}
+use Rattle.std.specs.Prelude.{Option, Some, None, MatchOption}
 use Rattle.math_lists.specs.SortedLists.{any}
 use Rattle.math_lists.proofs.Booleans.{clash, decide, either, neither, or_right, off-where}
 use Rattle.edit_record.specs.declared.Edit.{Edit}
@@ -35,6 +36,7 @@ use Rattle.table_arrival.proofs.SixByCounters.{three-are}
 use Rattle.table_kept.specs.BoxForms.{KeptFor}
 use Rattle.table_kept.specs.ChainForms.{IndexedIn}
 use Rattle.table_kept.proofs.KeptAlong.{kept_more}
+use Rattle.table_plain.specs.declared.Took.{Took}
 use Rattle.table_plain.specs.TakingForms.{TakesShort, JudgedBy}
 
 none-of-seven :
@@ -198,7 +200,7 @@ set-where sites n m rs ps ns cs e r f h = elim (either r.limited (is_limited e) 
 
 -- what is kept tells of no record more, whether it was taken or not
 pub kept_either :
-    (ok : Bool) (es : List Edit) (e : Edit) (ns rows : List ℕ) → KeptFor es ns rows →
-    KeptFor (cond ok (es ++ (e ∷ [])) es) ns rows
-kept_either true es e ns rows h = kept_more es e ns rows h
-kept_either false es e ns rows h = h
+    (r : Option Took) (es : List Edit) (e : Edit) (ns rows : List ℕ) → KeptFor es ns rows →
+    MatchOption r (KeptFor es ns rows) (λ k. KeptFor (es ++ (e ∷ [])) ns rows)
+kept_either None es e ns rows h = h
+kept_either (Some k) es e ns rows h = kept_more es e ns rows h

@@ -1,18 +1,18 @@
 // The short way of a record: all that is asked of it is asked in one look. Where it or another Set of its box is
 // limited it is judged by what is kept of the box. A record that is not taken here goes the long way, which says why.
-ghost use Rattle.std.specs.Prelude.{◌≡◌, true, cond, [], ◌∷◌, ◌++◌, ◌+◌};
+ghost use Rattle.std.specs.Prelude.{◌≡◌, true, MatchOption, [], ◌∷◌, ◌++◌};
 ghost use Rattle.edit_record.specs.RecordBytes.{decode_of};
 ghost use Rattle.edit_record.specs.Answer1.{is_set};
 ghost use Rattle.edit_history.specs.EditsHeld.{edits_of};
 ghost use Rattle.table_drawing.specs.Tables.{tables_of};
 ghost use Rattle.table_index.specs.IndexForms.{counters_of, PassedOf};
 ghost use Rattle.table_kept.specs.BoxForms.{KeptFor};
-ghost use Rattle.table_plain.specs.TakingForms.{TakesShort, LeavesShort};
+ghost use Rattle.table_plain.specs.TakingForms.{TakesShort, TookShort};
 
 use edit_history::Surveyed;
 use edit_record::{AT_KIND, LIMITED};
-use table_index::{Index, Looked};
 use table_index::plain::look;
+use table_index::{Index, Looked};
 use table_kept::Kept;
 use table_plain::Took;
 
@@ -31,25 +31,20 @@ fn take_limited(
     kept: &mut Kept,
     rec: &[u8],
     a: Looked,
-) -> Took
+) -> Option<Took>
     requires { TakesShort
         (tables_of (counters_of sites n m held.old sum) records.old objects.old groups.old)
         ix.old.places ix.old.numbers ix.old.counts ix.old.chains rec.now
         × PassedOf sites n m records.old ix.old.places ix.old.numbers ix.old.counts (decode_of rec.now) a
         × (is_set (decode_of rec.now) ≡ true)
         × KeptFor (edits_of records.old n) kept.old.names kept.old.rows }
-    ensures { LeavesShort
-        (tables_of (counters_of sites n m held.old sum) records.old objects.old
-        groups.old)
-        rec.now result.ok
-        (tables_of (counters_of sites (n + cond result.ok 1 0) result.objects held.new result.sum)
-        records.new objects.new groups.new)
+    ensures { TookShort sites n m sum
+        (tables_of (counters_of sites n m held.old sum) records.old objects.old groups.old)
+        rec.now result held.new records.new objects.new groups.new
         ix.old.places ix.old.numbers ix.old.counts ix.old.chains
         ix.new.places ix.new.numbers ix.new.counts ix.new.chains
-        × KeptFor
-        (cond result.ok (edits_of records.old n ++ (decode_of rec.now ∷ []))
-        (edits_of records.old n))
-        kept.new.names kept.new.rows }
+        × MatchOption result (KeptFor (edits_of records.old n) kept.new.names kept.new.rows)
+        (λ k. KeptFor (edits_of records.old n ++ (decode_of rec.now ∷ [])) kept.new.names kept.new.rows) }
 {
     let v = Surveyed {
         torn: false,
@@ -62,7 +57,7 @@ fn take_limited(
     let j = table_kept::judge(kept, ix, records, n, rec, v);
     if j.nameless {
         table_kept::forget(kept);
-        return table_plain::not_taken(m, sum);
+        return None;
     }
     let judged = Looked {
         limited: a.limited,
@@ -70,13 +65,13 @@ fn take_limited(
         sets: a.sets,
         conflicts: j.conflicts,
     };
-    let t = table_plain::take_judged(
+    let Some(t) = table_plain::take_judged(
         ix, sites, n, m, sum, held, records, objects, groups, rec, judged,
-    );
-    if !t.ok {
+    ) else {
         table_kept::forget(kept);
-    }
-    t
+        return None;
+    };
+    Some(t)
 }
 
 // Takes a record, unless it is refused: then nothing is changed, but that no more may be kept of its box. There are n
@@ -93,26 +88,21 @@ pub fn take_short(
     groups: &mut [u64],
     kept: &mut Kept,
     rec: &[u8],
-) -> Took
+) -> Option<Took>
     requires { TakesShort
         (tables_of (counters_of sites n m held.old sum) records.old objects.old groups.old)
         ix.old.places ix.old.numbers ix.old.counts ix.old.chains rec.now
         × KeptFor (edits_of records.old n) kept.old.names kept.old.rows }
-    ensures { LeavesShort
-        (tables_of (counters_of sites n m held.old sum) records.old objects.old
-        groups.old)
-        rec.now result.ok
-        (tables_of (counters_of sites (n + cond result.ok 1 0) result.objects held.new result.sum)
-        records.new objects.new groups.new)
+    ensures { TookShort sites n m sum
+        (tables_of (counters_of sites n m held.old sum) records.old objects.old groups.old)
+        rec.now result held.new records.new objects.new groups.new
         ix.old.places ix.old.numbers ix.old.counts ix.old.chains
         ix.new.places ix.new.numbers ix.new.counts ix.new.chains
-        × KeptFor
-        (cond result.ok (edits_of records.old n ++ (decode_of rec.now ∷ []))
-        (edits_of records.old n))
-        kept.new.names kept.new.rows }
+        × MatchOption result (KeptFor (edits_of records.old n) kept.new.names kept.new.rows)
+        (λ k. KeptFor (edits_of records.old n ++ (decode_of rec.now ∷ [])) kept.new.names kept.new.rows) }
 {
     let Some(a) = look(ix, sites, held, records, n, m, rec) else {
-        return table_plain::not_taken(m, sum);
+        return None;
     };
     let kind = rec[AT_KIND];
     if a.limited | (kind == LIMITED) {
@@ -120,7 +110,5 @@ pub fn take_short(
             ix, sites, n, m, sum, held, records, objects, groups, kept, rec, a,
         );
     }
-    table_plain::take_plain(
-        ix, sites, n, m, sum, held, records, objects, groups, rec, a,
-    )
+    table_plain::take_plain(ix, sites, n, m, sum, held, records, objects, groups, rec, a)
 }

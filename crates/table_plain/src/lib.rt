@@ -16,7 +16,7 @@ ghost use Rattle.group_step.specs.StepForms.{Apart};
 ghost use Rattle.table_drawing.specs.Tables.{tables_of, objects_length};
 ghost use Rattle.table_index.specs.IndexForms.{counters_of, FitOf};
 ghost use Rattle.table_arrival.specs.Arrival.{put_entry};
-ghost use Rattle.table_plain.specs.TakingForms.{TakesShort, LeavesShort, spot_of, Enters, Steps, SetStored};
+ghost use Rattle.table_plain.specs.TakingForms.{TakesShort, TookShort, spot_of, Enters, Steps, SetStored};
 ghost use Rattle.table_plain.specs.TakingForms.{StoresBeside, StoredBeside, JudgedBy};
 
 use edit_record::{AT_KEY, AT_KIND, AT_SEQ, AT_SITE, CREATE, RECORD, SET, Seq, Site};
@@ -24,10 +24,9 @@ use group_step::GROUPS;
 use table_drawing::ENTRY;
 use table_index::{Index, Looked};
 
-// Whether a record was taken, how many objects there are then, and the sum.
+// How many objects there are after a record that was taken, and the sum.
 #[derive(Clone, Copy)]
 pub struct Took {
-    pub ok: bool,
     pub objects: u16,
     pub sum: u32,
 }
@@ -153,36 +152,22 @@ fn store(
     true
 }
 
-// What is said of a record that is not taken: there are as many objects as before, and the sum is as it was.
-pub fn not_taken(m: u16, sum: u32) -> Took
-    ensures { (result.ok ≡ false) × (result.objects ≡ m) × (result.sum ≡ sum) }
-{
-    Took {
-        ok: false,
-        objects: m,
-        sum,
-    }
-}
-
-// And of one that is.
+// What is said of a record that is taken, where there were m objects and this sum.
 fn taken(m: u16, sum: u32, rec: &[u8]) -> Took
     requires { (length rec.now ≡ record_length)
         × (span_of rec.now ≡ record_length)
         × (is_create (decode_of rec.now) ≡ true → m < most_objects) }
-    ensures { (result.ok ≡ true)
-        × (result.objects ≡ m + cond (is_create (decode_of rec.now)) 1 0)
+    ensures { (result.objects ≡ m + cond (is_create (decode_of rec.now)) 1 0)
         × (result.sum ≡ wrapped (sum + sum_of (record_words rec.now) rec.now)) }
 {
     let after = edit_sum::added(sum, edit_sum::sum_record(rec));
     if rec[AT_KIND] == CREATE {
         return Took {
-            ok: true,
             objects: m + 1,
             sum: after,
         };
     }
     Took {
-        ok: true,
         objects: m,
         sum: after,
     }
@@ -203,27 +188,24 @@ pub fn take_plain(
     groups: &mut [u64],
     rec: &[u8],
     a: Looked,
-) -> Took
+) -> Option<Took>
     requires { TakesShort
         (tables_of (counters_of sites n m held.old sum) records.old objects.old groups.old)
         ix.old.places ix.old.numbers ix.old.counts ix.old.chains rec.now
         × FitOf sites n m records.old ix.old.places ix.old.numbers ix.old.counts (decode_of rec.now) a }
-    ensures { LeavesShort
-        (tables_of (counters_of sites n m held.old sum) records.old objects.old
-        groups.old)
-        rec.now result.ok
-        (tables_of (counters_of sites (n + cond result.ok 1 0) result.objects held.new result.sum)
-        records.new objects.new groups.new)
+    ensures { TookShort sites n m sum
+        (tables_of (counters_of sites n m held.old sum) records.old objects.old groups.old)
+        rec.now result held.new records.new objects.new groups.new
         ix.old.places ix.old.numbers ix.old.counts ix.old.chains
         ix.new.places ix.new.numbers ix.new.counts ix.new.chains }
 {
     if !store(ix, n, m, objects, groups, rec, a) {
-        return not_taken(m, sum);
+        return None;
     }
     enter(held, n, &mut ix.places, rec);
     let whole = whole_of(rec);
     table_arrival::put_plain(records, n, whole);
-    taken(m, sum, rec)
+    Some(taken(m, sum, rec))
 }
 
 // Takes a Set of which a was found, with those of its object's Sets that were judged to conflict with it, unless there
@@ -240,31 +222,28 @@ pub fn take_judged(
     groups: &mut [u64],
     rec: &[u8],
     a: Looked,
-) -> Took
+) -> Option<Took>
     requires { TakesShort
         (tables_of (counters_of sites n m held.old sum) records.old objects.old groups.old)
         ix.old.places ix.old.numbers ix.old.counts ix.old.chains rec.now
         × JudgedBy (tables_of (counters_of sites n m held.old sum) records.old objects.old groups.old)
         ix.old.places ix.old.numbers ix.old.counts rec.now a }
-    ensures { LeavesShort
-        (tables_of (counters_of sites n m held.old sum) records.old objects.old
-        groups.old)
-        rec.now result.ok
-        (tables_of (counters_of sites (n + cond result.ok 1 0) result.objects held.new result.sum)
-        records.new objects.new groups.new)
+    ensures { TookShort sites n m sum
+        (tables_of (counters_of sites n m held.old sum) records.old objects.old groups.old)
+        rec.now result held.new records.new objects.new groups.new
         ix.old.places ix.old.numbers ix.old.counts ix.old.chains
         ix.new.places ix.new.numbers ix.new.counts ix.new.chains }
 {
     let kind = rec[AT_KIND];
     let key = rec[AT_KEY];
     if !store_set(ix, n, objects, groups, kind, key, a) {
-        return not_taken(m, sum);
+        return None;
     }
     enter(held, n, &mut ix.places, rec);
     table_arrival::put_record(records, n, rec);
-    Took {
-        ok: true,
+    let after = edit_sum::added(sum, edit_sum::sum_record(rec));
+    Some(Took {
         objects: m,
-        sum: edit_sum::added(sum, edit_sum::sum_record(rec)),
-    }
+        sum: after,
+    })
 }

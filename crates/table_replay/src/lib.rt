@@ -75,12 +75,11 @@ fn take_records(
             wide = edit_form::widened_from(rest);
         }
         let rec = edit_form::long_in(rest, form, used, &wide);
-        let t = table_next::short::take_short(
+        if let Some(t) = table_next::short::take_short(
             ix, sites, i, m, sum, &mut held, records, objects, groups, kept, rec,
-        );
-        m = t.objects;
-        sum = t.sum;
-        if t.ok {
+        ) {
+            m = t.objects;
+            sum = t.sum;
             continue;
         }
         let c = Counters {

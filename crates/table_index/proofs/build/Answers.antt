@@ -1,5 +1,5 @@
 -- `table_index::build` meets its contract: after i records, the index is that of the first i. Assumes nothing.
-use mathlib.Core.Path.{◌≡◌, refl, sym, ◌∙◌}
+use mathlib.Core.Path.{◌≡◌}
 use Prim.Native.Nat.{◌+◌}
 use native.Mathlib.Omega.{arith}
 use Rattle.edit_walk.specs.WalkForms.{count_in}

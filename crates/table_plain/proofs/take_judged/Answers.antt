@@ -8,9 +8,6 @@ use Rattle.table_plain.proofs.JudgedGoes.{judged-enters, judged-left}
 use borrow.Author.Rules.{rules}
 use Rattle.table_plain.proofs.take_judged.Goals as goal
 
-none_more : (n : ℕ) → n + 0 ≡ n
-none_more n = omega arith
-
 more-none : (n : ℕ) → n ≡ n + 0
 more-none n = omega arith
 
@@ -44,8 +41,7 @@ returns-then-not-store_set c =
     let w = c in
     let s = c in
     let a = s.args in
-    let x = c.not_taken.ensures in
-    rw (x.0, x.1, x.2, none_more a.n, w.store_set.ensures.1)
+    rw w.store_set.ensures.1
     (judged-crowded a.sites a.n a.m a.sum a.held.now a.records.now a.objects.now a.groups.now
     a.ix.now.places a.ix.now.numbers a.ix.now.counts a.ix.now.chains a.rec.now s.requires.0 a.a s.requires.1 _ _ _ _ _
     (rw (c.if-not-store_set.true) at w.store_set.ensures.0))
@@ -86,4 +82,4 @@ returns c =
     a.ix.now.places a.ix.now.numbers a.ix.now.counts a.ix.now.chains a.rec.now s.requires.0 a.a s.requires.1 _ _ _ _ _
     (rw (c.if-not-store_set.false) at w.store_set.ensures.0) _ _ _ _ _ n.0
     c.put_record.ensures at (more-none a.m)
-    (c.added.ensures ∙ ap (λ (k : ℕ). wrapped (a.sum + k)) c.sum_record.ensures)
+    (c.added-after.ensures ∙ ap (λ (k : ℕ). wrapped (a.sum + k)) c.sum_record.ensures)

@@ -2,7 +2,7 @@
 -- writes is what that leaves. Assumes nothing.
 use mathlib.Core.Path.{◌≡◌, ap, ◌∙◌}
 use mathlib.Core.List.{List}
-use Prim.Native.Nat.{ℕ, ◌+◌, ◌≤◌}
+use Prim.Native.Nat.{ℕ, ◌≤◌}
 use native.Mathlib.Omega.{arith}
 use lib.ListN.{length}
 use Rattle.edit_record.specs.Layout.{record_length}
@@ -13,9 +13,6 @@ use Rattle.table_plain.proofs.take_plain.Goals as goal
 use Rattle.table_plain.proofs.take_plain.Goals.{Start}
 
 -- ---- where things stand
-
-none_more : (n : ℕ) → n + 0 ≡ n
-none_more n = omega arith
 
 long_of : (s : Start) → length s.args.rec.now ≡ record_length
 long_of s =
@@ -41,8 +38,7 @@ returns-then-not-store c =
     let w = c in
     let s = c in
     let a = s.args in
-    let x = c.not_taken.ensures in
-    rw (x.0, x.1, x.2, none_more a.n, w.store.ensures.1)
+    rw w.store.ensures.1
     (not-stored a.sites a.n a.m a.sum a.held.now a.records.now a.objects.now a.groups.now
     a.ix.now.places a.ix.now.numbers a.ix.now.counts a.ix.now.chains a.rec.now s.requires.0 a.a s.requires.1 _ _ _ _ _
     (rw (c.if-not-store.true) at w.store.ensures.0))
@@ -87,8 +83,7 @@ returns c =
     let n = c.enter.ensures in
     let at = rw w.store.ensures.1 at n.1 in
     let x = c.taken.ensures in
-    rw x.0
     (stored-left a.sites a.n a.m a.sum a.held.now a.records.now a.objects.now a.groups.now
     a.ix.now.places a.ix.now.numbers a.ix.now.counts a.ix.now.chains a.rec.now s.requires.0 a.a s.requires.1 _ _ _ _ _
     (rw (c.if-not-store.false) at w.store.ensures.0) _ _ _ _ _ n.0 put at
-    x.1 x.2)
+    x.0 x.1)

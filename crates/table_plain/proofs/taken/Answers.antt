@@ -36,10 +36,10 @@ pub returns-then-rec-eq-CREATE : goal.returns-then-rec-eq-CREATE
 returns-then-rec-eq-CREATE c =
     let a = c.args in
     let create = eq-eqb (decode_of a.rec.now).kind create_kind c.if-rec-eq-CREATE.true in
-    (refl, rw create refl, sum-of (goal.at.returns-then-rec-eq-CREATE c).After-added-after)
+    (rw create refl, sum-of (goal.at.returns-then-rec-eq-CREATE c).After-added-after)
 
 pub returns : goal.returns
 returns c =
     let a = c.args in
     let other = ne_eqb (decode_of a.rec.now).kind create_kind c.if-rec-eq-CREATE.false in
-    (refl, rw (other, none_more a.m) refl, sum-of (goal.at.returns c).After-added-after)
+    (rw (other, none_more a.m) refl, sum-of (goal.at.returns c).After-added-after)

@@ -1,6 +1,4 @@
 -- `table_replay::replay` meets its contract. Assumes nothing.
-use mathlib.Core.Path.{refl}
-use mathlib.Core.List.{[]}
 use native.Mathlib.Omega.{arith}
 use Rattle.edit_form.specs.OldForm.{stored_in}
 use Rattle.table_drawing.specs.Tables.{tables_of}

@@ -30,7 +30,7 @@ use Rattle.table_given.proofs.OwnRecords.{holds, held-edits}
 use Rattle.table_given.proofs.ReplayGoes.{Going, going_start, going-faithful, going-sound}
 use Rattle.table_given.proofs.ReplayGoes.{going-ends, going-long, next-long}
 use Rattle.table_replay.proofs.RoomForAll.{next-room}
-use Rattle.table_replay.proofs.ShortOrLong.{short-took, short-kept, long-takes, long-leaves}
+use Rattle.table_replay.proofs.ShortOrLong.{short-kept, long-takes, long-leaves}
 use Rattle.table_replay.proofs.ShortOrLong.{going_next, parts-after, kept-after}
 use Rattle.table_replay.proofs.take_records.Invariants.{counted-in}
 use Rattle.table_replay.proofs.take_records.Goals as goal
@@ -131,8 +131,8 @@ slice_bounds-take_short-end c = sym (wide_at c.args.sites _ c.requires.3 c.loop-
 
 -- ---- the short way
 
-pub take_short-t-requires : goal.take_short-t-requires
-take_short-t-requires c =
+pub take_short-requires : goal.take_short-requires
+take_short-requires c =
     let a = c.args in
     let l = c.loop-i in
     let rest = take (length a.recs.now - l.at) (drop l.at a.recs.now) in
@@ -149,20 +149,20 @@ take_short-t-requires c =
           (sym (held-now a.sites _ c.requires.3 l.i _ l.invariant.1)) l.invariant.4,
     )
 
-pub loop-i-preserved-then-t : goal.loop-i-preserved-then-t
-loop-i-preserved-then-t c =
+pub loop-i-preserved-in-Some : goal.loop-i-preserved-in-Some
+loop-i-preserved-in-Some c =
     let a = c.args in
     let l = c.loop-i in
-    let p = c.take_short-t in
+    let p = c.take_short in
     let is = c.long_in-rec.ensures ∙ lent_is a.form a.recs.now l.i l.at l.invariant.0 _ refl in
-    let lv = short-took a.sites l.i p.ensures.0 c.if-t.true in (
+    let lv = c.in-Some.ensures.0.taken refl in (
       rw (add-one l.i)
           (next_start a.form a.recs.now l.i l.at l.invariant.0 c.length_from-used.result c.length_from-used.ensures),
       going_next a.sites _ c.requires.3 l.i _ l.invariant.1 _ (rw is at lv.outcome),
       lv.index refl,
       spaced-same (counted-in a.form a.recs.now a.n) _ _ (lv.starts refl) (lv.index refl).places-long l.invariant.3,
       kept-after (stored_in a.form a.recs.now) l.i _ _ _ _ (held-now a.sites _ c.requires.3 l.i _ l.invariant.1)
-          (ap decode_of is) (rw c.if-t.true at p.ensures.1),
+          (ap decode_of is) (c.in-Some.ensures.1),
       elim c.if-form-eq-OLD.branch [
         | then-form-eq-OLD v ↦ rw v.wide-is (search rules)
         | else-form-eq-OLD v ↦ rw v.wide-is c.loop-i.invariant.5
@@ -180,23 +180,23 @@ pub take_next-requires : goal.take_next-requires
 take_next-requires c =
     let a = c.args in
     let l = c.loop-i in
-    let p = c.take_short-t in
+    let p = c.take_short in
     let is = c.long_in-rec.ensures ∙ lent_is a.form a.recs.now l.i l.at l.invariant.0 _ refl in
-    let same = ap held_by (short-kept a.sites l.i p.ensures.0 c.if-t.false) in (
+    let same = ap held_by (short-kept a.sites l.i c.in_default.ensures.0) in (
       rw is
-          (long-takes a.sites l.i p.ensures.0 c.if-t.false
+          (long-takes a.sites l.i c.in_default.ensures.0
           (stored_in a.form a.recs.now l.i)
           (takes a.sites _ c.requires.3 l.i _ l.invariant.1 a.n c.loop-i-test.true _ _ _ _ l.invariant.2 l.invariant.3)),
-      subst (λ (es : List Edit). KeptFor es p.new.kept.names p.new.kept.rows) (sym same) (rw c.if-t.false at p.ensures.1),
+      subst (λ (es : List Edit). KeptFor es p.new.kept.names p.new.kept.rows) (sym same) (c.in_default.ensures.1),
     )
 
 pub shape_of-records-in-Err : goal.shape_of-records-in-Err
 shape_of-records-in-Err c =
     let a = c.args in
     let l = c.loop-i in
-    let p = c.take_short-t in
+    let p = c.take_short in
     let is = c.long_in-rec.ensures ∙ lent_is a.form a.recs.now l.i l.at l.invariant.0 _ refl in
-    let lv = long-leaves a.sites l.i p.ensures.0 c.if-t.false
+    let lv = long-leaves a.sites l.i c.in_default.ensures.0
     (stored_in a.form a.recs.now l.i) _ _ _ _ _ _ (rw is at c.in-Err.ensures.0) in
     (same-lengths a.sites (stored_in a.form a.recs.now) c.requires.3 c.requires.0 _ _ _ (next-long a.sites _ c.requires.3 l.i _ l.invariant.1 _ _ lv.outcome)).0
 
@@ -204,9 +204,9 @@ pub shape_of-objects-in-Err : goal.shape_of-objects-in-Err
 shape_of-objects-in-Err c =
     let a = c.args in
     let l = c.loop-i in
-    let p = c.take_short-t in
+    let p = c.take_short in
     let is = c.long_in-rec.ensures ∙ lent_is a.form a.recs.now l.i l.at l.invariant.0 _ refl in
-    let lv = long-leaves a.sites l.i p.ensures.0 c.if-t.false
+    let lv = long-leaves a.sites l.i c.in_default.ensures.0
     (stored_in a.form a.recs.now l.i) _ _ _ _ _ _ (rw is at c.in-Err.ensures.0) in
     (same-lengths a.sites (stored_in a.form a.recs.now) c.requires.3 c.requires.0 _ _ _ (next-long a.sites _ c.requires.3 l.i _ l.invariant.1 _ _ lv.outcome)).1
 
@@ -214,9 +214,9 @@ pub shape_of-groups-in-Err : goal.shape_of-groups-in-Err
 shape_of-groups-in-Err c =
     let a = c.args in
     let l = c.loop-i in
-    let p = c.take_short-t in
+    let p = c.take_short in
     let is = c.long_in-rec.ensures ∙ lent_is a.form a.recs.now l.i l.at l.invariant.0 _ refl in
-    let lv = long-leaves a.sites l.i p.ensures.0 c.if-t.false
+    let lv = long-leaves a.sites l.i c.in_default.ensures.0
     (stored_in a.form a.recs.now l.i) _ _ _ _ _ _ (rw is at c.in-Err.ensures.0) in
     (same-lengths a.sites (stored_in a.form a.recs.now) c.requires.3 c.requires.0 _ _ _ (next-long a.sites _ c.requires.3 l.i _ l.invariant.1 _ _ lv.outcome)).2
 
@@ -224,9 +224,9 @@ pub returns-in-Err : goal.returns-in-Err
 returns-in-Err c =
     let a = c.args in
     let l = c.loop-i in
-    let p = c.take_short-t in
+    let p = c.take_short in
     let is = c.long_in-rec.ensures ∙ lent_is a.form a.recs.now l.i l.at l.invariant.0 _ refl in
-    let lv = long-leaves a.sites l.i p.ensures.0 c.if-t.false
+    let lv = long-leaves a.sites l.i c.in_default.ensures.0
     (stored_in a.form a.recs.now l.i) _ _ _ _ _ _ (rw is at c.in-Err.ensures.0) in
     going-ends a.sites _ c.requires.3 l.i _ l.invariant.1 _ _ lv.outcome (refused c.in-Err.refusal) a.n c.loop-i-test.true
 
@@ -234,12 +234,12 @@ pub loop-i-preserved : goal.loop-i-preserved
 loop-i-preserved c =
     let a = c.args in
     let l = c.loop-i in
-    let p = c.take_short-t in
+    let p = c.take_short in
     let k = c.take_next in
     let is = c.long_in-rec.ensures ∙ lent_is a.form a.recs.now l.i l.at l.invariant.0 _ refl in
-    let lv = long-leaves a.sites l.i p.ensures.0 c.if-t.false
+    let lv = long-leaves a.sites l.i c.in_default.ensures.0
     (stored_in a.form a.recs.now l.i) _ _ _ _ _ _ (rw is at c.in-Ok.ensures.0) in
-    let same = ap held_by (short-kept a.sites l.i p.ensures.0 c.if-t.false) in
+    let same = ap held_by (short-kept a.sites l.i c.in_default.ensures.0) in
     let parts = parts-after _ _ (stored_in a.form a.recs.now l.i) lv.outcome in (
       rw (add-one l.i)
           (next_start a.form a.recs.now l.i l.at l.invariant.0 c.length_from-used.result c.length_from-used.ensures),

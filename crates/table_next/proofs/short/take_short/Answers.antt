@@ -1,6 +1,6 @@
 -- `table_next::take_short` meets its contract. Assumes nothing.
-use mathlib.Core.Path.{◌≡◌, refl}
-use Prim.Native.Nat.{ℕ, ◌+◌, ◌≤◌}
+use mathlib.Core.Path.{refl}
+use Prim.Native.Nat.{◌≤◌}
 use native.Mathlib.Omega.{arith}
 use lib.ListN.{length}
 use Rattle.math_lists.proofs.Booleans.{clash, neither}
@@ -16,9 +16,6 @@ use Rattle.table_next.proofs.LimitedTaken.{set-where, kept_either}
 use borrow.Author.Rules.{rules}
 use Rattle.table_next.proofs.short.take_short.Goals as goal
 use Rattle.table_next.proofs.short.take_short.Goals.{Start}
-
-none_more : (n : ℕ) → n + 0 ≡ n
-none_more n = omega arith
 
 there : (s : Start) → record_length ≤ length s.args.rec.now
 there s = omega (arith, s.requires.0.whole, span-least s.args.rec.now)
@@ -36,9 +33,7 @@ look-requires c =
 
 pub returns-in_default : goal.returns-in_default
 returns-in_default c =
-    let s = c in
-    let x = c.not_taken.ensures in
-    rw (x.0, x.1, x.2, none_more s.args.n) (
+    let s = c in (
       record { taken = λ y. clash y refl; tables = λ y. refl; index = λ y. (refl, refl, refl, refl) },
       s.requires.1,
     )
@@ -80,8 +75,8 @@ take_plain-requires c =
 pub returns : goal.returns
 returns c =
     let t = c.take_plain in
-    let s = c in
-    let a = s.args in (
+    let a = c.args in (
       t.ensures,
-      kept_either t.result.ok (edits_of a.records.now a.n) (decode_of a.rec.now) a.kept.now.names a.kept.now.rows s.requires.1,
+      kept_either t.result (edits_of a.records.now a.n) (decode_of a.rec.now) a.kept.now.names a.kept.now.rows
+          c.requires.1,
     )
