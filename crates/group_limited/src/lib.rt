@@ -24,6 +24,7 @@ ghost use Rattle.group_limited.specs.LimitedForms.{NamedBy};
 
 use edit_record::{AT_KIND, LIMITED, PLACE};
 use group_sight::{RECENT, list_of, marks_of, put_names};
+use group_step::SETS;
 
 // All that is asked of the Sets before a Set, and whether it is limited.
 #[derive(Clone, Copy)]
@@ -51,6 +52,31 @@ pub struct Told {
 pub struct Judged {
     pub nameless: bool,
     pub conflicts: u64,
+}
+
+// What is put down of the Sets of a box: their places and their names, for each those that conflict with it by document
+// 01's rule and its context, and what the authors of the last of them had seen.
+#[derive(Drop)]
+pub struct BoxRows {
+    pub members: [u16; SETS],
+    pub names: [u32; SETS],
+    pub plain: [u64; SETS],
+    pub contexts: [u64; SETS],
+    pub sees: [u64; RECENT],
+}
+
+impl BoxRows {
+    // Nothing is put down yet. What work space holds at first does not matter; zeros would be set by memset
+    // (docs/DECISIONS.md, 24).
+    pub fn none() -> BoxRows {
+        BoxRows {
+            members: [1; SETS],
+            names: [1; SETS],
+            plain: [1; SETS],
+            contexts: [1; SETS],
+            sees: [1; RECENT],
+        }
+    }
 }
 
 // Whether one of the Sets in the k first places is limited; only their kinds are read.
@@ -144,31 +170,18 @@ pub fn told_by(plain: &[u64], ctx: &[u64], n: usize, s: Sight) -> Told
     }
 }
 
-// What is told of the Set in place p, which comes after those in the n first places, by their names and their rows.
-pub fn told_at(
-    recs: &[u8],
-    places: &[u16],
-    names: &[u32],
-    sees: &[u64],
-    n: usize,
-    plain: &[u64],
-    ctx: &[u64],
-    p: u16,
-) -> Told
+// What is told of the Set in place p, which comes after those in the n first places, by what is put down of them.
+pub fn told_at(rows: &BoxRows, recs: &[u8], places: &[u16], n: usize, p: u16) -> Told
     requires { (n ≤ most_sets)
         × (n ≤ length places.now)
-        × (n ≤ length names.now)
-        × (most_recent ≤ length sees.now)
-        × (n ≤ length plain.now)
-        × (n ≤ length ctx.now)
-        × NamesIn recs.now places.now n names.now }
+        × NamesIn recs.now places.now n rows.now.names }
     ensures { (result.row < 2 ^ n) × SightedTo (sets_in recs.now places.now n)
-        (record_at recs.now p) sees.now
-        (RowsTell (sets_in recs.now places.now n) plain.now ctx.now →
+        (record_at recs.now p) rows.now.sees
+        (RowsTell (sets_in recs.now places.now n) rows.now.plain rows.now.contexts →
         ToldOf (sets_in recs.now places.now n) (record_at recs.now p) result) }
 {
-    let s = sight_at(recs, places, names, sees, n, p);
-    told_by(plain, ctx, n, s)
+    let s = sight_at(recs, places, &rows.names, &rows.sees, n, p);
+    told_by(&rows.plain, &rows.contexts, n, s)
 }
 
 // Marks Set n in the numbers of those before it that are members of `row`: only these are touched.
@@ -236,30 +249,16 @@ pub fn put_rows(
     }
 }
 
-// What the Set of rec is told, which arrives after those in the k first places, by their names and their rows.
-pub fn judge(
-    recs: &[u8],
-    places: &[u16],
-    names: &[u32],
-    sees: &[u64],
-    k: usize,
-    plain: &[u64],
-    ctx: &[u64],
-    rec: &[u8],
-) -> Judged
+// What the Set of rec is told, which arrives after the k first members, by what is put down of them.
+pub fn judge(rows: &BoxRows, recs: &[u8], k: usize, rec: &[u8]) -> Judged
     requires { (k ≤ most_sets)
-        × (k ≤ length places.now)
-        × (k ≤ length names.now)
-        × (most_recent ≤ length sees.now)
-        × (k ≤ length plain.now)
-        × (k ≤ length ctx.now)
-        × NamesIn recs.now places.now k names.now }
-    ensures { RowsTell (sets_in recs.now places.now k) plain.now ctx.now →
-        SeesTell (sets_in recs.now places.now k) sees.now →
-        JudgedOf (sets_in recs.now places.now k) (decode_of rec.now) result }
+        × NamesIn recs.now rows.now.members k rows.now.names }
+    ensures { RowsTell (sets_in recs.now rows.now.members k) rows.now.plain rows.now.contexts →
+        SeesTell (sets_in recs.now rows.now.members k) rows.now.sees →
+        JudgedOf (sets_in recs.now rows.now.members k) (decode_of rec.now) result }
 {
-    let s = sight_of(recs, places, names, sees, k, rec);
-    let t = told_by(plain, ctx, k, s);
+    let s = sight_of(recs, &rows.members, &rows.names, &rows.sees, k, rec);
+    let t = told_by(&rows.plain, &rows.contexts, k, s);
     Judged {
         nameless: t.nameless,
         conflicts: t.conflicts,

@@ -22,33 +22,7 @@ ghost use Rattle.group_named.specs.NamedForms.{FewSets, LawfulSets, is_named_at,
 
 use edit_history::RECORDS;
 use edit_record::{CREATE, LIMITED};
-use group_sight::RECENT;
-use group_step::SETS;
-
-// What is put down of the Sets of a box: their places and their names, for each those that conflict with it by document
-// 01's rule and its context, and what the authors of the last of them had seen.
-#[derive(Drop)]
-pub struct BoxRows {
-    pub members: [u16; SETS],
-    pub names: [u32; SETS],
-    pub plain: [u64; SETS],
-    pub contexts: [u64; SETS],
-    pub sees: [u64; RECENT],
-}
-
-impl BoxRows {
-    // Nothing is put down yet. What work space holds at first does not matter; zeros would be set by memset
-    // (docs/DECISIONS.md, 24).
-    pub fn none() -> BoxRows {
-        BoxRows {
-            members: [1; SETS],
-            names: [1; SETS],
-            plain: [1; SETS],
-            contexts: [1; SETS],
-            sees: [1; RECENT],
-        }
-    }
-}
+use group_limited::BoxRows;
 
 // Whether one of the first n records is a limited Set; only the kinds are read.
 fn is_limited_held(recs: &[u8], n: usize) -> bool

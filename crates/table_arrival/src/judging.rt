@@ -12,8 +12,7 @@ ghost use Rattle.table_arrival.specs.ArrivalForms.{TestedFor};
 
 use edit_history::Surveyed;
 use edit_record::{AT_KIND, AT_TARGET, AT_TARGET_SEQ, LIMITED, Seq, Site};
-use group_limited::Judged;
-use group_named::BoxRows;
+use group_limited::{BoxRows, Judged};
 use table_drawing::Counters;
 
 // What is judged by the rows of the box, which has k Sets, or none where 16 is given to a record held: the rows are
@@ -36,16 +35,7 @@ fn judge_by_rows(c: Counters, recs: &[u8], places: &[u16], rec: &[u8], k: usize)
     if !named {
         return None;
     }
-    let judged = group_limited::judge(
-        recs,
-        &rows.members,
-        &rows.names,
-        &rows.sees,
-        k,
-        &rows.plain,
-        &rows.contexts,
-        rec,
-    );
+    let judged = group_limited::judge(&rows, recs, k, rec);
     Some(judged)
 }
 

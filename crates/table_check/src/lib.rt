@@ -25,6 +25,7 @@ ghost use Rattle.table_check.specs.CheckForms.{WorkedOut, WorkedThrough};
 
 use edit_history::RECORDS;
 use edit_walk::PLACES;
+use group_limited::BoxRows;
 use group_sight::{RECENT, put_names};
 use group_step::{GROUPS, SETS};
 use table_drawing::entries::at16;
@@ -120,32 +121,25 @@ fn step_plainly(gs: &mut [u64], recs: &[u8], places: &[u16], k: usize) -> Option
 }
 
 // The same where Sets may be limited: the conflicts of each are told by the rows of those before it, which are put down
-// in `plain` and `ctx`, and by the names of all. Where 16 is given to one, it says none as well: no row is right then.
+// in `rows`, and by the names of all. Where 16 is given to one, it says none as well: no row is right then.
 fn step_limited(
     gs: &mut [u64],
-    plain: &mut [u64],
-    ctx: &mut [u64],
-    sees: &mut [u64],
+    rows: &mut BoxRows,
     recs: &[u8],
     places: &[u16],
-    names: &[u32],
     k: usize,
 ) -> Option<usize>
     requires { (length gs.old ≡ most_groups)
         × (take 1 gs.old ≡ 0 ∷ [])
-        × (k ≤ length plain.old)
-        × (k ≤ length ctx.old)
-        × (most_recent ≤ length sees.old)
         × (k ≤ length places.now)
         × (k ≤ most_sets)
         × Lawful (box_on (sets_in recs.now places.now k)) k
-        × (k ≤ length names.now)
-        × NamesIn recs.now places.now k names.now }
+        × NamesIn recs.now places.now k rows.old.names }
     ensures { WorkedThrough recs.now places.now k gs.new result }
 {
     let mut n: usize = 1;
     for i in 0..k {
-        let t = group_limited::told_at(recs, places, names, sees, i, plain, ctx, places[i]);
+        let t = group_limited::told_at(rows, recs, places, i, places[i]);
         if t.nameless {
             return None;
         }
@@ -153,8 +147,8 @@ fn step_limited(
         if GROUPS < n {
             return None;
         }
-        group_limited::put_told(plain, ctx, i, t.row, t.context);
-        sees[i % RECENT] = t.seen;
+        group_limited::put_told(&mut rows.plain, &mut rows.contexts, i, t.row, t.context);
+        rows.sees[i % RECENT] = t.seen;
     }
     Some(n)
 }
@@ -173,13 +167,9 @@ fn work_out(recs: &[u8], places: &[u16], k: usize, gs: &mut [u64]) -> Option<usi
     if !group_limited::is_any_limited(recs, places, k) {
         return step_plainly(gs, recs, places, k);
     }
-    // what work space holds at first does not matter; zeros would be set by memset (docs/DECISIONS.md, 24)
-    let mut plain = [1u64; SETS];
-    let mut ctx = [1u64; SETS];
-    let mut sees = [1u64; RECENT];
-    let mut names = [1u32; SETS];
-    put_names(&mut names, recs, places, k);
-    step_limited(gs, &mut plain, &mut ctx, &mut sees, recs, places, &names, k)
+    let mut rows = BoxRows::none();
+    put_names(&mut rows.names, recs, places, k);
+    step_limited(gs, &mut rows, recs, places, k)
 }
 
 // Whether 16 is given to none of the Sets of object o, which are found by the chain, and its row has their groups.

@@ -23,7 +23,7 @@ ghost use Rattle.table_engine.specs.EngineForms.{PreparedFor, found_as};
 
 use edit_record::{Seq, Site};
 use edit_walk::PLACES;
-use group_named::BoxRows;
+use group_limited::BoxRows;
 use group_step::{GROUPS, SETS};
 use table_drawing::{Counters, Refusal};
 use table_sets::by_key::KEY_CHAINS;

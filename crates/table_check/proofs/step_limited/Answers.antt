@@ -37,11 +37,11 @@ next-told b =
     let rs = a.recs.now in
     let ps = a.places.now in
     let t = b.told_at-t.result in
-    let law = lawful-to rs ps a.k s.requires.5 l.i (omega arith) _ refl s.requires.7 in
-    let told = b.told_at-t.ensures.1 l.invariant.7 law l.invariant.6 in (
+    let law = lawful-to rs ps a.k s.requires.2 l.i (omega arith) _ refl s.requires.4 in
+    let told = b.told_at-t.ensures.1 l.invariant.5 law l.invariant.4 in (
       told,
-      next-nameless rs ps a.k s.requires.5 l.i (omega arith) s.requires.7 l.invariant.8 t told,
-      taken rs ps a.k s.requires.5 l.i (omega arith) s.requires.7 l.invariant.8 t told,
+      next-nameless rs ps a.k s.requires.2 l.i (omega arith) s.requires.4 l.invariant.6 t told,
+      taken rs ps a.k s.requires.2 l.i (omega arith) s.requires.4 l.invariant.6 t told,
     )
 
 pub loop-i-init : goal.loop-i-init
@@ -52,10 +52,8 @@ loop-i-init c =
       omega arith,
       s.requires.1 ∙ sym (groups_none a.recs.now a.places.now),
       refl,
-      refl,
-      refl,
-      no_rows a.plain.now a.ctx.now,
-      none-sees a.sees.now,
+      no_rows a.rows.now.plain a.rows.now.contexts,
+      none-sees a.rows.now.sees,
       λ j l. absurd (omega arith),
     )
 
@@ -64,13 +62,9 @@ told_at-t-requires c =
     let l = c.loop-i in
     let s = c in
     let more = c.loop-i-test.true in (
-      omega (arith, s.requires.6, more),
-      omega (arith, s.requires.5, more),
-      omega (arith, s.requires.8, more),
-      omega (arith, l.invariant.5, s.requires.4, more),
-      omega (arith, l.invariant.3, s.requires.2, more),
-      omega (arith, l.invariant.4, s.requires.3, more),
-      λ j m. s.requires.9 j (omega (arith, more)),
+      omega (arith, s.requires.3, more),
+      omega (arith, s.requires.2, more),
+      rw l.invariant.3 (λ j m. s.requires.5 j (omega (arith, more))),
     )
 
 pub returns-then-t : goal.returns-then-t
@@ -115,25 +109,25 @@ put_told-requires c =
     let y = b in
     let l = y.loop-i in
     let s = y in (
-      omega (arith, s.requires.6, y.loop-i-test.true),
-      omega (arith, l.invariant.3, s.requires.2, y.loop-i-test.true),
-      omega (arith, l.invariant.4, s.requires.3, y.loop-i-test.true),
+      omega (arith, s.requires.3, y.loop-i-test.true),
+      omega (arith, s.requires.3, y.loop-i-test.true),
+      omega (arith, s.requires.3, y.loop-i-test.true),
       b.told_at-t.ensures.0,
     )
 
-pub offset_bounds-sees-i : goal.offset_bounds-sees-i
-offset_bounds-sees-i c =
+pub offset_bounds-rows-i : goal.offset_bounds-rows-i
+offset_bounds-rows-i c =
     let back = c in
     let y = back in
     let s = y in
-    record { fits = omega (arith, y.loop-i-test.true, s.requires.6) }
+    record { fits = omega (arith, y.loop-i-test.true, s.requires.3) }
 
-pub bounds-sees-i : goal.bounds-sees-i
-bounds-sees-i c =
+pub bounds-rows-i : goal.bounds-rows-i
+bounds-rows-i c =
     let back = c in
     let y = back in
     let s = y in
-    omega (arith, y.loop-i.invariant.5, s.requires.4, y.loop-i-test.true)
+    omega (arith, y.loop-i-test.true)
 
 pub loop-i-preserved : goal.loop-i-preserved
 loop-i-preserved c =
@@ -156,13 +150,10 @@ loop-i-preserved c =
       r.auto.gs ∙ l.invariant.0,
       omega (arith, f.false),
       settled-front _ l.gs r.new.gs r.result r.ensures.1 r.ensures.0 (omega (arith, f.false)) ∙ next,
-      p.auto.plain ∙ l.invariant.3,
-      p.auto.ctx ∙ l.invariant.4,
-      length-set l.sees (l.i % most_recent) t.seen ∙ l.invariant.5,
-      rows_more rs ps l.i (omega arith) t.row t.context l.plain l.ctx p.new.plain p.new.ctx
-          l.invariant.6 told.row x.context p.ensures,
-      sees_more rs ps l.i (omega arith) l.sees t.seen l.invariant.7 told.seen
-          (omega (arith, l.invariant.5, s.requires.4)),
+      l.invariant.3,
+      rows_more rs ps l.i (omega arith) t.row t.context l.rows.plain l.rows.contexts p.new.plain p.new.ctx
+          l.invariant.4 told.row x.context p.ensures,
+      sees_more rs ps l.i (omega arith) l.rows.sees t.seen l.invariant.5 told.seen (omega arith),
       x.free,
     )
 
@@ -173,6 +164,6 @@ returns c =
     let a = s.args in
     let k : l.i ≡ a.k = omega arith in (
       l.invariant.1,
-      turn-to a.recs.now a.places.now a.k s.requires.5 a.k (omega arith) s.requires.7 (rw k at l.invariant.8),
+      turn-to a.recs.now a.places.now a.k s.requires.2 a.k (omega arith) s.requires.4 (rw k at l.invariant.6),
       rw (← k) l.invariant.2,
     )

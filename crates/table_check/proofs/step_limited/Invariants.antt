@@ -16,9 +16,7 @@ invariant-loop-i l =
     (length l.gs ≡ most_groups)
     × (l.n ≤ most_groups)
     × (take l.n l.gs ≡ groups_in l.recs l.places l.i)
-    × (length l.plain ≡ length l.initial.plain)
-    × (length l.ctx ≡ length l.initial.ctx)
-    × (length l.sees ≡ length l.initial.sees)
-    × RowsTell (sets_in l.recs l.places l.i) l.plain l.ctx
-    × SeesTell (sets_in l.recs l.places l.i) l.sees
+    × (l.rows.names ≡ l.initial.rows.names)
+    × RowsTell (sets_in l.recs l.places l.i) l.rows.plain l.rows.contexts
+    × SeesTell (sets_in l.recs l.places l.i) l.rows.sees
     × ((j : ℕ) → j < l.i → nameless l.recs l.places j ≡ false)

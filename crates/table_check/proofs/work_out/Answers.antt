@@ -51,13 +51,9 @@ step_limited-requires c =
     let s = back in (
       simp length-set s.requires.2,
       take-suc-set s.args.gs.now 0 0 (omega (arith, s.requires.2)),
-      search rules,
-      search rules,
-      search rules,
       s.requires.0,
       s.requires.1,
       s.requires.3,
-      search rules,
       c.put_names.ensures,
     )
 

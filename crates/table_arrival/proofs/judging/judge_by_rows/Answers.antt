@@ -41,11 +41,6 @@ judge-judged-requires c =
     let named = c.are_named_last-named.ensures a.c.sites h.few-sites h.pass ix in
     let told = box-told a.c a.recs.now h a.places.now ix e held _ at _ _ _ _ _ (named.1 c.if-not-named.false) in (
       few,
-      search (rules, few),
-      search (rules, few),
-      search (rules, few),
-      search (rules, few),
-      search (rules, few),
       names-told a.c a.recs.now h a.places.now ix e held _ at a.k many _ _ _ _ _ told,
     )
 
