@@ -46,7 +46,7 @@ pub struct Looked {
 
 // Where each edit stands, the numbers of the objects of the Creates and of the Sets among those of their object, how
 // many Sets each object has, and their chains.
-#[derive(Clone, Copy)]
+#[derive(Drop)]
 pub struct Index {
     pub places: [u16; PLACES],
     pub numbers: [u8; RECORDS],
@@ -59,10 +59,10 @@ impl Index {
     pub fn none() -> Index
         ensures { (result.counts ≡ replicate most_objects 0) × (result.chains ≡ replicate chains_length 0) }
     {
-        // what the other two hold at first does not matter; zeros would be set by memset (docs/DECISIONS.md, 24)
+        // zeros in all: then it is made where it is to stand, and not first elsewhere, which would take stack twice
         Index {
-            places: [1u16; PLACES],
-            numbers: [1u8; RECORDS],
+            places: [0u16; PLACES],
+            numbers: [0u8; RECORDS],
             counts: [0u16; OBJECTS],
             chains: [0u8; chain::CHAINS],
         }

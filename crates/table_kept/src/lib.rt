@@ -37,7 +37,7 @@ const COUNT: usize = SETS + 2;
 const NAMES: usize = SETS + 3;
 
 // What is kept: the rows, and the names with what is behind them.
-#[derive(Clone, Copy)]
+#[derive(Drop)]
 pub struct Kept {
     pub rows: [u64; ROWS],
     pub names: [u32; NAMES],
@@ -48,9 +48,9 @@ impl Kept {
     pub fn none() -> Kept
         ensures { KeptFor [] result.names result.rows }
     {
-        // what the rows hold at first does not matter; zeros would be set by memset (docs/DECISIONS.md, 24)
+        // zeros in both: then it is made where it is to stand, and not first elsewhere, which would take stack twice
         Kept {
-            rows: [1u64; ROWS],
+            rows: [0u64; ROWS],
             names: [0u32; NAMES],
         }
     }

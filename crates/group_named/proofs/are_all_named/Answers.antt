@@ -3,7 +3,6 @@
 use mathlib.Core.Path.{sym, ◌∙◌}
 use native.Mathlib.Omega.{arith}
 use Rattle.group_named.proofs.BoxesNamed.{none-limited, some-limited}
-use borrow.Author.Rules.{rules}
 use Rattle.group_named.proofs.are_all_named.Goals as goal
 
 pub returns-then-not-is_limited_held : goal.returns-then-not-is_limited_held

@@ -2,7 +2,6 @@
 -- Assumes nothing.
 use mathlib.Core.Path.{◌≡◌}
 use mathlib.Core.Bool.{true}
-use lib.ListN.{length}
 use Rattle.math_lists.specs.NumbersBelow.{all}
 use Rattle.edit_history.specs.EditsHeld.{edits_of}
 use Rattle.group_named.specs.ChainForms.{ByteChained}

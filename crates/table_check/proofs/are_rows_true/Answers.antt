@@ -1,6 +1,5 @@
 -- `table_check::are_rows_true` meets its contract. Assumes nothing.
 use mathlib.Core.Path.{◌≡◌, refl}
-use Prim.Native.Nat.{◌-◌}
 use native.Mathlib.Numerals.{add-one}
 use native.Mathlib.Omega.{arith}
 use Rattle.math_lists.specs.NumbersBelow.{all}

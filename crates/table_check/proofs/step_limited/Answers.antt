@@ -2,14 +2,14 @@
 -- down. Assumes nothing.
 use mathlib.Core.Path.{◌≡◌, refl, sym, ap, ◌∙◌}
 use mathlib.Core.Bool.{false}
-use Prim.Native.Nat.{◌+◌, ◌-◌, ◌%◌}
+use Prim.Native.Nat.{◌+◌}
 use native.Mathlib.Omega.{arith}
-use lib.ListN.{length, get_or, length-set}
+use lib.ListN.{length, get_or}
 use Rattle.math_lists.proofs.Booleans.{clash}
 use Rattle.edit_causal.proofs.ConflictsAmongSets.{none-itself}
 use Rattle.edit_history.specs.EditsHeld.{record_at}
 use Rattle.group_limited.specs.LimitedForms.{ToldOf}
-use Rattle.group_sight.specs.SightForms.{sets_in, most_recent}
+use Rattle.group_sight.specs.SightForms.{sets_in}
 use Rattle.group_limited.proofs.RowsInPlaces.{no_rows, rows_more, none-sees, sees_more}
 use Rattle.group_limited.proofs.NamedInTurn.{nameless, lawful-to}
 use Rattle.table_check.proofs.RowWorkedOut.{groups_none, stepped, in-ascending, in-below, in-apart, in-more}

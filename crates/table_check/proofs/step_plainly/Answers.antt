@@ -1,6 +1,6 @@
 -- `table_check::step_plainly` meets its contract: after i Sets, their groups stand in front. Assumes nothing.
 use mathlib.Core.Path.{◌≡◌, refl, sym, ap, ◌∙◌}
-use Prim.Native.Nat.{◌+◌, ◌-◌}
+use Prim.Native.Nat.{◌+◌}
 use native.Mathlib.Omega.{arith}
 use lib.ListN.{length, get_or, take, get_or-replicate}
 use Rattle.edit_causal.proofs.ConflictsAmongSets.{none-itself}

@@ -5,7 +5,6 @@ use lib.ListN.{length-set}
 use lib.Seq.{take-suc-set}
 use Rattle.table_check.specs.CheckForms.{groups_in, ProperInTurn, WorkedOut, WorkedThrough}
 use Rattle.table_check.proofs.SetsInTurn.{none-limited-turn}
-use borrow.Author.Rules.{rules}
 use Rattle.table_check.proofs.work_out.Goals as goal
 
 -- where 16 can be given to none
