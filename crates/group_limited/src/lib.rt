@@ -13,7 +13,7 @@ ghost use Rattle.edit_record.specs.declared.Edit.{Edit};
 ghost use Rattle.edit_record.specs.RecordBytes.{decode_of};
 ghost use Rattle.edit_record.specs.Answer1.{is_limited};
 ghost use Rattle.edit_causal.specs.Conflict.{box_on};
-ghost use Rattle.edit_causal.specs.ConflictForms.{Proper, plain_marks};
+ghost use Rattle.edit_causal.specs.ConflictForms.{plain_marks};
 ghost use Rattle.edit_history.specs.EditsHeld.{record_at};
 ghost use Rattle.edit_history.specs.Answer16.{nameless_among};
 ghost use Rattle.group_step.specs.GroupRows.{most_sets};
@@ -217,36 +217,6 @@ pub fn put_told(plain: &mut [u64], ctx: &mut [u64], n: usize, row: u64, own: u64
 {
     put_row(plain, n, row);
     ctx[n] = own;
-}
-
-// Puts down the rows of the Sets in the k first places, whose names these are, each by those before it, and in `sees`
-// what the authors of the last of them had seen.
-pub fn put_rows(
-    plain: &mut [u64],
-    ctx: &mut [u64],
-    sees: &mut [u64],
-    recs: &[u8],
-    places: &[u16],
-    names: &[u32],
-    k: usize,
-)
-    requires { (k ≤ most_sets)
-        × (k ≤ length places.now)
-        × (k ≤ length names.now)
-        × (k ≤ length plain.old)
-        × (k ≤ length ctx.old)
-        × (most_recent ≤ length sees.old)
-        × NamesIn recs.now places.now k names.now }
-    ensures { Proper (sets_in recs.now places.now k) →
-        RowsTell (sets_in recs.now places.now k) plain.new ctx.new
-        × SeesTell (sets_in recs.now places.now k) sees.new }
-{
-    for i in 0..k {
-        let s = sight_at(recs, places, names, sees, i, places[i]);
-        let own = left_by(plain, ctx, s);
-        put_told(plain, ctx, i, s.plain, own);
-        sees[i % RECENT] = s.seen;
-    }
 }
 
 // What the Set of rec is told, which arrives after the k first members, by what is put down of them.
