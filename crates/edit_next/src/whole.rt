@@ -58,7 +58,7 @@ pub fn is_all_seen(held: &[u16], recs: &[u8], n: usize, rec: &[u8]) -> bool
 }
 
 // Whether none of 1 to 5 is given to a record that is there whole, after the first n records, where it is known of some
-// that they have seen all of these.
+// that they have seen all of these. That is a fact about them, found once and asked for twice, and not a step to run.
 pub fn is_passing_with(
     all: bool,
     sites: u8,

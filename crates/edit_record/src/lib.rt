@@ -19,6 +19,7 @@ pub const SITES: usize = 16;
 // The attribute keys are the numbers below this one.
 pub const KEYS: u8 = 16;
 
+// The kinds. No enum: a record is any bytes, and what `decode` gives of one keeps its kind, whatever number that is.
 pub const CREATE: u8 = 1;
 
 pub const SET: u8 = 2;

@@ -57,6 +57,7 @@ pub fn gather_sets(out: &mut [u16], chain: &[u8], p: usize) -> usize
 {
     let mut at = byte_at(chain, p);
     let mut k: usize = 0;
+    // goes from place to place along the chain; k bounds it
     while (at != 0) & (k < SETS) {
         out[k] = at as u16;
         k += 1;

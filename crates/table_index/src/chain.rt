@@ -102,6 +102,7 @@ pub fn marks_along(
     let o = edit_record::byte_at(numbers, q) as usize;
     let mut marks: u64 = 0;
     let mut p = edit_record::byte_at(chains, o * KEYS as usize + key as usize) as usize;
+    // goes from place to place along the chain, and counts nothing
     while 0 < p {
         let b = is_unseen_at(recs, p, rec, x);
         let k = edit_record::byte_at(numbers, p) as usize;

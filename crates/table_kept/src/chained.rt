@@ -26,6 +26,7 @@ fn put_chain(
 {
     let o = byte_at(numbers, q) as usize;
     let mut p = byte_at(chains, o * KEYS as usize + key) as usize;
+    // goes from place to place along the chain, and counts nothing
     while 0 < p {
         let k = byte_at(numbers, p) as usize;
         out[k] = p as u16;
