@@ -10,8 +10,8 @@ ghost use Rattle.edit_form.specs.OldForm.{long_from};
 
 use edit_record::{AT_KIND, AT_SITE, AT_VECTOR, CREATE, Edit, RECORD, SET, SITES};
 
-// The forms, by the number that a trailer has for each. No enum: a stretch is walked in a form that any caller names, and
-// what is not the old form is the long one.
+// The forms, by the number that a trailer has for each. No enum: a stretch is walked in a form that any caller names,
+// and what is not the old form is the long one.
 pub const OLD: u8 = 0;
 
 pub const LONG: u8 = 1;
