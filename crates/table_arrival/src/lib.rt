@@ -32,6 +32,17 @@ pub struct Mates {
     pub limited: bool,
 }
 
+// The bytes of the record src into d. A loop: of a length that is known at run time alone, `copy_from_slice` is a call,
+// and reading a file takes longer by it.
+fn copy_record(d: &mut [u8], src: &[u8])
+    requires { length d.old ≡ length src.now }
+    ensures { d.new ≡ src.now }
+{
+    for i in 0..src.len() {
+        d[i] = src[i];
+    }
+}
+
 // The record rec at the front of place p.
 pub fn put_record(recs: &mut [u8], p: usize, rec: &[u8])
     requires { (p < most_records)
@@ -42,7 +53,7 @@ pub fn put_record(recs: &mut [u8], p: usize, rec: &[u8])
 {
     let at = p * PLACE;
     let end = at + rec.len();
-    recs[at..end].copy_from_slice(rec);
+    copy_record(&mut recs[at..end], rec);
 }
 
 // A plain record at the front of place p.

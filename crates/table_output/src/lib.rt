@@ -9,12 +9,15 @@ ghost use Rattle.table_output.specs.Output.{writing, written_at};
 
 use table_drawing::Refusal;
 
-// The first n bytes of src at the start of out.
+// The first n bytes of src at the start of out. A loop: where a length is known at run time alone, `copy_from_slice` is a
+// call, which takes more stack than docs/MANUAL.md says.
 pub fn copy_in(out: &mut [u8], src: &[u8], n: usize)
     requires { (n ≤ length out.old) × (n ≤ length src.now) }
     ensures { out.new ≡ take n src.now ++ drop n out.old }
 {
-    out[..n].copy_from_slice(&src[..n]);
+    for i in 0..n {
+        out[i] = src[i];
+    }
 }
 
 // Whether so many bytes have room from the start on in an output of n bytes.
