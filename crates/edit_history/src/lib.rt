@@ -2,7 +2,7 @@
 // of them.
 #![tactic(auto)]
 
-ghost use Rattle.std.specs.Prelude.{◌≡◌, true, false, cond, ◌||◌, ◌+◌, ◌^◌, ◌≤◌, ◌<◌, length, get_or, leb, ltb};
+ghost use Rattle.std.specs.Prelude.{◌≡◌, true, cond, ◌||◌, ◌+◌, ◌^◌, ◌≤◌, ◌<◌, length, get_or, leb, ltb};
 ghost use Rattle.edit_record.specs.Layout.{most_sites, two_bytes};
 ghost use Rattle.edit_record.specs.Answer1.{entry_of};
 ghost use Rattle.edit_history.specs.EditsHeld.{most_records, record_at};
@@ -14,17 +14,21 @@ use edit_record::{AT_KIND, Edit, PLACE, RECORD, SITES, Seq, Site};
 // The records held, Creates included, are at most so many.
 pub const RECORDS: usize = 256;
 
-// What an arriving edit asks of the edits held: whether 4 applies, whether its target is held, the number of its
-// object, how many Sets that has, which of them conflict with it by document 01's rule, bit i for the i-th, and whether
-// one of them is limited.
+// What an edit whose target is held asks of the edits held: the number of its object, how many Sets that has, which of
+// them conflict with it by document 01's rule, bit i for the i-th, and whether one of them is limited.
 #[derive(Clone, Copy)]
-pub struct Surveyed {
-    pub torn: bool,
-    pub found: bool,
+pub struct Held {
     pub object: usize,
     pub sets: usize,
     pub plain: u64,
     pub limited: bool,
+}
+
+// What an arriving edit asks of the edits held: whether 4 applies, and all the rest if its target is held.
+#[derive(Clone, Copy)]
+pub struct Surveyed {
+    pub torn: bool,
+    pub held: Option<Held>,
 }
 
 // The edit in place p of a table of records; a place past the end holds zeros. With `get` and `unwrap_or` in place of
@@ -129,18 +133,4 @@ pub fn marked_if(b: bool, m: u64, k: usize) -> u64
     ensures { result ≡ m + cond b (2 ^ k) 0 }
 {
     if b { m + (1 << k) } else { m }
-}
-
-// What is found of an edit whose target is not held.
-pub fn none_found(torn: bool) -> Surveyed
-    ensures { (result.torn ≡ torn) × (result.found ≡ false) }
-{
-    Surveyed {
-        torn,
-        found: false,
-        object: 0,
-        sets: 0,
-        plain: 0,
-        limited: false,
-    }
 }

@@ -5,7 +5,6 @@ ghost use Rattle.math_lists.specs.SortedLists.{any};
 ghost use Rattle.edit_record.specs.Layout.{most_sites, record_length, place_length};
 ghost use Rattle.edit_record.specs.RecordBytes.{decode_of};
 ghost use Rattle.edit_history.specs.EditsHeld.{most_records, edits_of, sets_on, is_target};
-ghost use Rattle.edit_history.specs.Answers2to5.{is_torn};
 ghost use Rattle.edit_history.specs.Answer16.{records_named};
 ghost use Rattle.edit_history.specs.SurveyForms.{survey_of, SurveyedOf, repeated_against, early_against};
 ghost use Rattle.edit_walk.specs.WalkForms.{Indexed, in_turn_against};
@@ -16,7 +15,7 @@ ghost use Rattle.table_arrival.specs.Answers6and7.{first_of, in_turn};
 ghost use Rattle.table_arrival.specs.ArrivalForms.{three_by, MatesOf};
 
 use super::Mates;
-use edit_history::Surveyed;
+use edit_history::{Held, Surveyed};
 use edit_record::{
     AT_KIND, AT_SEQ, AT_SITE, AT_TARGET, AT_TARGET_SEQ, CREATE, LIMITED, PLACE, Seq, Site,
 };
@@ -96,23 +95,20 @@ fn mates_on(recs: &[u8], n: usize, s: Site, q: Seq, rec: &[u8]) -> Mates
 }
 
 // All that a record whose target is held asks of the records held.
-fn survey_held(c: Counters, recs: &[u8], places: &[u16], rec: &[u8], torn: bool) -> Surveyed
+fn survey_held(c: Counters, recs: &[u8], places: &[u16], rec: &[u8]) -> Held
     requires { Holds c recs.now
         × (most_records * place_length ≤ length recs.now)
         × Indexed recs.now c.records places.now
         × (record_length ≤ length rec.now)
         × (any (is_target (decode_of rec.now)) (edits_of recs.now c.records) ≡ true) }
-    ensures { torn ≡ is_torn (edits_of recs.now c.records) (decode_of rec.now) →
-        result ≡ survey_of (edits_of recs.now c.records) (decode_of rec.now) }
+    ensures { result ≡ survey_of (edits_of recs.now c.records) (decode_of rec.now) }
 {
     let s = rec[AT_TARGET];
     let q = edit_record::pair_at(rec, AT_TARGET_SEQ);
     let p = edit_walk::place_at(places, Site(s), Seq(q));
     let object = creates_before(recs, p as usize);
     let m = mates_on(recs, c.records as usize, Site(s), Seq(q), rec);
-    Surveyed {
-        torn,
-        found: true,
+    Held {
         object,
         sets: m.sets,
         plain: m.plain,
@@ -132,9 +128,16 @@ pub fn survey(c: Counters, recs: &[u8], places: &[u16], rec: &[u8]) -> Surveyed
 {
     let a = table_index::aim_of(c, recs, places, rec);
     if !a.held {
-        return edit_history::none_found(a.torn);
+        return Surveyed {
+            torn: a.torn,
+            held: None,
+        };
     }
-    survey_held(c, recs, places, rec, a.torn)
+    let held = survey_held(c, recs, places, rec);
+    Surveyed {
+        torn: a.torn,
+        held: Some(held),
+    }
 }
 
 // Why a record that asks nothing of the Sets held is refused: 8 before r, where 16 is given to a record held.

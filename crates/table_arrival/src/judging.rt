@@ -1,10 +1,11 @@
 // What is tested of an arriving record at tables that are sound but for 16, and judged of it where 16 is given to none
 // of the records held: whether it is given to the arriving one, and which Sets conflict with it.
-ghost use Rattle.std.specs.Prelude.{◌≡◌, true, ◌≤◌, length};
+ghost use Rattle.std.specs.Prelude.{◌≡◌, true, false, ◌≤◌, length, is_some, IfSome};
 ghost use Rattle.math_lists.specs.SortedLists.{any};
 ghost use Rattle.edit_record.specs.Layout.{record_length};
 ghost use Rattle.edit_record.specs.RecordBytes.{decode_of};
 ghost use Rattle.edit_history.specs.EditsHeld.{edits_of, sets_on, is_target};
+ghost use Rattle.edit_history.specs.Answer16.{records_named};
 ghost use Rattle.edit_history.specs.SurveyForms.{SurveyedOf};
 ghost use Rattle.edit_walk.specs.WalkForms.{Indexed};
 ghost use Rattle.table_index.specs.IndexForms.{Holds};
@@ -39,6 +40,22 @@ fn judge_by_rows(c: Counters, recs: &[u8], places: &[u16], rec: &[u8], k: usize)
     Some(judged)
 }
 
+// What is judged where document 01's conflicts, plain, are all that there are, or none where 16 is given to a record
+// held.
+fn judge_plainly(c: Counters, recs: &[u8], places: &[u16], plain: u64) -> Option<Judged>
+    requires { Holds c recs.now × Indexed recs.now c.records places.now }
+    ensures { (is_some result ≡ records_named recs.now c.records)
+        × IfSome result (λ j. (j.nameless ≡ false) × (j.conflicts ≡ plain)) }
+{
+    if !group_named::are_all_named(recs, c.records as usize, places) {
+        return None;
+    }
+    Some(Judged {
+        nameless: false,
+        conflicts: plain,
+    })
+}
+
 // What is judged with the survey v, or none where 16 is given to a record held. Where no Set of its object is limited,
 // and it is not, document 01's conflicts are all that there are. One whose object is not held is not judged. The rows
 // are asked for in two places, so that their work space is no part of an arrival's, in which soundness was tested
@@ -48,20 +65,17 @@ pub fn judge(c: Counters, recs: &[u8], places: &[u16], rec: &[u8], v: Surveyed) 
         × Indexed recs.now c.records places.now
         × (record_length ≤ length rec.now)
         × SurveyedOf (edits_of recs.now c.records) (decode_of rec.now) v }
-    ensures { TestedFor v.found recs.now c.records (decode_of rec.now) result }
+    ensures { TestedFor (is_some v.held) recs.now c.records (decode_of rec.now) result }
 {
     let limited = edit_record::byte_at(rec, AT_KIND) == LIMITED;
-    if v.found & limited {
-        return judge_by_rows(c, recs, places, rec, v.sets);
+    let Some(h) = v.held else {
+        return judge_plainly(c, recs, places, 0);
+    };
+    if limited {
+        return judge_by_rows(c, recs, places, rec, h.sets);
     }
-    if v.found & v.limited {
-        return judge_by_rows(c, recs, places, rec, v.sets);
+    if h.limited {
+        return judge_by_rows(c, recs, places, rec, h.sets);
     }
-    if !group_named::are_all_named(recs, c.records as usize, places) {
-        return None;
-    }
-    Some(Judged {
-        nameless: false,
-        conflicts: v.plain,
-    })
+    judge_plainly(c, recs, places, h.plain)
 }

@@ -14,9 +14,9 @@ ghost use Rattle.table_drawing.specs.Tables.{tables_of, records_length, objects_
 ghost use Rattle.table_drawing.specs.AnswerNumbers.{outcome_of, answer_of};
 ghost use Rattle.table_arrival.specs.Answers6and7.{first_of, in_turn};
 ghost use Rattle.table_arrival.specs.Arrival.{counted, put_record, put_counts, put_entry, acceptance_of, arrival_of};
-ghost use Rattle.table_arrival.specs.ArrivalForms.{full_with, to_six_by, InHand, Ready};
+ghost use Rattle.table_arrival.specs.ArrivalForms.{full_with, surveyed_sets, to_six_by, InHand, Ready};
 
-use edit_history::{RECORDS, Surveyed};
+use edit_history::{Held, RECORDS, Surveyed};
 use edit_record::{AT_KIND, AT_SITE, CREATE, PLACE, RECORD, Site};
 use edit_walk::PLACES;
 use group_limited::Judged;
@@ -152,14 +152,24 @@ fn first_reason(
     Ok(())
 }
 
+// How many Sets the object of an edit has by its survey; none, where its target is not held.
+fn sets_of(v: Surveyed) -> usize
+    ensures { result ≡ surveyed_sets v }
+{
+    match v.held {
+        Some(h) => h.sets,
+        None => 0,
+    }
+}
+
 // 4 to 6, the first that applies to a record to which none of 1 to 3 is given, from the counters, the survey of the
 // records and what is judged of the edit.
 fn refusal(c: Counters, rec: &[u8], v: Surveyed, j: Judged) -> Result<(), Refusal>
     ensures { answer_of result ≡ first_of in_turn (to_six_by c rec.now v j) }
 {
     let kind = edit_record::byte_at(rec, AT_KIND);
-    let five = edit_record::is_aimed_kind(kind) & !v.found;
-    let six = is_full(c, kind, v.sets);
+    let five = edit_record::is_aimed_kind(kind) & v.held.is_none();
+    let six = is_full(c, kind, sets_of(v));
     first_reason(false, false, false, v.torn, five, j.nameless, six)
 }
 
@@ -223,17 +233,17 @@ fn take_set(
     objects: &mut [u16],
     groups: &mut [u64],
     rec: &[u8],
-    v: Surveyed,
+    h: Held,
     j: Judged,
     apart: bool,
 ) -> Result<Counters, Refusal>
-    requires { Ready (tables_of c records.old objects.old groups.old) rec.now v j apart }
+    requires { Ready (tables_of c records.old objects.old groups.old) rec.now h j apart }
     ensures { outcome_of (answer_of result) (tables_of (result_unwrap_or result c) records.new objects.new groups.new)
         ≡ acceptance_of (tables_of c records.old objects.old groups.old)
         rec.now }
 {
-    let o = v.object;
-    let k = v.sets;
+    let o = h.object;
+    let k = h.sets;
     let g = objects[o * ENTRY + 2];
     let m = group_apart::step_known(groups, o, g as usize, j.conflicts, k, apart);
     if group_step::GROUPS < m {
@@ -280,7 +290,11 @@ pub fn accept(
     refusal(c, rec, v, j)?;
     let kind = edit_record::byte_at(rec, AT_KIND);
     if edit_record::is_set_kind(kind) {
-        return take_set(c, records, objects, groups, rec, v, j, apart);
+        // 5 has been given to a Set whose target is not held
+        let Some(h) = v.held else {
+            return Err(Refusal::Astray);
+        };
+        return take_set(c, records, objects, groups, rec, h, j, apart);
     }
     let s = Site(edit_record::byte_at(rec, AT_SITE));
     let d = if kind == CREATE {

@@ -19,7 +19,7 @@ ghost use Rattle.table_drawing.specs.declared.Counters.{Counters};
 ghost use Rattle.table_index.specs.IndexForms.{number_at, chains_length, IndexOf, Holds};
 ghost use Rattle.table_index.specs.IndexForms.{linked_in};
 
-use edit_history::{RECORDS, Surveyed};
+use edit_history::{Held, RECORDS, Surveyed};
 use edit_record::{AT_KEY, AT_TARGET, AT_TARGET_SEQ, CREATE, PLACE, Seq, Site};
 use edit_walk::PLACES;
 use group_step::OBJECTS;
@@ -129,15 +129,14 @@ pub fn build(ix: &mut Index, recs: &[u8], n: usize)
 }
 
 // All that an arriving edit asks of the records held, where its target is held.
-fn survey_held(ix: &Index, c: Counters, recs: &[u8], rec: &[u8], torn: bool) -> Surveyed
+fn survey_held(ix: &Index, c: Counters, recs: &[u8], rec: &[u8]) -> Held
     requires { Holds c recs.now
         × (most_records * place_length ≤ length recs.now)
         × IndexOf recs.now c.records ix.now.places ix.now.numbers ix.now.counts ix.now.chains
         × (record_length ≤ length rec.now)
         × (in_turn_against c.sites c.held (decode_of rec.now) ≡ true)
         × (any (is_target (decode_of rec.now)) (edits_of recs.now c.records) ≡ true) }
-    ensures { torn ≡ is_torn (edits_of recs.now c.records) (decode_of rec.now) →
-        result ≡ survey_of (edits_of recs.now c.records) (decode_of rec.now) }
+    ensures { result ≡ survey_of (edits_of recs.now c.records) (decode_of rec.now) }
 {
     let seq = edit_record::pair_at(rec, AT_TARGET_SEQ);
     let q = edit_walk::place_at(&ix.places, Site(rec[AT_TARGET]), Seq(seq)) as usize;
@@ -145,9 +144,7 @@ fn survey_held(ix: &Index, c: Counters, recs: &[u8], rec: &[u8], torn: bool) -> 
     let sets = at16(&ix.counts, object) as usize;
     let plain = chain::marks_for(recs, c.records as usize, &ix.numbers, &ix.chains, q, rec);
     let limited = edit_record::byte_at(&ix.chains, chain::LIMITS + object) != 0;
-    Surveyed {
-        torn,
-        found: true,
+    Held {
         object,
         sets,
         plain,
@@ -184,7 +181,14 @@ pub fn survey(ix: &Index, c: Counters, recs: &[u8], rec: &[u8]) -> Surveyed
 {
     let a = aim_of(c, recs, &ix.places, rec);
     if !a.held {
-        return edit_history::none_found(a.torn);
+        return Surveyed {
+            torn: a.torn,
+            held: None,
+        };
     }
-    survey_held(ix, c, recs, rec, a.torn)
+    let held = survey_held(ix, c, recs, rec);
+    Surveyed {
+        torn: a.torn,
+        held: Some(held),
+    }
 }

@@ -5,13 +5,13 @@
 
 pub mod chained;
 
-ghost use Rattle.std.specs.Prelude.{◌≡◌, true, ◌&&◌, ◌||◌, cond, List, [], ◌∷◌, ◌++◌, map, ℕ, ◌+◌, eqb, ltb, length, get_or};
+ghost use Rattle.std.specs.Prelude.{◌≡◌, true, ◌&&◌, ◌||◌, cond, List, [], ◌∷◌, ◌++◌, map, ℕ, ◌+◌, eqb, ltb, length, get_or, is_some};
 ghost use Rattle.math_lists.specs.SortedLists.{any};
 ghost use Rattle.edit_record.specs.Layout.{set_kind, limited_kind};
 ghost use Rattle.edit_record.specs.declared.Edit.{Edit};
 ghost use Rattle.edit_record.specs.RecordBytes.{decode_of};
 ghost use Rattle.edit_history.specs.EditsHeld.{record_at, edits_of, is_target, sets_on};
-ghost use Rattle.edit_history.specs.SurveyForms.{SurveyedOf};
+ghost use Rattle.edit_history.specs.SurveyForms.{survey_of, SurveyedOf};
 ghost use Rattle.group_step.specs.GroupRows.{most_sets};
 ghost use Rattle.group_limited.specs.LimitedForms.{JudgedWhere};
 ghost use Rattle.group_kept.specs.KeptForms.{rows_length};
@@ -19,7 +19,7 @@ ghost use Rattle.table_index.specs.IndexForms.{places_on};
 ghost use Rattle.table_kept.specs.ChainForms.{ChainsOn, IndexedIn};
 ghost use Rattle.table_kept.specs.BoxForms.{box_site_at, box_seq_at, told_at, kept_length, boxed, TellOf, KeptFor};
 
-use edit_history::Surveyed;
+use edit_history::{Held, Surveyed};
 use edit_record::{AT_KIND, AT_TARGET, AT_TARGET_SEQ, LIMITED, Seq, Site};
 use group_kept::ROWS;
 use group_limited::Judged;
@@ -129,27 +129,20 @@ pub fn forget(kept: &mut Kept)
 }
 
 // What is judged, by the rows of its box, of a record whose target is held among the first n.
-fn judge_by_rows(
-    kept: &mut Kept,
-    ix: &Index,
-    recs: &[u8],
-    n: usize,
-    rec: &[u8],
-    v: Surveyed,
-) -> Judged
+fn judge_by_rows(kept: &mut Kept, ix: &Index, recs: &[u8], n: usize, rec: &[u8], h: Held) -> Judged
     requires { IndexedIn recs.now n ix.now.places ix.now.numbers ix.now.chains
-        × SurveyedOf (edits_of recs.now n) (decode_of rec.now) v
-        × (v.found ≡ true)
+        × (any (is_target (decode_of rec.now)) (edits_of recs.now n) ≡ true)
+        × (h ≡ survey_of (edits_of recs.now n) (decode_of rec.now))
         × KeptFor (edits_of recs.now n) kept.old.names kept.old.rows }
-    ensures { JudgedWhere v.found
+    ensures { JudgedWhere true
         (sets_on (decode_of rec.now).tsite (decode_of rec.now).tseq
         (edits_of recs.now n))
         (decode_of rec.now) result
         × KeptFor (edits_of recs.now n ++ (decode_of rec.now ∷ [])) kept.new.names kept.new.rows }
 {
-    let k = v.sets;
+    let k = h.sets;
     make_ready(kept, ix, recs, n, rec, k);
-    let j = group_kept::judge(&mut kept.rows, &mut kept.names, k, rec, v.plain);
+    let j = group_kept::judge(&mut kept.rows, &mut kept.names, k, rec, h.plain);
     let told = told_after(k, edit_record::byte_at(rec, AT_KIND));
     put_box(&mut kept.names, rec, told);
     j
@@ -162,18 +155,24 @@ pub fn judge(kept: &mut Kept, ix: &Index, recs: &[u8], n: usize, rec: &[u8], v: 
     requires { IndexedIn recs.now n ix.now.places ix.now.numbers ix.now.chains
         × SurveyedOf (edits_of recs.now n) (decode_of rec.now) v
         × KeptFor (edits_of recs.now n) kept.old.names kept.old.rows }
-    ensures { JudgedWhere v.found
+    ensures { JudgedWhere (is_some v.held)
         (sets_on (decode_of rec.now).tsite (decode_of rec.now).tseq
         (edits_of recs.now n))
         (decode_of rec.now) result
         × KeptFor (edits_of recs.now n ++ (decode_of rec.now ∷ [])) kept.new.names kept.new.rows }
 {
-    let limited = edit_record::byte_at(rec, AT_KIND) == LIMITED;
-    if !(v.found & (limited | v.limited)) {
+    let Some(h) = v.held else {
         return Judged {
             nameless: false,
-            conflicts: v.plain,
+            conflicts: 0,
+        };
+    };
+    let limited = edit_record::byte_at(rec, AT_KIND) == LIMITED;
+    if !(limited | h.limited) {
+        return Judged {
+            nameless: false,
+            conflicts: h.plain,
         };
     }
-    judge_by_rows(kept, ix, recs, n, rec, v)
+    judge_by_rows(kept, ix, recs, n, rec, h)
 }

@@ -9,7 +9,7 @@ ghost use Rattle.table_index.specs.IndexForms.{counters_of, PassedOf};
 ghost use Rattle.table_kept.specs.BoxForms.{KeptFor};
 ghost use Rattle.table_plain.specs.TakingForms.{TakesShort, TookShort};
 
-use edit_history::Surveyed;
+use edit_history::{Held, Surveyed};
 use edit_record::{AT_KIND, LIMITED};
 use table_index::plain::look;
 use table_index::{Index, Looked};
@@ -48,11 +48,12 @@ fn take_limited(
 {
     let v = Surveyed {
         torn: false,
-        found: true,
-        object: a.object,
-        sets: a.sets,
-        plain: a.conflicts,
-        limited: a.limited,
+        held: Some(Held {
+            object: a.object,
+            sets: a.sets,
+            plain: a.conflicts,
+            limited: a.limited,
+        }),
     };
     let j = table_kept::judge(kept, ix, records, n, rec, v);
     if j.nameless {

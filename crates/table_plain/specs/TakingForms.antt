@@ -8,7 +8,7 @@ use Rattle.edit_record.specs.Layout.{most_sites, keys, set_kind}
 use Rattle.edit_record.specs.Answer1.{is_create}
 use Rattle.edit_record.specs.RecordBytes.{decode_of, span_of}
 use Rattle.edit_history.specs.EditsHeld.{most_records, count_from, is_target, object_of}
-use Rattle.edit_history.specs.declared.Surveyed.{Surveyed}
+use Rattle.edit_history.specs.declared.Held.{Held}
 use Rattle.edit_walk.specs.WalkForms.{Spaced, SameStarts, slot_of, place_of}
 use Rattle.group_step.specs.GroupRows.{most_objects, most_sets, most_groups, row, put_row, settled}
 use Rattle.group_step.specs.StepForms.{Apart}
@@ -139,10 +139,10 @@ pub record StoredBeside (n m : ℕ) (e : Edit) (r : Looked) (ok : Bool) (os gs n
 
 -- what was found of the Set b and judged of it, in r: the number of its object is the index's too
 pub record JudgedBy (t : Tables) (ps ns cs b : List ℕ) (r : Looked) : Type 0 where
-  pub survey : Surveyed
+  pub asked : Held
   pub judged : Judged
-  pub ready : Ready t b survey judged true
-  pub surveyed : (r.object ≡ survey.object) × (r.sets ≡ survey.sets)
+  pub ready : Ready t b asked judged true
+  pub surveyed : (r.object ≡ asked.object) × (r.sets ≡ asked.sets)
   pub conflicts : r.conflicts ≡ judged.conflicts
   pub held : any (is_target (decode_of b)) (held_by t) ≡ true
   pub own : r.object ≡ object_of (decode_of b) (held_by t)

@@ -50,7 +50,7 @@ marks_for-plain-requires c =
     )
 
 pub returns : goal.returns
-returns c torn =
+returns c =
     let c1 = c in
     let c3 = c1 in
     let c4 = c3 in
@@ -71,6 +71,6 @@ returns c torn =
     = c.byte_at-limited.ensures ∙ ap (λ (i : ℕ). get_or a.ix.now.chains (limit_at i) 0) o ∙ t.limits in
     let is : q ≡ place_of a.ix.now.places e.tsite.0 e.tseq.0
     = c5.place_at-q.ensures ∙ ap (place_of a.ix.now.places e.tsite.0) c5.pair_at-seq.ensures in
-    survey-found a.c rs s.requires.0 a.ix.now.places s.requires.2.indexed e s.requires.5 a.torn
-    (not (eqb c.byte_at-limited.result 0)) c4.byte_at-object.result c3.at16-sets.result c1.marks_for-plain.result torn
+    survey-found a.c rs s.requires.0 a.ix.now.places s.requires.2.indexed e s.requires.5
+    (not (eqb c.byte_at-limited.result 0)) c4.byte_at-object.result c3.at16-sets.result c1.marks_for-plain.result
     (o ∙ ap (number_at rs) is) (k ∙ t.count) plain (told (any is_limited ms) c.byte_at-limited.result limit)

@@ -16,9 +16,8 @@ pub make_ready-requires : goal.make_ready-requires
 make_ready-requires c =
     let s = c in
     let a = s.args in
-    let sv = s.requires.1 in
-    let (sets, _) = surveyed-sets (edits_of a.recs.now a.n) (decode_of a.rec.now) a.v sv s.requires.2 in
-    (s.requires.0, sym sv.found ∙ s.requires.2, sets, s.requires.3)
+    let (sets, _) = surveyed-sets (edits_of a.recs.now a.n) (decode_of a.rec.now) a.h s.requires.2 in
+    (s.requires.0, s.requires.1, sets, s.requires.3)
 
 pub judge-j-requires : goal.judge-j-requires
 judge-j-requires c =
@@ -26,7 +25,7 @@ judge-j-requires c =
     let a = s.args in
     let e = decode_of a.rec.now in
     let es = edits_of a.recs.now a.n in
-    let (sets, plain) = surveyed-sets es e a.v s.requires.1 s.requires.2 in
+    let (sets, plain) = surveyed-sets es e a.h s.requires.2 in
     let m = c.make_ready in (
       rw (sets, ← s.requires.0.all) (s.requires.0.holds.few-sets e.tsite e.tseq),
       omega arith,
@@ -46,7 +45,7 @@ returns c =
     let e = decode_of a.rec.now in
     let es = edits_of a.recs.now a.n in
     let ms = sets_on e.tsite e.tseq es in
-    let (sets, plain) = surveyed-sets es e a.v s.requires.1 s.requires.2 in
+    let (sets, plain) = surveyed-sets es e a.h s.requires.2 in
     let ready = c.make_ready in
     let j = c.judge-j in
     let (judged, put) = j.ensures ms (sym sets) ready.ensures.names ready.ensures.told plain in
