@@ -46,7 +46,7 @@ fn distance_at(file: &[u8], i: usize) -> usize
     requires { i ≤ file_limit }
     ensures { result ≡ four file.now i }
 {
-    edit_record::two_at(file, i) as usize + edit_record::two_at(file, i + 2) as usize * 65536
+    edit_record::four_at(file, i) as usize
 }
 
 // Whether the first n records of a stretch, walked one behind the other, end where it ends. A record that starts past
@@ -127,13 +127,7 @@ pub fn trailer_bytes(n: u16, sites: u8, distance: usize) -> [u8; TRAILER]
     requires { distance ≤ records_length }
     ensures { result ≡ trailer_of n sites distance }
 {
-    let near = distance % 65536;
-    let far = distance / 65536;
-    let a = (n % 256) as u8;
-    let b = (n / 256 % 256) as u8;
-    let c = (near % 256) as u8;
-    let d = (near / 256 % 256) as u8;
-    let e = (far % 256) as u8;
-    let f = (far / 256 % 256) as u8;
-    [a, b, sites, LONG, c, d, e, f]
+    let [low, high] = n.to_le_bytes();
+    let [a, b, c, d] = (distance as u32).to_le_bytes();
+    [low, high, sites, LONG, a, b, c, d]
 }
