@@ -73,31 +73,17 @@ fn put_identifier(
     w
 }
 
-// Puts ` key=value` for each key that a member of g sets, ascending, by the stamps of the t Sets and what is noted of
-// their keys.
-fn put_settings(
-    out: &mut [u8],
-    n: usize,
-    kept: &mut Pieces,
-    stamps: &[u64],
-    t: usize,
-    keyed: &[u64],
-    peaks: u64,
-    g: u64,
-) -> usize
-    requires { (n + settings_length + piece_length ≤ length out.old)
-        × (t ≤ length stamps.now)
-        × (t ≤ most_sets)
-        × (keys ≤ length keyed.now)
-        × KeyedBy stamps.now keyed.now peaks t }
+// Puts ` key=value` for each key that a member of the version v sets, ascending, by what is gathered of its object.
+fn put_settings(out: &mut [u8], n: usize, kept: &mut Pieces, g: &Gathered, v: u64) -> usize
+    requires { n + settings_length + piece_length ≤ length out.old }
     ensures { (take result out.new
-        ≡ take n out.old ++ settings_by (take t stamps.now) g keys)
+        ≡ take n out.old ++ settings_by (take g.now.sets g.now.stamps) v keys)
         × (result ≤ n + settings_length)
         × SameNames kept.old.texts kept.old.lens kept.new.texts kept.new.lens }
 {
     let mut w = n;
     for k in 0..ALL_KEYS {
-        let s = last_of(stamps, t, keyed, peaks, g, k);
+        let s = last_of(&g.stamps, g.sets, &g.keyed, g.peaks, v, k);
         w = kept.put_setting(out, w, k, s);
     }
     w
@@ -114,6 +100,6 @@ pub fn put_line(out: &mut [u8], kept: &mut Pieces, g: &Gathered, v: u64) -> usiz
 {
     let a = put_dotted(out, 0, g.site, g.seq);
     let b = put_identifier(out, a, kept, &g.disputes, g.disputed, v);
-    let w = put_settings(out, b, kept, &g.stamps, g.sets, &g.keyed, g.peaks, v);
+    let w = put_settings(out, b, kept, g, v);
     put_byte(out, w, NEWLINE)
 }

@@ -12,5 +12,5 @@ abbrev pub invariant-loop-k : goal.invariant-loop-k
 invariant-loop-k l =
     (l.w ≤ l.n + l.k * (1 + equated_length))
     × (length l.out ≡ length l.initial.out)
-    × (take l.w l.out ≡ take l.n l.initial.out ++ settings_by (take l.t l.stamps) l.g l.k)
+    × (take l.w l.out ≡ take l.n l.initial.out ++ settings_by (take l.g.sets l.g.stamps) l.v l.k)
     × SameNames l.initial.kept.texts l.initial.kept.lens l.kept.texts l.kept.lens
