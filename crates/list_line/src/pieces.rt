@@ -60,11 +60,11 @@ pub struct Pieces {
 }
 
 impl Pieces {
-    // No piece is kept yet. What work space holds at first does not matter; zeros would be set by memset
-    // (docs/DECISIONS.md, 24).
+    // No piece is kept yet. Zeros in all: then it is made where it is to stand, and not first elsewhere, which would take
+    // stack twice.
     pub fn none() -> Pieces {
         Pieces {
-            texts: [1; PIECES * PIECE],
+            texts: [0; PIECES * PIECE],
             lens: [0; PIECES],
             told: [0; ALL_KEYS],
         }

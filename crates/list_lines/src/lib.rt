@@ -40,7 +40,7 @@ fn version_total(objects: &[u16], m: usize) -> u32
 {
     let mut total: u32 = 0;
     for o in 0..m {
-        total = total + at16(objects, o * ENTRY + 2) as u32;
+        total += at16(objects, o * ENTRY + 2) as u32;
     }
     total
 }

@@ -31,21 +31,21 @@ pub struct Gathered {
 }
 
 impl Gathered {
-    // Nothing is gathered yet. What work space holds at first does not matter; zeros would be set by memset
-    // (docs/DECISIONS.md, 24).
+    // Nothing is gathered yet. Zeros in all: then it is made where it is to stand, and not first elsewhere, which would
+    // take stack twice.
     pub fn none() -> Gathered
         ensures { result.sets ≡ 0 }
     {
         Gathered {
             site: 0,
             seq: 0,
-            disputes: [1; SETS],
+            disputes: [0; SETS],
             disputed: 0,
-            stamps: [1; SETS],
+            stamps: [0; SETS],
             sets: 0,
             keyed: [0; ALL_KEYS],
             peaks: 0,
-            versions: [1; GROUPS],
+            versions: [0; GROUPS],
             count: 0,
         }
     }

@@ -82,7 +82,7 @@ fn note(keyed: &mut [u64], tops: &mut [u64], peaks: u64, i: usize, s: u64) -> u6
 {
     let k = (s / PLACINGS) as usize;
     let own = only(i);
-    keyed[k] = keyed[k] | own;
+    keyed[k] |= own;
     if s <= tops[k] {
         return peaks;
     }

@@ -8,4 +8,4 @@ use Rattle.list_line.proofs.pieces.Pieces.none.Goals as goal
 pub invariant_of-result : goal.invariant_of-result
 invariant_of-result c =
     let long = pieces * piece_length in
-    record { kept = none_kept (replicate long 1) (length-replicate {A = ℕ} long 1) }
+    record { kept = none_kept (replicate long 0) (length-replicate {A = ℕ} long 0) }
