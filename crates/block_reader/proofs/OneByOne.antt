@@ -2,7 +2,7 @@
 -- time it is called. A reader of an old stretch gives what the reader of the long stretch gives that holds the same
 -- records. Assumes nothing.
 use mathlib.Core.Path.{◌≡◌, refl, sym, ap, ◌∙◌}
-use mathlib.Core.Bool.{cond}
+use Rattle.std.specs.Prelude.{Option, Some, None}
 use mathlib.Core.List.{List, [], ◌∷◌, ◌++◌, append-nil}
 use Prim.Native.Nat.{ℕ, zero, suc, ◌+◌, ◌≤◌, ◌<◌}
 use native.Mathlib.Omega.{arith}
@@ -16,19 +16,24 @@ use Rattle.edit_form.proofs.CopiedParts.{length-least}
 use Rattle.edit_form.proofs.Stretches.{rest_from, start-next, ends-before}
 use Rattle.edit_history.specs.EditsHeld.{bytes_at, record_at, edits_of}
 use Rattle.edit_history.proofs.FieldsInPlace.{bytes-decoded}
-use Rattle.block_reader.specs.Reader.{record_at_place, end_mark, taken_at}
+use Rattle.block_reader.specs.Reader.{record_at_place, taken_at}
 
 -- the edits in the first n records of a stretch in a form
 unfoldable pub stretch_edits : ℕ → List ℕ → ℕ → List Edit
 stretch_edits form s zero = []
 stretch_edits form s (suc n) = stretch_edits form s n ++ (decode_of (stored_in form s n) ∷ [])
 
+-- a record that is given, and those after it; nothing comes after the end mark
+abbrev pub with_those : Option Edit → List Edit → List Edit
+with_those (Some e) es = e ∷ es
+with_those None es = []
+
 -- the edits that a reader of s in a form at the place p gives before its first end mark, called k times
 unfoldable pub given_from : ℕ → ℕ → List ℕ → ℕ → List Edit
 given_from zero form s p = []
 given_from (suc k) form s p =
     let t = taken_at s form p in
-    cond t.given.found (t.given.edit ∷ given_from k form s t.place) []
+    with_those t.given (given_from k form s t.place)
 
 -- ---- one by one
 
@@ -37,13 +42,13 @@ module _ (form : ℕ) (s : List ℕ) where
   pub gives-the-record :
       (p : ℕ) →
       let next = p + length_from form (drop p s) in
-      next ≤ length s → taken_at s form p ≡ record { given = record_at_place s form p; place = next }
+      next ≤ length s → taken_at s form p ≡ record { given = Some (record_at_place s form p); place = next }
   unfolding taken_at
   gives-the-record p left = rw (le-leb (p + length_from form (drop p s)) (length s) left)
 
   -- with fewer bytes left the end mark is given and the place stays, so that the next call finds the same
   pub stays-at-the-end :
-      (p : ℕ) → length s < p + length_from form (drop p s) → taken_at s form p ≡ record { given = end_mark; place = p }
+      (p : ℕ) → length s < p + length_from form (drop p s) → taken_at s form p ≡ record { given = None; place = p }
   unfolding taken_at
   stays-at-the-end p few = rw (lt-leb (p + length_from form (drop p s)) (length s) few)
 

@@ -9,17 +9,10 @@ ghost use Rattle.block_reader.specs.Reader.{taken_at, given_by, moved_on, second
 
 use edit_record::Edit;
 
-// A record, or the end mark, where nothing is found and the edit has zeros alone.
-#[derive(Clone, Copy)]
-pub struct Given {
-    pub found: bool,
-    pub edit: Edit,
-}
-
-// What was given, and the place after it.
+// A record, or None, the end mark, and the place after it.
 #[derive(Clone, Copy)]
 pub struct TakenNext {
-    pub given: Given,
+    pub given: Option<Edit>,
     pub place: usize,
 }
 
@@ -58,14 +51,11 @@ pub fn take(stretch: &[u8], form: u8, place: usize) -> TakenNext
 {
     let bytes = bytes_at(stretch, form, place);
     if !is_left(stretch.len(), place, bytes) {
-        let edit = edit_record::decode(&stretch[..0]);
-        let given = Given { found: false, edit };
-        return TakenNext { given, place };
+        return TakenNext { given: None, place };
     }
     let edit = edit_form::edit_from(&stretch[place..], form);
-    let given = Given { found: true, edit };
     TakenNext {
-        given,
+        given: Some(edit),
         place: place + bytes,
     }
 }
@@ -82,7 +72,7 @@ pub fn reader_of<'a>(stretch: &'a [u8], form: u8) -> Reader<'a>
 }
 
 // The next record, or the end mark: the place moves past the record, and stays put at the end.
-pub fn next_record<'s, 'a>(r: &'s mut Reader<'a>) -> Given
+pub fn next_record<'s, 'a>(r: &'s mut Reader<'a>) -> Option<Edit>
     ensures { (result ≡ given_by r.old) × (r.new ≡ moved_on r.old) }
 {
     let t = take(r.stretch, r.form, r.place);
@@ -91,7 +81,7 @@ pub fn next_record<'s, 'a>(r: &'s mut Reader<'a>) -> Given
 }
 
 // The second record of a stretch, or the end mark, by a reader of its own.
-pub fn second(stretch: &[u8], form: u8) -> Given
+pub fn second(stretch: &[u8], form: u8) -> Option<Edit>
     ensures { result ≡ second_of stretch.now form }
 {
     let mut r = reader_of(stretch, form);

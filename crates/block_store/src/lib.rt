@@ -2,13 +2,14 @@
 #![tactic(auto)]
 
 ghost use Rattle.std.specs.Prelude.{◌≡◌, true, ◌++◌, ◌+◌, ◌-◌, ◌*◌, ◌≤◌, length, drop};
+ghost use Rattle.std.specs.Result.{result_unwrap_or};
 ghost use Rattle.edit_record.specs.Layout.{place_length};
 ghost use Rattle.edit_form.specs.OldForm.{start_of, chained};
 ghost use Rattle.edit_history.specs.EditsHeld.{most_records, bytes_at};
 ghost use Rattle.edit_sum.specs.WordSum.{ListsFit};
 ghost use Rattle.table_drawing.specs.Tables.{tables_of, lengths_right, sites_right};
-ghost use Rattle.table_drawing.specs.AnswerNumbers.{number_of};
-ghost use Rattle.table_given.specs.Replay.{replayed};
+ghost use Rattle.table_drawing.specs.AnswerNumbers.{answer_of};
+ghost use Rattle.table_given.specs.Replay.{replayed_by};
 ghost use Rattle.block_trailer.specs.Trailer.{trailer_length, trailer_of};
 ghost use Rattle.table_output.specs.Output.{writing};
 ghost use Rattle.block_store.specs.Writing.{writing_of};
@@ -16,8 +17,9 @@ ghost use Rattle.block_store.specs.Reading.{records_read, reading_of};
 
 use block_trailer::TRAILER;
 use edit_record::PLACE;
-use table_drawing::{Answer, Counters};
-use table_output::{Written, copy_in, has_room};
+use table_drawing::{Counters, Refusal};
+use table_given::FileRefusal;
+use table_output::{copy_in, has_room};
 
 // The bytes of the first n records of a table.
 fn record_bytes(records: &[u8], n: usize) -> usize
@@ -25,11 +27,9 @@ fn record_bytes(records: &[u8], n: usize) -> usize
     ensures { result ≡ length (chained (bytes_at records.now) n) }
 {
     let mut bytes: usize = 0;
-    let mut i: usize = 0;
-    while i < n {
+    for i in 0..n {
         let at = i * PLACE;
         bytes = bytes + edit_record::span_of(&records[at..]);
-        i += 1;
     }
     bytes
 }
@@ -42,14 +42,12 @@ fn write_records(out: &mut [u8], records: &[u8], n: usize)
         ++ drop (length (chained (bytes_at records.now) n)) out.old }
 {
     let mut end: usize = 0;
-    let mut i: usize = 0;
-    while i < n {
+    for i in 0..n {
         let at = i * PLACE;
         let rest = &records[at..];
         let bytes = edit_record::span_of(rest);
         copy_in(&mut out[end..], rest, bytes);
         end = end + bytes;
-        i += 1;
     }
 }
 
@@ -66,7 +64,8 @@ fn write_block(out: &mut [u8], records: &[u8], n: u16, sites: u8, end: usize)
     copy_in(&mut out[end..], &bytes, TRAILER);
 }
 
-// Writes the block of the tables into out from the start on; refused, everything stays as it was.
+// Writes the block of the tables into out from the start on, and says how many bytes it has; refused, everything stays
+// as it was.
 pub fn write(
     c: Counters,
     records: &[u8],
@@ -74,38 +73,21 @@ pub fn write(
     groups: &[u64],
     out: &mut [u8],
     start: usize,
-) -> Written
-    ensures { writing (number_of result.answer) result.bytes out.new
+) -> Result<usize, Refusal>
+    ensures { writing (answer_of result) (result_unwrap_or result 0) out.new
         ≡ writing_of (tables_of c records.now objects.now groups.now)
         out.old start }
 {
     if !table_soundness::is_sound(c, records, objects, groups) {
-        return Written {
-            answer: Answer::Unsound,
-            bytes: 0,
-        };
+        return Err(Refusal::Unsound);
     }
     let end = record_bytes(records, c.records as usize);
     let bytes = end + TRAILER;
     if !has_room(out.len(), start, bytes) {
-        return Written {
-            answer: Answer::NoRoom,
-            bytes: 0,
-        };
+        return Err(Refusal::NoRoom);
     }
     write_block(&mut out[start..], records, c.records, c.sites, end);
-    Written {
-        answer: Answer::Done,
-        bytes,
-    }
-}
-
-// An answer to a file that is read, the index of the refused record, and the counters after it.
-#[derive(Clone, Copy)]
-pub struct FileRead {
-    pub answer: Answer,
-    pub index: usize,
-    pub counters: Counters,
+    Ok(bytes)
 }
 
 // Takes the n records of a located stretch in its form into tables of the stated lengths; a refused record leaves an
@@ -118,31 +100,35 @@ fn read_records(
     stretch: &[u8],
     form: u8,
     n: usize,
-) -> FileRead
+) -> Result<Counters, FileRefusal>
     requires { (lengths_right records.old objects.old groups.old ≡ true)
         × (sites_right sites ≡ true)
         × (n ≤ most_records)
         × (start_of form stretch.now n ≤ length stretch.now) }
-    ensures { replayed (number_of result.answer) result.index
-        (tables_of result.counters records.new objects.new groups.new)
+    ensures { replayed_by result records.new objects.new groups.new
         ≡ records_read sites form stretch.now n }
 {
-    let t = table_replay::replay(sites, records, objects, groups, stretch, form, n);
-    let answer = t.answer;
-    let after = t.counters;
-    if table_drawing::number(answer) == 0 {
-        return FileRead {
-            answer,
-            index: t.index,
-            counters: after,
-        };
+    match table_replay::replay(sites, records, objects, groups, stretch, form, n) {
+        Ok(after) => Ok(after),
+        Err(e) => {
+            let empty = table_drawing::open(e.counters, records, objects, groups, sites);
+            Err(FileRefusal {
+                refusal: e.refusal,
+                index: e.index,
+                counters: empty.unwrap_or(e.counters),
+            })
+        }
     }
-    let opened = table_drawing::open(after, records, objects, groups, sites);
-    let empty = opened.counters;
-    FileRead {
-        answer,
-        index: t.index,
-        counters: empty,
+}
+
+// Why a file is refused of which no record was looked at: the counters stay.
+fn refused(refusal: Refusal, counters: Counters) -> FileRefusal
+    ensures { result ≡ record { refusal = refusal; index = 0; counters = counters } }
+{
+    FileRefusal {
+        refusal,
+        index: 0,
+        counters,
     }
 }
 
@@ -153,39 +139,28 @@ pub fn read_file(
     objects: &mut [u16],
     groups: &mut [u64],
     file: &[u8],
-) -> FileRead
-    ensures { replayed (number_of result.answer) result.index
-        (tables_of result.counters records.new objects.new groups.new)
+) -> Result<Counters, FileRefusal>
+    ensures { replayed_by result records.new objects.new groups.new
         ≡ reading_of (tables_of c records.old objects.old groups.old)
         file.now }
 {
     if !table_drawing::lengths_right(records.len(), objects.len(), groups.len()) {
-        return FileRead {
-            answer: Answer::Unsound,
-            index: 0,
-            counters: c,
-        };
+        return Err(refused(Refusal::Unsound, c));
     }
-    let f = block_trailer::read_trailer(file);
-    let answer = f.answer;
-    if table_drawing::number(answer) != 0 {
-        return FileRead {
-            answer,
-            index: 0,
-            counters: c,
-        };
-    }
+    let t = match block_trailer::read_trailer(file) {
+        Ok(t) => t,
+        Err(r) => return Err(refused(r, c)),
+    };
     // by what was read of the trailer, which else would be looked into twice
-    let start = f.start;
-    let end = block_trailer::stretch_end(answer, file.len());
-    let stretch = &file[start..end];
+    let end = block_trailer::trailer_at(file.len());
+    let stretch = &file[t.start..end];
     read_records(
-        f.sites,
+        t.sites,
         records,
         objects,
         groups,
         stretch,
-        f.form,
-        f.records as usize,
+        t.form,
+        t.records as usize,
     )
 }

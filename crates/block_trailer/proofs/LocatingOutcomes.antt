@@ -2,7 +2,7 @@
 -- Assumes nothing.
 use mathlib.Core.Path.{◌≡◌, refl, sym, ap, ◌∙◌}
 use mathlib.Core.Bool.{Bool, true, false, not, ◌&&◌, ◌||◌, cond}
-use mathlib.Core.List.{List}
+use mathlib.Core.List.{List, []}
 use mathlib.Core.Logic.{inl, inr}
 use Prim.Native.Nat.{ℕ, ◌+◌, ◌-◌, ◌≤◌, ◌<◌}
 use native.Mathlib.Omega.{arith}
@@ -14,7 +14,10 @@ use Rattle.math_lists.proofs.Booleans.{both, and-on, either, neither, off-where}
 use Rattle.edit_record.specs.Layout.{most_sites}
 use Rattle.edit_form.specs.OldForm.{old_form, long_form, old_sites, sites_by, start_of}
 use Rattle.edit_history.specs.EditsHeld.{most_records}
+use Rattle.table_drawing.specs.declared.Refusal.{Refusal}
 use Rattle.table_drawing.specs.Tables.{sites_right}
+use Rattle.table_drawing.specs.AnswerNumbers.{number_of}
+use Rattle.table_drawing.proofs.RefusalNumbers.{number_of-not_0}
 use Rattle.block_trailer.specs.Trailer.{trailer_length, file_limit, trailer_at, records_in, sites_in, form_in}
 use Rattle.block_trailer.specs.Trailer.{distance_in, start_in, stretch_in, unfit_trailer}
 use Rattle.block_trailer.specs.Locating.{found, Located, refused_with, accepted_in, sites_fit, located}
@@ -184,3 +187,11 @@ module _ (file : List ℕ) {a n f k s e : ℕ} (read : found a n f k ≡ (locate
   stretch-is =
       let long : e - s ≡ length (located file).stretch = omega (arith, ends_so) in
       rw (long, start) (sym (stretch-lies file).holds)
+
+-- the empty stretch of a refused file
+pub empty-is :
+    (file : List ℕ) (r : Refusal) → found (number_of r) 0 0 0 ≡ (located file).trailer → 0 ≡ (located file).start →
+    [] ≡ (located file).stretch
+empty-is file r read start =
+    let end : 0 ≡ cond (eqb (number_of r) 0) (length file - trailer_length) 0 = rw (number_of-not_0 r) in
+    stretch-is file read start end

@@ -1,7 +1,10 @@
 -- Locating a block in a file by its trailer: 10, then 9; refused, the empty stretch at the file's start; else the
 -- stretch of the records alone. Assumes nothing.
-use Rattle.std.specs.Prelude.{ℕ, ◌+◌, List, [], Bool, ◌&&◌, ◌||◌, cond, length, leb, ltb}
+use Rattle.std.specs.Prelude.{ℕ, ◌+◌, List, [], Bool, ◌&&◌, ◌||◌, cond, length, leb, ltb, Result, Ok, Err}
 use Rattle.edit_form.specs.OldForm.{sites_by}
+use Rattle.table_drawing.specs.declared.Refusal.{Refusal}
+use Rattle.table_drawing.specs.AnswerNumbers.{number_of}
+use Rattle.block_trailer.specs.declared.Trailer.{Trailer}
 use Rattle.block_trailer.specs.Trailer.{file_limit, records_in, sites_in, form_in, start_in}
 use Rattle.block_trailer.specs.Trailer.{stretch_in, unfit_trailer}
 
@@ -14,6 +17,15 @@ pub record Found : Type 0 where
 
 abbrev pub found : ℕ → ℕ → ℕ → ℕ → Found
 found a n f k = record { answer = a; sites = n; form = f; records = k }
+
+-- what a read trailer says, and where the first record starts; where the file is refused all of that is 0
+abbrev pub found_by : Result Trailer Refusal → Found
+found_by (Ok t) = found 0 t.sites t.form t.records
+found_by (Err r) = found (number_of r) 0 0 0
+
+abbrev pub start_by : Result Trailer Refusal → ℕ
+start_by (Ok t) = t.start
+start_by (Err r) = 0
 
 -- what is found, and the stretch of the file that holds the records alone: where it starts, and its bytes
 pub record Located : Type 0 where

@@ -1,17 +1,16 @@
 // The trailer of document 01's stored block, its last 8 bytes, and locating a block in a file by it.
 #![tactic(auto)]
 
-ghost use Rattle.std.specs.Prelude.{◌≡◌, cond, ◌-◌, ◌≤◌, eqb, length};
+ghost use Rattle.std.specs.Prelude.{◌≡◌, ◌-◌, ◌≤◌, eqb, length};
 ghost use Rattle.edit_record.specs.RecordBytes.{four};
 ghost use Rattle.edit_form.specs.OldForm.{start_of};
 ghost use Rattle.table_drawing.specs.Tables.{records_length};
-ghost use Rattle.table_drawing.specs.AnswerNumbers.{number_of};
 ghost use Rattle.block_trailer.specs.Trailer.{trailer_length, file_limit, trailer_of, unfit_trailer};
-ghost use Rattle.block_trailer.specs.Locating.{found, further, located};
+ghost use Rattle.block_trailer.specs.Locating.{found_by, start_by, further, located};
 
 use edit_form::LONG;
 use edit_history::RECORDS;
-use table_drawing::Answer;
+use table_drawing::Refusal;
 
 // The bytes of a trailer.
 pub const TRAILER: usize = 8;
@@ -26,18 +25,17 @@ const AT_FORM: usize = 3;
 
 const AT_DISTANCE: usize = 4;
 
-// What a file's trailer says: an answer, N, the form and the number of records; and where the first of them starts.
+// What a file's trailer says: N, the form and the number of records; and where the first of them starts.
 #[derive(Clone, Copy)]
 pub struct Trailer {
-    pub answer: Answer,
     pub sites: u8,
     pub form: u8,
     pub records: u16,
     pub start: usize,
 }
 
-// Where the trailer starts in a file of n bytes.
-fn trailer_at(n: usize) -> usize
+// Where the trailer starts in a file of n bytes, and the stretch of the records ends.
+pub fn trailer_at(n: usize) -> usize
     ensures { result ≡ n - trailer_length }
 {
     if n < TRAILER { 0 } else { n - TRAILER }
@@ -48,7 +46,7 @@ fn distance_at(file: &[u8], i: usize) -> usize
     requires { i ≤ file_limit }
     ensures { result ≡ four file.now i }
 {
-    edit_record::two_at(file, i) as usize + edit_record::two_at(file, i + 2) as usize * 65536
+    edit_record::four_at(file, i) as usize
 }
 
 // Whether the first n records of a stretch, walked one behind the other, end where it ends. A record that starts past
@@ -58,13 +56,11 @@ fn is_filled(stretch: &[u8], form: u8, n: usize) -> bool
     ensures { result ≡ eqb (start_of form stretch.now n) (length stretch.now) }
 {
     let mut at: usize = 0;
-    let mut i: usize = 0;
-    while i < n {
+    for _ in 0..n {
         if stretch.len() < at {
             return false;
         }
         at = at + edit_form::length_from(&stretch[at..], form);
-        i += 1;
     }
     at == stretch.len()
 }
@@ -86,58 +82,30 @@ fn is_unfit(file: &[u8]) -> bool
     !is_filled(&file[start..at], form, records)
 }
 
-// The answer to a file that is refused.
-fn refused(a: Answer) -> Trailer
-    ensures { (found (number_of result.answer) result.sites result.form result.records ≡ found (number_of a) 0 0 0)
-        × (result.start ≡ 0) }
-{
-    Trailer {
-        answer: a,
-        sites: 0,
-        form: 0,
-        records: 0,
-        start: 0,
-    }
-}
-
 // What the trailer of a file says; a file over the limit is not looked into.
-pub fn read_trailer(file: &[u8]) -> Trailer
-    ensures { (found (number_of result.answer) result.sites result.form result.records
-        ≡ (located file.now).trailer)
-        × (result.start ≡ (located file.now).start) }
+pub fn read_trailer(file: &[u8]) -> Result<Trailer, Refusal>
+    ensures { (found_by result ≡ (located file.now).trailer) × (start_by result ≡ (located file.now).start) }
 {
     if FILE_LIMIT < file.len() {
-        return refused(Answer::BadFile);
+        return Err(Refusal::BadFile);
     }
     if is_unfit(file) {
-        return refused(Answer::BadFile);
+        return Err(Refusal::BadFile);
     }
     let at = trailer_at(file.len());
     let sites = edit_record::byte_at(file, at + AT_SITES);
     let form = edit_record::byte_at(file, at + AT_FORM);
     if (sites < 1) | (edit_form::sites_by(form) < sites) {
-        return refused(Answer::BadSites);
+        return Err(Refusal::BadSites);
     }
     let records = edit_record::two_at(file, at);
     let start = at - distance_at(file, at + AT_DISTANCE);
-    Trailer {
-        answer: Answer::Done,
+    Ok(Trailer {
         sites,
         form,
         records,
         start,
-    }
-}
-
-// Where the stretch of the records ends in a file of n bytes to which the answer is a.
-pub fn stretch_end(a: Answer, n: usize) -> usize
-    ensures { result ≡ cond (eqb (number_of a) 0) (n - trailer_length) 0 }
-{
-    if table_drawing::number(a) == 0 {
-        trailer_at(n)
-    } else {
-        0
-    }
+    })
 }
 
 // The stretch of the caller's own file that holds the records of its block.
@@ -145,11 +113,13 @@ pub fn locate(file: &[u8]) -> &[u8]
     ensures { (result.now ≡ (located file.now).stretch)
         × (result.ref_ptr ≡ further file.entry.ref_ptr (located file.now).start) }
 {
-    let t = read_trailer(file);
-    let answer = t.answer;
-    let start = t.start;
-    let end = stretch_end(answer, file.len());
-    &file[start..end]
+    match read_trailer(file) {
+        Ok(t) => {
+            let end = trailer_at(file.len());
+            &file[t.start..end]
+        }
+        Err(_) => &file[0..0],
+    }
 }
 
 // The bytes of the trailer behind n long records of a drawing of so many sites, of so many bytes.
@@ -157,13 +127,7 @@ pub fn trailer_bytes(n: u16, sites: u8, distance: usize) -> [u8; TRAILER]
     requires { distance ≤ records_length }
     ensures { result ≡ trailer_of n sites distance }
 {
-    let near = distance % 65536;
-    let far = distance / 65536;
-    let a = (n % 256) as u8;
-    let b = (n / 256 % 256) as u8;
-    let c = (near % 256) as u8;
-    let d = (near / 256 % 256) as u8;
-    let e = (far % 256) as u8;
-    let f = (far / 256 % 256) as u8;
-    [a, b, sites, LONG, c, d, e, f]
+    let [low, high] = n.to_le_bytes();
+    let [a, b, c, d] = (distance as u32).to_le_bytes();
+    [low, high, sites, LONG, a, b, c, d]
 }

@@ -32,13 +32,10 @@ pub fn open_by_value(
         (tables_of result.counters records.new objects.new groups.new)
         ≡ opening_of (tables_of c records.old objects.old groups.old) n }
 {
-    let o = table_drawing::open(c, records, objects, groups, n);
-    let answer = o.answer;
-    let opened = o.counters;
-    let number = table_drawing::number(answer);
+    let opened = table_drawing::open(c, records, objects, groups, n);
     Answered {
-        number,
-        counters: opened,
+        number: table_drawing::number(&opened),
+        counters: opened.unwrap_or(c),
     }
 }
 
@@ -55,13 +52,10 @@ pub fn arrive_by_value(
         ≡ arrival_of (tables_of c records.old objects.old groups.old)
         rec.now }
 {
-    let a = table_arrival::arrive(c, records, objects, groups, rec);
-    let answer = a.answer;
-    let arrived = a.counters;
-    let number = table_drawing::number(answer);
+    let arrived = table_arrival::arrive(c, records, objects, groups, rec);
     Answered {
-        number,
-        counters: arrived,
+        number: table_drawing::number(&arrived),
+        counters: arrived.unwrap_or(c),
     }
 }
 
@@ -94,16 +88,20 @@ pub fn read_by_value(
         ≡ reading_of (tables_of c records.old objects.old groups.old)
         file.now }
 {
-    let f = block_store::read_file(c, records, objects, groups, file);
-    let given = f.answer;
-    let read = f.counters;
-    let number = table_drawing::number(given);
-    let answer = FileAnswer {
-        number,
-        index: f.index,
-    };
-    FileTaken {
-        answer,
-        counters: read,
+    match block_store::read_file(c, records, objects, groups, file) {
+        Ok(read) => FileTaken {
+            answer: FileAnswer {
+                number: 0,
+                index: 0,
+            },
+            counters: read,
+        },
+        Err(e) => FileTaken {
+            answer: FileAnswer {
+                number: u8::from(e.refusal),
+                index: e.index,
+            },
+            counters: e.counters,
+        },
     }
 }

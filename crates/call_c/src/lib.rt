@@ -5,8 +5,9 @@
 #![tactic(auto)]
 
 ghost use Rattle.std.specs.Prelude.{◌≡◌};
+ghost use Rattle.std.specs.Result.{result_unwrap_or};
 ghost use Rattle.table_drawing.specs.Tables.{tables_of};
-ghost use Rattle.table_drawing.specs.AnswerNumbers.{outcome_of, number_of};
+ghost use Rattle.table_drawing.specs.AnswerNumbers.{outcome_of, answer_of};
 ghost use Rattle.table_drawing.specs.Opening.{opening_of};
 ghost use Rattle.table_arrival.specs.Arrival.{arrival_of};
 ghost use Rattle.table_given.specs.Replay.{replayed};
@@ -21,8 +22,7 @@ ghost use Rattle.list_print.specs.Printing.{listing_of};
 
 use call_by_value::FileAnswer;
 use edit_record::{Seq, Site};
-use table_drawing::Counters;
-use table_output::Written;
+use table_drawing::{Counters, Refusal};
 
 // Opens an empty drawing of n sites; refused, everything stays as it was.
 pub fn spireslate_open(
@@ -77,7 +77,7 @@ pub fn spireslate_check(c: Counters, records: &[u8], objects: &[u16], groups: &[
     ensures { result ≡ check_of (tables_of c records.now objects.now groups.now) }
 {
     let said = table_check::check(c, records, objects, groups);
-    table_drawing::number(said)
+    table_drawing::number(&said)
 }
 
 // The number of the answer to a call that writes, and the number of bytes written.
@@ -88,14 +88,13 @@ pub struct WriteAnswer {
     pub bytes: usize,
 }
 
-// The same answer, by its number.
-fn by_number(w: Written) -> WriteAnswer
-    ensures { (result.number ≡ number_of w.answer) × (result.bytes ≡ w.bytes) }
+// The answer w by its number.
+fn by_number(w: Result<usize, Refusal>) -> WriteAnswer
+    ensures { (result.number ≡ answer_of w) × (result.bytes ≡ result_unwrap_or w 0) }
 {
-    let said = w.answer;
     WriteAnswer {
-        number: table_drawing::number(said),
-        bytes: w.bytes,
+        number: table_drawing::number(&w),
+        bytes: w.unwrap_or(0),
     }
 }
 
@@ -172,10 +171,9 @@ pub fn spireslate_groups(
         (record { 0 = site }) (record { 0 = seq }) out.old }
 {
     let e = table_engine::enumerate_groups(c, records, objects, groups, Site(site), Seq(seq), out);
-    let said = e.answer;
     GroupsAnswer {
-        number: table_drawing::number(said),
-        count: e.count,
+        number: table_drawing::number(&e),
+        count: e.unwrap_or(0),
     }
 }
 
@@ -195,13 +193,20 @@ pub fn spireslate_locate(file: &[u8]) -> LocateAnswer
     ensures { (found result.number result.sites result.form result.records ≡ (located file.now).trailer)
         × (result.start ≡ (located file.now).start) }
 {
-    let t = block_trailer::read_trailer(file);
-    let said = t.answer;
-    LocateAnswer {
-        number: table_drawing::number(said),
-        sites: t.sites,
-        form: t.form,
-        records: t.records,
-        start: t.start,
+    match block_trailer::read_trailer(file) {
+        Ok(t) => LocateAnswer {
+            number: 0,
+            sites: t.sites,
+            form: t.form,
+            records: t.records,
+            start: t.start,
+        },
+        Err(r) => LocateAnswer {
+            number: u8::from(r),
+            sites: 0,
+            form: 0,
+            records: 0,
+            start: 0,
+        },
     }
 }

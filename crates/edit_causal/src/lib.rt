@@ -19,7 +19,7 @@ use edit_record::{
 pub fn is_same(s: Site, q: Seq, t: Site, p: Seq) -> bool
     ensures { result ≡ same_edit s q t p }
 {
-    (s.0 == t.0) & (q.0 == p.0)
+    (s == t) & (q == p)
 }
 
 // Whether the author of the vector v had applied the edit s.q.
@@ -119,10 +119,8 @@ pub fn vector_sum(v: [u16; SITES]) -> u32
     ensures { result ≡ vector_sum v }
 {
     let mut total: u32 = 0;
-    let mut i: usize = 0;
-    while i < SITES {
-        total += v[i] as u32;
-        i += 1;
+    for x in v {
+        total += x as u32;
     }
     total
 }

@@ -13,16 +13,15 @@ use edit_record::{
     is_layer_kind, name_in, own_entry, pair_at, span_of, value_of,
 };
 
-// Whether an entry of the vector of a record that is there whole is nonzero at or past n.
+// Whether an entry of the vector of a record that is there whole is nonzero at or past n. All are looked at, which is
+// faster than to stop at the first.
 fn is_nonzero_past(n: u8, rec: &[u8]) -> bool
     requires { record_length ≤ length rec.now }
     ensures { result ≡ nonzero_past n (counts most_sites (drop vector_at rec.now)) }
 {
     let mut found = false;
-    let mut i = n as usize;
-    while i < SITES {
-        found = found | (pair_at(rec, AT_VECTOR + 2 * i) != 0);
-        i += 1;
+    for i in n as usize..SITES {
+        found |= pair_at(rec, AT_VECTOR + 2 * i) != 0;
     }
     found
 }
@@ -36,13 +35,11 @@ fn are_members_wrong(rec: &[u8], k: usize) -> bool
 {
     let mut found = false;
     let mut last: u32 = 0;
-    let mut i: usize = 0;
-    while i < k {
+    for i in 0..k {
         let m = four_at(rec, AT_MEMBERS + MEMBER * i);
         let name = name_in(m);
-        found = found | (m / 256 % 256 != 0) | ((i != 0) & (name <= last));
+        found |= (m / 256 % 256 != 0) | ((i != 0) & (name <= last));
         last = name;
-        i += 1;
     }
     found
 }

@@ -1,14 +1,14 @@
--- A record put together of copied parts: one byte more, the two parts of an old record with zeros between them, and the
--- site, which stands at the same place in both forms. Assumes nothing.
+-- A record put together of copied parts: the two parts of an old record with zeros between them, and the site, which
+-- stands at the same place in both forms. Assumes nothing.
 use mathlib.Core.Path.{◌≡◌, refl, sym, ap, ap₂, ◌∙◌}
 use mathlib.Core.Bool.{Bool, true, false, not, ◌&&◌, cond}
 use mathlib.Core.List.{List, [], ◌++◌, append_assoc, append-nil}
-use Prim.Native.Nat.{ℕ, suc, ◌+◌, ◌-◌, ◌*◌, ◌≤◌, ◌<◌}
+use Prim.Native.Nat.{ℕ, ◌+◌, ◌-◌, ◌*◌, ◌≤◌, ◌<◌}
 use native.Mathlib.Omega.{arith}
 use lib.Dec.{eqb, lit<}
-use lib.ListN.{length, get_or, set, take, drop, replicate, length-append, length-drop, drop_of_length-le}
+use lib.ListN.{length, get_or, take, drop, replicate, length-append, drop_of_length-le}
 use lib.ListN.{get_or-append}
-use lib.Seq.{paste, paste-suc, length-take-le, take_at, drop_at, take-take, take-add, get_or-take, get_or-drop}
+use lib.Seq.{length-take-le, take_at, drop_at, take-take, take-add, get_or-take}
 use Rattle.math_lists.proofs.ReplacedPart.{put}
 use Rattle.edit_record.specs.Layout.{kind_at, site_at, vector_at, record_length, members_at, member_length, two_bytes}
 use Rattle.edit_record.specs.RecordBytes.{span_of}
@@ -39,15 +39,6 @@ length-least form rest =
 pub length-below : (form : ℕ) (rest : List ℕ) → Bytes rest → length_from form rest < members_at + two_bytes * member_length
 length-below form rest h =
     by_form (λ w. w < members_at + two_bytes * member_length) form rest (omega arith) (span_below rest h)
-
--- ---- one byte more
-
-pub one-copied :
-    (d s : List ℕ) (to from i : ℕ) → to + i < length d → from + i < length s →
-    set (paste d to (drop from s) i) (to + i) (get_or s (from + i) 0) ≡ paste d to (drop from s) (suc i)
-one-copied d s to from i l m =
-    ap (λ (x : ℕ). set (paste d to (drop from s) i) (to + i) x) (sym (get_or-drop from s i 0))
-    ∙ paste-suc d to (drop from s) i 0 l (simp length-drop (omega arith))
 
 -- ---- an old record
 

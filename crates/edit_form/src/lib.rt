@@ -10,7 +10,8 @@ ghost use Rattle.edit_form.specs.OldForm.{long_from};
 
 use edit_record::{AT_KIND, AT_SITE, AT_VECTOR, CREATE, Edit, RECORD, SET, SITES};
 
-// The forms, by the number that a trailer has for each.
+// The forms, by the number that a trailer has for each. No enum: a stretch is walked in a form that any caller names,
+// and what is not the old form is the long one.
 pub const OLD: u8 = 0;
 
 pub const LONG: u8 = 1;
@@ -52,11 +53,7 @@ fn with_part(rec: [u8; RECORD], to: usize, s: &[u8], from: usize, n: usize) -> [
     ensures { result ≡ take to rec ++ (take n (drop from s.now) ++ drop (to + n) rec) }
 {
     let mut out = rec;
-    let mut i: usize = 0;
-    while i < n {
-        out[to + i] = s[from + i];
-        i += 1;
-    }
+    out[to..to + n].copy_from_slice(&s[from..from + n]);
     out
 }
 

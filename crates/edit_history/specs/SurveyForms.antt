@@ -1,6 +1,6 @@
 -- Forms that the code uses. No one need believe them: laws in proofs/ tie each one to the definitions of `EditsHeld`
 -- and `Answers2to5`. Assumes nothing.
-use Rattle.std.specs.Prelude.{ℕ, ◌+◌, ◌<◌, ◌≡◌, List, Bool, true, not, ◌&&◌, ◌||◌, get_or, set, length, eqb, leb, ltb}
+use Rattle.std.specs.Prelude.{ℕ, ◌+◌, ◌<◌, ◌≡◌, List, Bool, not, ◌&&◌, ◌||◌, get_or, set, length, eqb, leb, ltb, Some, is_some}
 use Rattle.math_lists.specs.NumbersBelow.{some}
 use Rattle.math_lists.specs.SortedLists.{any}
 use Rattle.edit_record.specs.declared.Site.{Site}
@@ -10,6 +10,7 @@ use Rattle.edit_record.specs.Answer1.{is_limited, entry_of}
 use Rattle.edit_causal.specs.ConflictForms.{plain_marks}
 use Rattle.edit_history.specs.EditsHeld.{count_from, sets_on, is_target, object_of}
 use Rattle.edit_history.specs.Answers2to5.{is_torn}
+use Rattle.edit_history.specs.declared.Held.{Held}
 use Rattle.edit_history.specs.declared.Surveyed.{Surveyed}
 
 -- ---- counts held in a list
@@ -40,19 +41,18 @@ early_against counts e =
 abbrev pub mark_bits : ℕ
 mark_bits = 64
 
-unfoldable pub survey_of : List Edit → Edit → Surveyed
+-- what an edit whose target is held asks of them
+unfoldable pub survey_of : List Edit → Edit → Held
 survey_of es e =
     record {
-      torn = is_torn es e;
-      found = any (is_target e) es;
       object = object_of e es;
       sets = length (sets_on e.tsite e.tseq es);
       plain = plain_marks e (sets_on e.tsite e.tseq es);
       limited = any is_limited (sets_on e.tsite e.tseq es);
     }
 
--- v is right for e as far as it is looked at: an edit whose target is not held asks no more
+-- v is right for e: an edit whose target is not held asks no more than whether 4 applies
 pub record SurveyedOf (es : List Edit) (e : Edit) (v : Surveyed) : Type 0 where
   pub torn : v.torn ≡ is_torn es e
-  pub found : v.found ≡ any (is_target e) es
-  pub whole : v.found ≡ true → v ≡ survey_of es e
+  pub found : is_some v.held ≡ any (is_target e) es
+  pub whole : (h : Held) → v.held ≡ Some h → h ≡ survey_of es e

@@ -2,7 +2,7 @@
 // of them.
 #![tactic(auto)]
 
-ghost use Rattle.std.specs.Prelude.{◌≡◌, true, false, cond, ◌||◌, ◌+◌, ◌^◌, ◌≤◌, ◌<◌, length, get_or, leb, ltb};
+ghost use Rattle.std.specs.Prelude.{◌≡◌, true, cond, ◌||◌, ◌+◌, ◌^◌, ◌≤◌, ◌<◌, length, get_or, leb, ltb};
 ghost use Rattle.edit_record.specs.Layout.{most_sites, two_bytes};
 ghost use Rattle.edit_record.specs.Answer1.{entry_of};
 ghost use Rattle.edit_history.specs.EditsHeld.{most_records, record_at};
@@ -14,20 +14,25 @@ use edit_record::{AT_KIND, Edit, PLACE, RECORD, SITES, Seq, Site};
 // The records held, Creates included, are at most so many.
 pub const RECORDS: usize = 256;
 
-// What an arriving edit asks of the edits held: whether 4 applies, whether its target is held, the number of its
-// object, how many Sets that has, which of them conflict with it by document 01's rule, bit i for the i-th, and whether
-// one of them is limited.
+// What an edit whose target is held asks of the edits held: the number of its object, how many Sets that has, which of
+// them conflict with it by document 01's rule, bit i for the i-th, and whether one of them is limited.
 #[derive(Clone, Copy)]
-pub struct Surveyed {
-    pub torn: bool,
-    pub found: bool,
+pub struct Held {
     pub object: usize,
     pub sets: usize,
     pub plain: u64,
     pub limited: bool,
 }
 
-// The edit in place p of a table of records; a place past the end holds zeros.
+// What an arriving edit asks of the edits held: whether 4 applies, and all the rest if its target is held.
+#[derive(Clone, Copy)]
+pub struct Surveyed {
+    pub torn: bool,
+    pub held: Option<Held>,
+}
+
+// The edit in place p of a table of records; a place past the end holds zeros. With `get` and `unwrap_or` in place of
+// the test, the walk over the records takes longer.
 pub fn decode_at(recs: &[u8], p: usize) -> Edit
     requires { p < two_bytes }
     ensures { result ≡ record_at recs.now p }
@@ -49,8 +54,7 @@ pub fn vector_at(recs: &[u8], p: usize) -> [u16; SITES]
     if at + RECORD <= recs.len() {
         return edit_record::vector_of(&recs[at..]);
     }
-    let e = decode_at(recs, p);
-    e.vector
+    decode_at(recs, p).vector
 }
 
 // The kind of the edit in place p, read where it stands.
@@ -69,7 +73,7 @@ pub fn bumped(v: [u16; SITES], s: Site) -> [u16; SITES]
     let mut w = v;
     let i = s.0 as usize;
     if i < SITES {
-        w[i] = w[i] + 1;
+        w[i] += 1;
     }
     w
 }
@@ -88,17 +92,16 @@ pub fn is_repeated(held: &[u16], s: Site, q: Seq) -> bool
     q.0 <= held_from(held, s)
 }
 
-// Whether an entry of v other than the site's own is above that of held.
+// Whether an entry of v other than the site's own is above that of held. All are looked at, which is faster than to
+// stop at the first.
 fn is_ahead_elsewhere(held: &[u16], v: [u16; SITES], s: Site) -> bool
     requires { most_sites ≤ length held.now }
     ensures { result ≡ ahead_elsewhere held.now v s }
 {
     let own = s.0 as usize;
     let mut found = false;
-    let mut t: usize = 0;
-    while t < SITES {
-        found = found | ((t != own) & (held[t] < v[t]));
-        t += 1;
+    for t in 0..SITES {
+        found |= (t != own) & (held[t] < v[t]);
     }
     found
 }
@@ -113,15 +116,13 @@ pub fn is_early(held: &[u16], v: [u16; SITES], s: Site, q: Seq) -> bool
     (own as u32 + 1 < q.0 as u32) | is_ahead_elsewhere(held, v, s)
 }
 
-// Whether an entry of v is larger than w's.
+// Whether an entry of v is larger than w's. All are looked at, which is faster than to stop at the first.
 pub fn is_larger_somewhere(v: [u16; SITES], w: [u16; SITES]) -> bool
     ensures { result ≡ larger_somewhere v w }
 {
     let mut found = false;
-    let mut s: usize = 0;
-    while s < SITES {
-        found = found | (w[s] < v[s]);
-        s += 1;
+    for s in 0..SITES {
+        found |= w[s] < v[s];
     }
     found
 }
@@ -132,18 +133,4 @@ pub fn marked_if(b: bool, m: u64, k: usize) -> u64
     ensures { result ≡ m + cond b (2 ^ k) 0 }
 {
     if b { m + (1 << k) } else { m }
-}
-
-// What is found of an edit whose target is not held.
-pub fn none_found(torn: bool) -> Surveyed
-    ensures { (result.torn ≡ torn) × (result.found ≡ false) }
-{
-    Surveyed {
-        torn,
-        found: false,
-        object: 0,
-        sets: 0,
-        plain: 0,
-        limited: false,
-    }
 }

@@ -5,7 +5,7 @@
 
 pub mod whole;
 
-ghost use Rattle.std.specs.Prelude.{◌≡◌, true, false, not, ◌&&◌, ◌||◌, ℕ, ◌+◌, ◌*◌, ◌≤◌, ◌<◌, leb, length, get_or};
+ghost use Rattle.std.specs.Prelude.{OnSome, ◌≡◌, true, false, not, ◌&&◌, ◌||◌, ℕ, ◌+◌, ◌*◌, ◌≤◌, ◌<◌, leb, length, get_or};
 ghost use Rattle.edit_record.specs.Layout.{most_sites, set_kind, record_length, place_length};
 ghost use Rattle.edit_record.specs.RecordBytes.{decode_of};
 ghost use Rattle.edit_record.specs.Answer1.{is_aimed, nonzero_past, unfit};
@@ -20,19 +20,18 @@ use edit_record::{
 };
 use edit_walk::{is_passing, is_passing_at, is_target_held, is_torn_by_news, place_at};
 
-// Whether rec has in every entry but that of the site s what x has; both are there whole.
+// Whether rec has in every entry but that of the site s what x has; both are there whole. All are looked at, which is
+// faster than to stop at the first that differs.
 fn is_same_but(x: &[u8], rec: &[u8], s: u8) -> bool
     requires { (record_length ≤ length x.now) × (record_length ≤ length rec.now) }
     ensures { result ≡ same_but (decode_of x.now).vector (decode_of rec.now).vector s }
 {
     let own = s as usize;
     let mut same = true;
-    let mut t: usize = 0;
-    while t < SITES {
+    for t in 0..SITES {
         let was = edit_record::pair_at(x, AT_VECTOR + 2 * t);
         let is = edit_record::pair_at(rec, AT_VECTOR + 2 * t);
-        same = same & ((t == own) | (was == is));
-        t += 1;
+        same &= (t == own) | (was == is);
     }
     same
 }
@@ -52,34 +51,34 @@ fn is_next_to(x: &[u8], rec: &[u8], s: u8) -> bool
 
 // The place of the record that rec may follow, if rec, which is there whole, is the next of its author after the first
 // p records: the last of these, where rec has seen that, else the author's own before it, or where there is none, the
-// target of rec. Whether it follows is for others to test; p is none.
-fn likely_before(held: &[u16], recs: &[u8], places: &[u16], p: usize, rec: &[u8]) -> usize
+// target of rec. Whether it follows is for others to test.
+fn likely_before(held: &[u16], recs: &[u8], places: &[u16], p: usize, rec: &[u8]) -> Option<usize>
     requires { (p ≤ most_records) × (record_length ≤ length rec.now) }
-    ensures { result < p → (p * place_length ≤ length recs.now)
+    ensures { OnSome result ((p * place_length ≤ length recs.now)
         × ((decode_of rec.now).seq.0
-        ≡ get_or held.now (decode_of rec.now).site.0 0 + 1) }
+        ≡ get_or held.now (decode_of rec.now).site.0 0 + 1)) }
 {
     if p == 0 {
-        return p;
+        return None;
     }
     if recs.len() < p * PLACE {
-        return p;
+        return None;
     }
     let s = rec[AT_SITE];
     let have = edit_history::held_from(held, Site(s));
     if edit_record::pair_at(rec, AT_SEQ) as u32 != have as u32 + 1 {
-        return p;
+        return None;
     }
     let last = (p - 1) * PLACE;
     let seen = edit_record::own_entry(rec, recs[last + AT_SITE]);
     if edit_record::pair_at(recs, last + AT_SEQ) <= seen {
-        return p - 1;
+        return Some(p - 1);
     }
     if have == 0 {
         let seq = edit_record::pair_at(rec, AT_TARGET_SEQ);
-        return place_at(places, Site(rec[AT_TARGET]), Seq(seq)) as usize;
+        return Some(place_at(places, Site(rec[AT_TARGET]), Seq(seq)) as usize);
     }
-    place_at(places, Site(s), Seq(have)) as usize
+    Some(place_at(places, Site(s), Seq(have)) as usize)
 }
 
 // Whether the record in place r is one of the first p, and rec has its vector with one edit more of its own. Apart from
@@ -99,7 +98,8 @@ fn is_next_at(recs: &[u8], p: usize, r: usize, rec: &[u8]) -> bool
     is_next_to(&recs[from..], rec, rec[AT_SITE])
 }
 
-// Whether the record in place p has in every entry but that of the site s what the record in place r has.
+// Whether the record in place p has in every entry but that of the site s what the record in place r has. Not by
+// `is_same_but`, so that it has one caller, the walk, which takes it in.
 fn is_same_in(recs: &[u8], r: usize, p: usize, s: u8) -> bool
     requires { (r < p) × (p < most_records) × (p * place_length + place_length ≤ length recs.now) }
     ensures { result ≡ same_but (record_at recs.now r).vector (record_at recs.now p).vector s }
@@ -108,12 +108,10 @@ fn is_same_in(recs: &[u8], r: usize, p: usize, s: u8) -> bool
     let from = r * PLACE;
     let to = p * PLACE;
     let mut same = true;
-    let mut t: usize = 0;
-    while t < SITES {
+    for t in 0..SITES {
         let was = edit_record::pair_at(recs, from + AT_VECTOR + 2 * t);
         let is = edit_record::pair_at(recs, to + AT_VECTOR + 2 * t);
-        same = same & ((t == own) | (was == is));
-        t += 1;
+        same &= (t == own) | (was == is);
     }
     same
 }
@@ -222,12 +220,13 @@ pub fn is_passing_next(sites: u8, held: &[u16], recs: &[u8], places: &[u16], p: 
 {
     let at = p * PLACE;
     let rec = &recs[at..];
-    let r = likely_before(held, recs, places, p, rec);
-    if is_next_in(recs, r, p) {
-        if rec[AT_KIND] == SET {
-            return is_set_fit_and_aimed(sites, held, recs, places, rec);
+    if let Some(r) = likely_before(held, recs, places, p, rec) {
+        if is_next_in(recs, r, p) {
+            if rec[AT_KIND] == SET {
+                return is_set_fit_and_aimed(sites, held, recs, places, rec);
+            }
+            return is_fit_and_aimed(sites, held, recs, places, rec);
         }
-        return is_fit_and_aimed(sites, held, recs, places, rec);
     }
     is_passing_at(sites, held, recs, places, p)
 }
@@ -249,9 +248,10 @@ pub fn is_passing_after(
         ≡ passes_against sites held.now recs.now places.now
         (decode_of rec.now) }
 {
-    let r = likely_before(held, recs, places, p, rec);
-    if is_next_at(recs, p, r, rec) {
-        return is_fit_and_aimed(sites, held, recs, places, rec);
+    if let Some(r) = likely_before(held, recs, places, p, rec) {
+        if is_next_at(recs, p, r, rec) {
+            return is_fit_and_aimed(sites, held, recs, places, rec);
+        }
     }
     is_passing(sites, held, recs, places, rec)
 }

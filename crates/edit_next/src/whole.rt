@@ -25,18 +25,17 @@ fn is_last_seen(recs: &[u8], n: usize, rec: &[u8]) -> bool
     edit_record::pair_at(recs, last + AT_SEQ) <= seen
 }
 
-// Whether rec, which is there whole, has in every entry but that of the site s what is counted.
+// Whether rec, which is there whole, has in every entry but that of the site s what is counted. All are looked at here
+// too.
 fn is_as_counted(held: &[u16], rec: &[u8], s: u8) -> bool
     requires { (length held.now ≡ most_sites) × (record_length ≤ length rec.now) }
     ensures { result ≡ same_but held.now (decode_of rec.now).vector s }
 {
     let own = s as usize;
     let mut same = true;
-    let mut t: usize = 0;
-    while t < SITES {
+    for t in 0..SITES {
         let is = edit_record::pair_at(rec, AT_VECTOR + 2 * t);
-        same = same & ((t == own) | (held[t] == is));
-        t += 1;
+        same &= (t == own) | (held[t] == is);
     }
     same
 }
@@ -59,7 +58,7 @@ pub fn is_all_seen(held: &[u16], recs: &[u8], n: usize, rec: &[u8]) -> bool
 }
 
 // Whether none of 1 to 5 is given to a record that is there whole, after the first n records, where it is known of some
-// that they have seen all of these.
+// that they have seen all of these. That is a fact about them, found once and asked for twice, and not a step to run.
 pub fn is_passing_with(
     all: bool,
     sites: u8,

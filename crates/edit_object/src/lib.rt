@@ -66,13 +66,11 @@ pub fn put_places(out: &mut [u16], recs: &[u8], n: usize, s: Site, q: Seq) -> us
         × (result ≡ length (sets_on s q (edits_of recs.now n))) }
 {
     let mut w: usize = 0;
-    let mut i: usize = 0;
-    while i < n {
+    for i in 0..n {
         if is_set_at(recs, i, s, q) {
             out[w] = i as u16;
             w += 1;
         }
-        i += 1;
     }
     w
 }

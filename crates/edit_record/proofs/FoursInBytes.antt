@@ -2,7 +2,7 @@
 -- over any number of them. Assumes nothing.
 use mathlib.Core.Path.{◌≡◌, refl, sym, ap, ◌∙◌}
 use mathlib.Core.List.{List, [], ◌∷◌, ◌++◌}
-use Prim.Native.Nat.{ℕ, zero, suc, ◌+◌, ◌*◌, ◌/◌, ◌%◌, ◌^◌, ◌≤◌, ◌<◌}
+use Prim.Native.Nat.{ℕ, zero, suc, ◌+◌, ◌*◌, ◌/◌, ◌%◌, ◌^◌, ◌≤◌, ◌<◌, min}
 use native.Mathlib.Omega.{arith}
 use native.Mathlib.Decide.{dec_lt}
 use lib.ListN.{length, get_or, set, take, drop, replicate}
@@ -49,6 +49,17 @@ unfolding first_fours
 fours-most zero k s l = refl
 fours-most (suc n) zero s l = absurd (omega arith)
 fours-most (suc n) (suc k) s l = ap (λ (r : List ℕ). four s 0 ∷ r) (fours-most n k (drop 4 s) (omega arith))
+
+pub fours-min : (n k : ℕ) (s : List ℕ) → first_fours n (min k n) s ≡ first_fours n k s
+fours-min n k s = go (dec_lt n k)
+  where
+    go : Dec (n < k) → first_fours n (min k n) s ≡ first_fours n k s
+    go (yes h) =
+        let e : min k n ≡ n = omega arith in
+        ap (λ (j : ℕ). first_fours n j s) e ∙ sym (fours-most n k s (omega arith))
+    go (no h) =
+        let e : min k n ≡ k = omega arith in
+        ap (λ (j : ℕ). first_fours n j s) e
 
 pub fours-length : (n k : ℕ) (s : List ℕ) → length (first_fours n k s) ≡ n
 unfolding first_fours

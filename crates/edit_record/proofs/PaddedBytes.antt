@@ -1,12 +1,12 @@
 -- A record is decoded by its own bytes: lists that have the same byte everywhere give one edit, as a record that is not
 -- there whole and the same with zeros after it. Assumes nothing.
 use mathlib.Core.Path.{◌≡◌, sym, ◌∙◌}
-use mathlib.Core.List.{List}
-use Prim.Native.Nat.{ℕ, ◌+◌, ◌<◌}
+use mathlib.Core.List.{List, ◌++◌}
+use Prim.Native.Nat.{ℕ, ◌+◌, ◌-◌, ◌<◌}
 use native.Mathlib.Omega.{arith}
-use lib.ListN.{length, get_or, set, take, replicate, get_or-eq_default}
-use lib.Seq.{get_or-set_same, get_or-set_other, get_or-take, length-take-le}
-use native.Mathlib.Decide.{dec_lt, ℕ_discrete}
+use native.Mathlib.Decide.{dec_lt}
+use lib.ListN.{length, get_or, drop, replicate, get_or-append, get_or-eq_default}
+use lib.Seq.{get_or-append_right, get_or-drop}
 use Rattle.math_lists.proofs.ByPlaces.{zero-anywhere}
 use Rattle.edit_record.specs.RecordBytes.{decode_of}
 use Rattle.edit_record.proofs.AgreeingBytes.{decode-agree}
@@ -15,37 +15,18 @@ use Rattle.edit_record.proofs.AgreeingBytes.{decode-agree}
 abbrev pub SameByEntry : List ℕ → List ℕ → Type 0
 SameByEntry s t = (i : ℕ) → get_or s i 0 ≡ get_or t i 0
 
--- ---- copied one by one
+-- ---- with zeros behind
 
-pub zeros : (n : ℕ) (t : List ℕ) → SameByEntry (replicate n 0) (take 0 t)
-zeros n t = zero-anywhere n
-
-pub one_more_lem :
-    (s t : List ℕ) (n : ℕ) → n < length s → n < length t → SameByEntry s (take n t) →
-    SameByEntry (set s n (get_or t n 0)) (take (n + 1) t)
-one_more_lem s t n l m h i = go (dec_lt i n) (ℕ_discrete i n)
+pub zeros-behind : (s : List ℕ) (n : ℕ) → SameByEntry (s ++ drop (length s) (replicate n 0)) s
+zeros-behind s n i = go (dec_lt i (length s))
   where
-    before : i < n → get_or (set s n (get_or t n 0)) i 0 ≡ get_or (take (n + 1) t) i 0
-    before k =
-        get_or-set_other s n i (get_or t n 0) 0 (λ e. omega arith)
-        ∙ h i
-        ∙ get_or-take n t i 0 k
-        ∙ sym (get_or-take (n + 1) t i 0 (omega arith))
-
-    at : i ≡ n → get_or (set s n (get_or t n 0)) i 0 ≡ get_or (take (n + 1) t) i 0
-    at e = rw e (get_or-set_same s n (get_or t n 0) 0 l ∙ sym (get_or-take (n + 1) t n 0 (omega arith)))
-
-    past : n < i → get_or (set s n (get_or t n 0)) i 0 ≡ get_or (take (n + 1) t) i 0
-    past k =
-        get_or-set_other s n i (get_or t n 0) 0 (λ e. omega arith)
-        ∙ h i
-        ∙ get_or-eq_default (take n t) 0 (omega (arith, length-take-le n t (omega arith)))
-        ∙ sym (get_or-eq_default (take (n + 1) t) 0 (omega (arith, length-take-le (n + 1) t (omega arith))))
-
-    go : Dec (i < n) → Dec (i ≡ n) → get_or (set s n (get_or t n 0)) i 0 ≡ get_or (take (n + 1) t) i 0
-    go (yes k) d = before k
-    go (no k) (yes e) = at e
-    go (no k) (no d) = past (omega arith)
+    go : Dec (i < length s) → get_or (s ++ drop (length s) (replicate n 0)) i 0 ≡ get_or s i 0
+    go (yes k) = get_or-append s (drop (length s) (replicate n 0)) 0 i k
+    go (no k) =
+        get_or-append_right s (drop (length s) (replicate n 0)) i 0 (omega arith)
+        ∙ get_or-drop (length s) (replicate n 0) (i - length s) 0
+        ∙ zero-anywhere n (length s + (i - length s))
+        ∙ sym (get_or-eq_default s 0 (omega arith))
 
 -- ---- read
 

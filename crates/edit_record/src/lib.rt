@@ -19,6 +19,7 @@ pub const SITES: usize = 16;
 // The attribute keys are the numbers below this one.
 pub const KEYS: u8 = 16;
 
+// The kinds. No enum: a record is any bytes, and what `decode` gives of one keeps its kind, whatever number that is.
 pub const CREATE: u8 = 1;
 
 pub const SET: u8 = 2;
@@ -71,11 +72,11 @@ pub const SEQ_NUMBERS: u32 = 65536;
 pub const VALUES: u64 = 4294967296;
 
 // The number of a laptop. It is never taken for a sequence number.
-#[derive(Clone, Copy)]
+#[derive(Clone, Copy, PartialEq, Eq)]
 pub struct Site(pub u8);
 
 // The number of an edit among those of its site, from 1 on; in a vector, how many of them were applied.
-#[derive(Clone, Copy)]
+#[derive(Clone, Copy, PartialEq, Eq)]
 pub struct Seq(pub u16);
 
 // An edit, field by field in the record's order; `tsite` and `tseq` name the target. A member is the number in its
@@ -98,7 +99,7 @@ pub struct Edit {
 pub fn byte_at(s: &[u8], i: usize) -> u8
     ensures { result ≡ get_or s.now i 0 }
 {
-    if i < s.len() { s[i] } else { 0 }
+    s.get(i).copied().unwrap_or(0)
 }
 
 // The number in the two bytes from i on. One test tells that both are there, as they most often are.
@@ -109,7 +110,7 @@ pub fn two_at(s: &[u8], i: usize) -> u16
     if i + 1 < s.len() {
         return pair_at(s, i);
     }
-    byte_at(s, i) as u16 + byte_at(s, i + 1) as u16 * 256
+    u16::from_le_bytes([byte_at(s, i), byte_at(s, i + 1)])
 }
 
 // The number in the four bytes from i on, in the same way.
@@ -118,18 +119,9 @@ pub fn four_at(s: &[u8], i: usize) -> u32
     ensures { result ≡ four s.now i }
 {
     if i + 3 < s.len() {
-        let low = pair_at(s, i);
-        let high = pair_at(s, i + 2);
-        return low as u32 + high as u32 * 65536;
+        return quad_at(s, i);
     }
     two_at(s, i) as u32 + two_at(s, i + 2) as u32 * 65536
-}
-
-// The number in two bytes.
-fn both(low: u8, high: u8) -> u16
-    ensures { result ≡ low + high * 256 }
-{
-    low as u16 + high as u16 * 256
 }
 
 // The number in the two bytes from i on, which are both there.
@@ -137,7 +129,15 @@ pub fn pair_at(s: &[u8], i: usize) -> u16
     requires { i + 1 < length s.now }
     ensures { result ≡ two s.now i }
 {
-    both(s[i], s[i + 1])
+    u16::from_le_bytes([s[i], s[i + 1]])
+}
+
+// The number in the four bytes from i on, which are all there.
+pub fn quad_at(s: &[u8], i: usize) -> u32
+    requires { i + 3 < length s.now }
+    ensures { result ≡ four s.now i }
+{
+    u32::from_le_bytes([s[i], s[i + 1], s[i + 2], s[i + 3]])
 }
 
 // How many bytes the record at the front of rec has: a limited Set by the count that is stored.
@@ -156,10 +156,8 @@ pub fn vector_of(rec: &[u8]) -> [u16; SITES]
     ensures { result ≡ counts most_sites (drop vector_at rec.now) }
 {
     let mut v = [0u16; SITES];
-    let mut i: usize = 0;
-    while i < SITES {
-        v[i] = pair_at(rec, AT_VECTOR + 2 * i);
-        i += 1;
+    for (i, n) in v.iter_mut().enumerate() {
+        *n = pair_at(rec, AT_VECTOR + 2 * i);
     }
     v
 }
@@ -189,11 +187,7 @@ fn padded(rec: &[u8]) -> [u8; RECORD]
     ensures { (i : ℕ) → get_or result i 0 ≡ get_or rec.now i 0 }
 {
     let mut whole = [0u8; RECORD];
-    let mut i: usize = 0;
-    while i < rec.len() {
-        whole[i] = rec[i];
-        i += 1;
-    }
+    whole[..rec.len()].copy_from_slice(rec);
     whole
 }
 
@@ -224,7 +218,7 @@ pub fn encode(e: Edit) -> [u8; PLACE]
 pub fn entry_at(s: &[u16], i: usize) -> u16
     ensures { result ≡ get_or s.now i 0 }
 {
-    if i < s.len() { s[i] } else { 0 }
+    s.get(i).copied().unwrap_or(0)
 }
 
 // Whether an edit of this kind is a Set, be it limited or not.
@@ -252,8 +246,7 @@ pub fn is_aimed_kind(kind: u8) -> bool
 pub fn entry(v: [u16; SITES], s: Site) -> Seq
     ensures { result ≡ entry_of v s }
 {
-    let i = s.0 as usize;
-    if i < SITES { Seq(v[i]) } else { Seq(0) }
+    Seq(entry_at(&v, s.0 as usize))
 }
 
 // The name of a member: its site and its sequence number as one number.
@@ -279,7 +272,5 @@ pub fn value_of(rec: &[u8]) -> u32
     requires { record_length ≤ length rec.now }
     ensures { result ≡ four rec.now value_at }
 {
-    let low = pair_at(rec, AT_VALUE);
-    let high = pair_at(rec, AT_VALUE + 2);
-    low as u32 + high as u32 * 65536
+    quad_at(rec, AT_VALUE)
 }

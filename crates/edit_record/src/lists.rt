@@ -21,10 +21,8 @@ fn first_members(rec: &[u8], k: usize) -> [u32; MEMBERS]
     ensures { result ≡ first_fours most_members k (drop members_at rec.now) }
 {
     let mut m = [0u32; MEMBERS];
-    let mut i: usize = 0;
-    while i < k {
+    for i in 0..k {
         m[i] = four_at(rec, AT_MEMBERS + MEMBER * i);
-        i += 1;
     }
     m
 }
@@ -38,9 +36,5 @@ pub fn members_of(rec: &[u8]) -> [u32; MEMBERS]
         return [0u32; MEMBERS];
     }
     let k = two_at(rec, AT_COUNT) as usize;
-    if k < MEMBERS {
-        first_members(rec, k)
-    } else {
-        first_members(rec, MEMBERS)
-    }
+    first_members(rec, k.min(MEMBERS))
 }

@@ -24,7 +24,8 @@ fn with_count(bytes: [u8; PLACE], i: usize, n: u16) -> [u8; PLACE]
     requires { i + 1 < place_length }
     ensures { take (i + 2) result ≡ take i bytes ++ count_bytes (n ∷ []) }
 {
-    with_two(bytes, i, (n % 256) as u8, (n / 256 % 256) as u8)
+    let [low, high] = n.to_le_bytes();
+    with_two(bytes, i, low, high)
 }
 
 // The bytes before a vector as they stand, then those of its counts.
@@ -32,11 +33,9 @@ fn with_vector(bytes: [u8; PLACE], v: [u16; SITES]) -> [u8; PLACE]
     ensures { take target_at result ≡ take vector_at bytes ++ count_bytes v }
 {
     let mut out = bytes;
-    let mut i: usize = 0;
-    while i < SITES {
-        let next = with_count(out, AT_VECTOR + 2 * i, v[i]);
+    for (i, &n) in v.iter().enumerate() {
+        let next = with_count(out, AT_VECTOR + 2 * i, n);
         out = next;
-        i += 1;
     }
     out
 }
@@ -60,8 +59,7 @@ pub fn encode_fields(e: Edit) -> [u8; PLACE]
     let seen = with_vector(own, v);
     let target = with_two(seen, AT_TARGET, e.tsite.0, e.key);
     let named = with_count(target, AT_TARGET_SEQ, e.tseq.0);
-    let low = with_count(named, AT_VALUE, (e.value % 65536) as u16);
-    with_count(low, AT_VALUE + 2, (e.value / 65536) as u16)
+    with_four(named, AT_VALUE, e.value)
 }
 
 // The bytes before the count of a list as they stand, then those of the count and of the members.
@@ -69,11 +67,9 @@ pub fn with_list(bytes: [u8; PLACE], count: u32, members: [u32; MEMBERS]) -> [u8
     ensures { result ≡ take record_length bytes ++ four_bytes (count ∷ members) }
 {
     let mut out = with_four(bytes, AT_COUNT, count);
-    let mut i: usize = 0;
-    while i < MEMBERS {
-        let next = with_four(out, AT_MEMBERS + MEMBER * i, members[i]);
+    for (i, &m) in members.iter().enumerate() {
+        let next = with_four(out, AT_MEMBERS + MEMBER * i, m);
         out = next;
-        i += 1;
     }
     out
 }

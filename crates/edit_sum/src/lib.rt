@@ -17,16 +17,14 @@ fn word_at(s: &[u8], i: usize) -> u32
     requires { i * word_length + word_length ≤ length s.now }
     ensures { result ≡ word_at s.now i }
 {
-    let low = edit_record::pair_at(s, i * WORD);
-    let high = edit_record::pair_at(s, i * WORD + 2);
-    low as u32 + high as u32 * 65536
+    edit_record::quad_at(s, i * WORD)
 }
 
 // The sum of two numbers, wrapped at the top.
 pub fn added(a: u32, b: u32) -> u32
     ensures { result ≡ wrapped (a + b) }
 {
-    std::num::wrapping_add_u32(a, b)
+    a.wrapping_add(b)
 }
 
 // The first n words added up, wrapped at the top.
@@ -35,10 +33,8 @@ fn sum_words(s: &[u8], n: usize) -> u32
     ensures { result ≡ sum_of n s.now }
 {
     let mut sum: u32 = 0;
-    let mut i: usize = 0;
-    while i < n {
+    for i in 0..n {
         sum = added(sum, word_at(s, i));
-        i += 1;
     }
     sum
 }

@@ -2,13 +2,13 @@
 -- that e has seen and that one had not: what that one had seen it holds no entry above its own, since it passed. Then
 -- counts and index decide 1 to 5. Assumes no more sites than entries.
 use mathlib.Core.Path.{◌≡◌, refl, ap, sym, ◌∙◌}
-use mathlib.Core.Logic.{◌⊎◌, inl, inr}
+use mathlib.Core.Logic.{inl, inr}
 use mathlib.Core.Bool.{Bool, true, false, not, ◌&&◌, ◌||◌}
 use mathlib.Core.List.{List}
-use Prim.Native.Nat.{ℕ, ◌+◌, ◌≤◌, ◌<◌}
+use Prim.Native.Nat.{ℕ, ◌≤◌, ◌<◌}
 use native.Mathlib.Omega.{arith}
 use native.Mathlib.Decide.{ℕ_discrete}
-use lib.Dec.{eqb, leb, ltb}
+use lib.Dec.{eqb, ltb}
 use lib.ListN.{length, get_or, replicate}
 use borrow.Author.Tests.{eqb-false, eq-eqb, ne_eqb, le-leb, ltb-true, not-true}
 use Rattle.math_lists.specs.NumbersBelow.{some}

@@ -28,13 +28,11 @@ fn count_sites(recs: &[u8], n: usize) -> [u16; SITES]
     ensures { Counted result (edits_of recs.now n) }
 {
     let mut counts = [0u16; SITES];
-    let mut i: usize = 0;
-    while i < n {
+    for i in 0..n {
         let site = edit_record::byte_at(recs, i * PLACE + AT_SITE) as usize;
         if site < SITES {
-            counts[site] = counts[site] + 1;
+            counts[site] += 1;
         }
-        i += 1;
     }
     counts
 }
@@ -45,11 +43,9 @@ pub fn space_places(counts: [u16; SITES], places: &mut [u16])
     ensures { Spaced (λ s. get_or counts s 0) places.new }
 {
     let mut at = SITES as u16;
-    let mut s: usize = 0;
-    while s < SITES {
+    for (s, &n) in counts.iter().enumerate() {
         places[s] = at;
-        at = at + counts[s];
-        s += 1;
+        at += n;
     }
 }
 
@@ -106,7 +102,7 @@ pub fn target_place(recs: &[u8], places: &[u16], p: usize) -> u16
 fn one_less(q: u16) -> u16
     ensures { result ≡ q - 1 }
 {
-    if 0 < q { q - 1 } else { 0 }
+    q.saturating_sub(1)
 }
 
 // The latest edit of site t that an edit of site s with the vector v has seen, itself left out; 0 is none. It is found
@@ -115,7 +111,7 @@ fn latest_seen(v: [u16; SITES], s: Site, t: Site) -> u16
     ensures { result ≡ get_or (seen_before v s) t.0 0 }
 {
     let q = edit_record::entry(v, t);
-    if t.0 == s.0 { one_less(q.0) } else { q.0 }
+    if t == s { one_less(q.0) } else { q.0 }
 }
 
 // The vector of the edit s.q by the index; zeros where q is 0.
@@ -149,13 +145,11 @@ pub fn is_torn_by_news(recs: &[u8], places: &[u16], w: [u16; SITES], s: Site) ->
     let last = latest_seen(w, s, s);
     let was = vector_by(recs, places, s, Seq(last));
     let mut found = edit_history::is_larger_somewhere(was, w);
-    let mut t: u8 = 0;
-    while (t as usize) < SITES {
+    for t in 0..SITES as u8 {
         let q = latest_seen(w, s, Site(t));
         if q != was[t as usize] {
-            found = found | is_torn_at(recs, places, w, Site(t), Seq(q));
+            found |= is_torn_at(recs, places, w, Site(t), Seq(q));
         }
-        t += 1;
     }
     found
 }
@@ -241,5 +235,5 @@ pub fn put_next(recs: &[u8], i: usize, held: &mut [u16], places: &mut [u16])
     let start = places[own];
     let seq = edit_record::pair_at(recs, at + AT_SEQ);
     places[start as usize + seq as usize] = i as u16;
-    held[own] = held[own] + 1;
+    held[own] += 1;
 }

@@ -9,7 +9,7 @@ use native.Mathlib.Omega.{arith}
 use lib.ListN.{length, get_or, take, drop, set, replicate, take-append-drop, length-append, length-replicate}
 use lib.ListN.{replicate-append-replicate}
 use lib.Seq.{slice, take-set-le, take-suc-set, drop-append-le, append_snoc, length-take-le, length-slice}
-use lib.Seq.{take_at, drop_at, take_all, drop-length}
+use lib.Seq.{take_at, drop_at}
 use Rattle.math_lists.specs.SortedLists.{any, filter}
 use Rattle.math_lists.proofs.Booleans.{or_right}
 use Rattle.math_lists.proofs.Elements.{any_append}
@@ -104,10 +104,9 @@ module _ (front behind rest d : List ℕ) (t n : ℕ) (e : d ≡ front ++ (behin
 
   -- with zeros behind it, it is a row
   pub apart-row :
-      (before : List ℕ) → n ≤ most_groups → length before ≡ most_groups →
-      rest ≡ drop {A = ℕ} n (replicate most_groups 0) →
-      take most_groups d ++ drop most_groups before ≡ settled (front ++ behind) before
-  apart-row before h long zeros =
+      (before : List ℕ) → n ≤ most_groups → rest ≡ drop {A = ℕ} n (replicate most_groups 0) →
+      d ≡ settled (front ++ behind) before
+  apart-row before h zeros =
       let many = length-append front behind ∙ hn in
       let more : List ℕ = replicate (most_groups - n) 0 in
       let sum : most_groups ≡ n + (most_groups - n) = omega arith in
@@ -115,14 +114,9 @@ module _ (front behind rest d : List ℕ) (t n : ℕ) (e : d ≡ front ++ (behin
       = ap (λ (i : ℕ). drop {A = ℕ} n (replicate i 0)) sum
       ∙ ap (drop {A = ℕ} n) (sym (replicate-append-replicate n (most_groups - n) 0))
       ∙ drop_at (replicate n 0) more n (length-replicate n 0) in
-      let whole : d ≡ (front ++ behind) ++ more
-      = e ∙ sym (append_assoc front behind rest) ∙ ap (λ (l : List ℕ). (front ++ behind) ++ l) (zeros ∙ left) in
-      let full : length d ≡ most_groups
-      = ap length whole ∙ length-append (front ++ behind) more
-      ∙ omega (arith, many, length-replicate {A = ℕ} (most_groups - n) 0) in
-      let none : drop most_groups before ≡ [] = ap (λ (i : ℕ). drop i before) (sym long) ∙ drop-length before in
-      rw (none, take_all most_groups d (omega (arith, full))) (append-nil d)
-      ∙ whole
+      e
+      ∙ sym (append_assoc front behind rest)
+      ∙ ap (λ (l : List ℕ). (front ++ behind) ++ l) (zeros ∙ left)
       ∙ row_is (front ++ behind) before n many h
 
 -- ---- where the number in place i passes, one from place t on does

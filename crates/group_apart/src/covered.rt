@@ -7,7 +7,7 @@ ghost use Rattle.math_maximal.specs.Step.{step};
 ghost use Rattle.group_step.specs.GroupRows.{most_groups, most_sets, settled};
 ghost use Rattle.group_step.specs.StepForms.{staying, Apart, part_of, wholes, all_covered};
 
-use group_step::{GROUPS, candidate_of, copy_in, is_compatible, step_row};
+use group_step::{GROUPS, candidate_of, is_compatible, step_row};
 
 // Whether each member of g is one of h.
 fn is_part(g: u64, h: u64) -> bool
@@ -30,9 +30,7 @@ fn put_apart(gs: &[u64], n: usize, m: u64, k: usize, t: usize, out: &mut [u64])
 {
     let mut a: usize = 0;
     let mut w = t;
-    let mut i: usize = 0;
-    while i < n {
-        let g = gs[i];
+    for &g in &gs[..n] {
         if is_compatible(m, g) {
             out[w] = candidate_of(m, k, g);
             w += 1;
@@ -40,7 +38,6 @@ fn put_apart(gs: &[u64], n: usize, m: u64, k: usize, t: usize, out: &mut [u64])
             out[a] = g;
             a += 1;
         }
-        i += 1;
     }
 }
 
@@ -49,14 +46,7 @@ fn is_part_of_any(s: &[u64], t: usize, n: usize, x: u64) -> bool
     requires { (t ≤ n) × (n ≤ length s.now) }
     ensures { result ≡ any (part_of x) (slice t n s.now) }
 {
-    let mut j = t;
-    while j < n {
-        if is_part(x, s[j]) {
-            return true;
-        }
-        j += 1;
-    }
-    false
+    s[t..n].iter().any(|&y| is_part(x, y))
 }
 
 // The same, with place i tried first.
@@ -78,13 +68,10 @@ fn are_covered(s: &[u64], t: usize, n: usize, m: u64, k: usize) -> bool
     requires { (t ≤ n) × (n ≤ length s.now) × (n ≤ most_groups) × (k < most_sets) }
     ensures { result ≡ all_covered m k (slice t n s.now) (take t s.now) }
 {
-    let mut i: usize = 0;
-    while i < t {
-        let x = candidate_of(m, k, s[i]);
-        if !is_part_near(s, t, t + i, n, x) {
+    for (i, &g) in s[..t].iter().enumerate() {
+        if !is_part_near(s, t, t + i, n, candidate_of(m, k, g)) {
             return false;
         }
-        i += 1;
     }
     true
 }
@@ -107,6 +94,6 @@ pub fn step_split(gs: &mut [u64], n: usize, m: u64, k: usize, t: usize) -> usize
     if !are_covered(&out, t, n, m, k) {
         return step_row(gs, n, m, k);
     }
-    copy_in(gs, &out, GROUPS);
+    gs.copy_from_slice(&out);
     n
 }

@@ -3,7 +3,7 @@ ghost use Rattle.std.specs.Prelude.{◌≡◌, ◌++◌, ◌-◌, ◌≤◌, ◌
 ghost use Rattle.group_step.specs.GroupRows.{most_sets};
 ghost use Rattle.group_step.specs.StepForms.{gained};
 
-use group_step::{only, zero_all};
+use group_step::only;
 
 // Puts Set k into each of the n first groups.
 pub fn put_bit(gs: &mut [u64], n: usize, k: usize)
@@ -11,10 +11,8 @@ pub fn put_bit(gs: &mut [u64], n: usize, k: usize)
     ensures { gs.new ≡ gained k (take n gs.old) ++ drop n gs.old }
 {
     let b = only(k);
-    let mut i: usize = 0;
-    while i < n {
-        gs[i] = gs[i] | b;
-        i += 1;
+    for g in &mut gs[..n] {
+        *g |= b;
     }
 }
 
@@ -24,5 +22,5 @@ pub fn gain(gs: &mut [u64], n: usize, k: usize)
     ensures { gs.new ≡ gained k (take n gs.old) ++ replicate (length gs.old - n) 0 }
 {
     put_bit(gs, n, k);
-    zero_all(&mut gs[n..]);
+    gs[n..].fill(0);
 }

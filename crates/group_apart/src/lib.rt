@@ -77,7 +77,8 @@ pub fn gain_at(groups: &mut [u64], o: usize, n: usize, k: usize)
     gaining::put_bit(&mut groups[from..to], n, k);
 }
 
-// Makes the step on the row of object o, of which it may be known that no group is part of a larger one.
+// Makes the step on the row of object o, of which it may be known that no group is part of a larger one. What is known
+// is a fact about the row and not a step to run: a closure in its place would have to bring the same law.
 pub fn step_known(groups: &mut [u64], o: usize, n: usize, m: u64, k: usize, apart: bool) -> usize
     requires { (length groups.old ≡ most_objects * most_groups)
         × (o < most_objects)

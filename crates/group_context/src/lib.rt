@@ -26,12 +26,10 @@ fn meeting_rows(rows: &[u64], n: usize, m: u64) -> u64
     ensures { result ≡ meeting rows.now n m }
 {
     let mut found: u64 = 0;
-    let mut j: usize = 0;
-    while j < n {
-        if rows[j] & m != 0 {
-            found = found | group_step::only(j);
+    for (j, &row) in rows[..n].iter().enumerate() {
+        if row & m != 0 {
+            found |= group_step::only(j);
         }
-        j += 1;
     }
     found
 }
@@ -73,11 +71,9 @@ pub fn put_conflicts(out: &mut [u64], plain: &[u64], ctx: &[u64], n: usize)
     ensures { (b : Box) → PlainRows b n plain.now → take n ctx.now ≡ contexts b n →
         (i : ℕ) → i < n → get_or out.new i 0 ≡ mask n (conflicts b i) }
 {
-    let mut i: usize = 0;
-    while i < n {
+    for i in 0..n {
         let reach = ctx[i] | group_step::only(i);
         out[i] = conflicts_by(plain, ctx, n, 0, reach);
-        i += 1;
     }
 }
 
@@ -104,7 +100,7 @@ pub fn but_first(g: u64) -> u64
 fn row_at(rows: &[u64], j: usize) -> u64
     ensures { result ≡ get_or rows.now j 0 }
 {
-    if j < rows.len() { rows[j] } else { 0 }
+    rows.get(j).copied().unwrap_or(0)
 }
 
 // The members of v whose number has no member of m: only the numbers of these are read.
@@ -115,11 +111,11 @@ fn clear_of(rows: &[u64], v: u64, m: u64) -> u64
     let mut kept: u64 = 0;
     let mut left = v;
     while left != 0 {
-        let j = u64::trailing_zeros(left) as usize;
+        let j = left.trailing_zeros() as usize;
         let row = row_at(rows, j);
         let rest = but_first(left);
         if row & m == 0 {
-            kept = kept | (left - rest);
+            kept |= left - rest;
         }
         left = rest;
     }
@@ -133,9 +129,9 @@ fn foes_of(plain: &[u64], m: u64) -> u64
     let mut foes: u64 = 0;
     let mut left = m;
     while left != 0 {
-        let j = u64::trailing_zeros(left) as usize;
+        let j = left.trailing_zeros() as usize;
         let row = row_at(plain, j);
-        foes = foes | row;
+        foes |= row;
         left = but_first(left);
     }
     foes

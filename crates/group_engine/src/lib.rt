@@ -19,11 +19,11 @@ fn is_stuck(conflicts: &[u64], lone: u64, may: u64) -> bool
 {
     let mut left = lone;
     while left != 0 {
-        let i = u64::trailing_zeros(left) as usize;
+        let i = left.trailing_zeros() as usize;
         if may & conflicts[i] == 0 {
             return true;
         }
-        left = left & (left - 1);
+        left &= left - 1;
     }
     false
 }
@@ -96,7 +96,7 @@ fn decide_rest(
         if GROUPS < next {
             return next;
         }
-        taken = taken + bit;
+        taken += bit;
         may = group_step::without(rest, foes);
         lone = group_step::without(lone, foes);
         if is_stuck(conflicts, lone, may) {

@@ -79,11 +79,9 @@ pub fn put_rows(rows: &mut [u64], recs: &[u8], places: &[u16], names: &[u32], k:
     ensures { Proper (sets_in recs.now places.now k) →
         RowsKept (sets_in recs.now places.now k) rows.new }
 {
-    let mut i: usize = 0;
-    while i < k {
+    for i in 0..k {
         let t = noted_at(rows, recs, places, names, i);
         put_down(rows, i, t);
-        i += 1;
     }
 }
 

@@ -1,7 +1,7 @@
 -- Forms that the code uses: what the rows of numbers tell of the Sets in some places of the records, and what is told
 -- of a Set by those before it. No one need believe them: laws in proofs/ tie them to `Conflict` of `edit_causal` and to
 -- `Answer16` of `edit_history`. Assumes nothing.
-use Rattle.std.specs.Prelude.{◌≡◌, Bool, true, false, not, cond, List, [], ◌∷◌, ◌++◌, ℕ, suc, ◌+◌, ◌^◌, ◌<◌, length, get_or, take}
+use Rattle.std.specs.Prelude.{◌≡◌, Bool, true, false, not, cond, List, [], ◌∷◌, ◌++◌, ℕ, suc, ◌^◌, ◌<◌, length, get_or, take}
 use Rattle.std.specs.Int.Bits.{bit_or}
 use Rattle.math_lists.specs.NumbersBelow.{all}
 use Rattle.math_lists.specs.SortedLists.{any}
@@ -20,7 +20,7 @@ use Rattle.group_context.specs.RowsOfBox.{PlainRows}
 use Rattle.group_limited.specs.declared.Sight.{Sight}
 use Rattle.group_limited.specs.declared.Told.{Told}
 use Rattle.group_limited.specs.declared.Judged.{Judged}
-use Rattle.group_sight.specs.SightForms.{seen_marks, named_marks, found, SeesTell}
+use Rattle.group_sight.specs.SightForms.{seen_marks, named_marks, SeesTell}
 
 -- ---- the marks of the Sets before e
 

@@ -13,7 +13,7 @@ ghost use Rattle.edit_record.specs.declared.Edit.{Edit};
 ghost use Rattle.edit_record.specs.RecordBytes.{decode_of};
 ghost use Rattle.edit_record.specs.Answer1.{is_limited};
 ghost use Rattle.edit_causal.specs.Conflict.{box_on};
-ghost use Rattle.edit_causal.specs.ConflictForms.{Proper, plain_marks};
+ghost use Rattle.edit_causal.specs.ConflictForms.{plain_marks};
 ghost use Rattle.edit_history.specs.EditsHeld.{record_at};
 ghost use Rattle.edit_history.specs.Answer16.{nameless_among};
 ghost use Rattle.group_step.specs.GroupRows.{most_sets};
@@ -24,6 +24,7 @@ ghost use Rattle.group_limited.specs.LimitedForms.{NamedBy};
 
 use edit_record::{AT_KIND, LIMITED, PLACE};
 use group_sight::{RECENT, list_of, marks_of, put_names};
+use group_step::SETS;
 
 // All that is asked of the Sets before a Set, and whether it is limited.
 #[derive(Clone, Copy)]
@@ -53,18 +54,39 @@ pub struct Judged {
     pub conflicts: u64,
 }
 
+// What is put down of the Sets of a box: their places and their names, for each those that conflict with it by document
+// 01's rule and its context, and what the authors of the last of them had seen.
+#[derive(Drop)]
+pub struct BoxRows {
+    pub members: [u16; SETS],
+    pub names: [u32; SETS],
+    pub plain: [u64; SETS],
+    pub contexts: [u64; SETS],
+    pub sees: [u64; RECENT],
+}
+
+impl BoxRows {
+    // Nothing is put down yet. What work space holds at first does not matter; zeros would be set by memset
+    // (docs/DECISIONS.md, 24).
+    pub fn none() -> BoxRows {
+        BoxRows {
+            members: [1; SETS],
+            names: [1; SETS],
+            plain: [1; SETS],
+            contexts: [1; SETS],
+            sees: [1; RECENT],
+        }
+    }
+}
+
 // Whether one of the Sets in the k first places is limited; only their kinds are read.
 pub fn is_any_limited(recs: &[u8], places: &[u16], k: usize) -> bool
     requires { k ≤ length places.now }
     ensures { result ≡ any is_limited (sets_in recs.now places.now k) }
 {
-    let mut found = false;
-    let mut i: usize = 0;
-    while i < k {
-        found = found | (edit_history::kind_at(recs, places[i] as usize) == LIMITED);
-        i += 1;
-    }
-    found
+    places[..k]
+        .iter()
+        .any(|&p| edit_history::kind_at(recs, p as usize) == LIMITED)
 }
 
 // What is asked of the Sets in the k first places, whose names these are, for that of rec, which comes after them.
@@ -148,31 +170,18 @@ pub fn told_by(plain: &[u64], ctx: &[u64], n: usize, s: Sight) -> Told
     }
 }
 
-// What is told of the Set in place p, which comes after those in the n first places, by their names and their rows.
-pub fn told_at(
-    recs: &[u8],
-    places: &[u16],
-    names: &[u32],
-    sees: &[u64],
-    n: usize,
-    plain: &[u64],
-    ctx: &[u64],
-    p: u16,
-) -> Told
+// What is told of the Set in place p, which comes after those in the n first places, by what is put down of them.
+pub fn told_at(rows: &BoxRows, recs: &[u8], places: &[u16], n: usize, p: u16) -> Told
     requires { (n ≤ most_sets)
         × (n ≤ length places.now)
-        × (n ≤ length names.now)
-        × (most_recent ≤ length sees.now)
-        × (n ≤ length plain.now)
-        × (n ≤ length ctx.now)
-        × NamesIn recs.now places.now n names.now }
+        × NamesIn recs.now places.now n rows.now.names }
     ensures { (result.row < 2 ^ n) × SightedTo (sets_in recs.now places.now n)
-        (record_at recs.now p) sees.now
-        (RowsTell (sets_in recs.now places.now n) plain.now ctx.now →
+        (record_at recs.now p) rows.now.sees
+        (RowsTell (sets_in recs.now places.now n) rows.now.plain rows.now.contexts →
         ToldOf (sets_in recs.now places.now n) (record_at recs.now p) result) }
 {
-    let s = sight_at(recs, places, names, sees, n, p);
-    told_by(plain, ctx, n, s)
+    let s = sight_at(recs, places, &rows.names, &rows.sees, n, p);
+    told_by(&rows.plain, &rows.contexts, n, s)
 }
 
 // Marks Set n in the numbers of those before it that are members of `row`: only these are touched.
@@ -184,7 +193,7 @@ fn mark_in_rows(plain: &mut [u64], n: usize, row: u64)
     let mut left = row;
     while left != 0 {
         let j = u64::trailing_zeros(left) as usize;
-        plain[j] = plain[j] | own;
+        plain[j] |= own;
         left = group_context::but_first(left);
     }
 }
@@ -210,62 +219,16 @@ pub fn put_told(plain: &mut [u64], ctx: &mut [u64], n: usize, row: u64, own: u64
     ctx[n] = own;
 }
 
-// Puts down the rows of the Sets in the k first places, whose names these are, each by those before it, and in `sees`
-// what the authors of the last of them had seen.
-pub fn put_rows(
-    plain: &mut [u64],
-    ctx: &mut [u64],
-    sees: &mut [u64],
-    recs: &[u8],
-    places: &[u16],
-    names: &[u32],
-    k: usize,
-)
+// What the Set of rec is told, which arrives after the k first members, by what is put down of them.
+pub fn judge(rows: &BoxRows, recs: &[u8], k: usize, rec: &[u8]) -> Judged
     requires { (k ≤ most_sets)
-        × (k ≤ length places.now)
-        × (k ≤ length names.now)
-        × (k ≤ length plain.old)
-        × (k ≤ length ctx.old)
-        × (most_recent ≤ length sees.old)
-        × NamesIn recs.now places.now k names.now }
-    ensures { Proper (sets_in recs.now places.now k) →
-        RowsTell (sets_in recs.now places.now k) plain.new ctx.new
-        × SeesTell (sets_in recs.now places.now k) sees.new }
+        × NamesIn recs.now rows.now.members k rows.now.names }
+    ensures { RowsTell (sets_in recs.now rows.now.members k) rows.now.plain rows.now.contexts →
+        SeesTell (sets_in recs.now rows.now.members k) rows.now.sees →
+        JudgedOf (sets_in recs.now rows.now.members k) (decode_of rec.now) result }
 {
-    let mut i: usize = 0;
-    while i < k {
-        let s = sight_at(recs, places, names, sees, i, places[i]);
-        let own = left_by(plain, ctx, s);
-        put_told(plain, ctx, i, s.plain, own);
-        sees[i % RECENT] = s.seen;
-        i += 1;
-    }
-}
-
-// What the Set of rec is told, which arrives after those in the k first places, by their names and their rows.
-pub fn judge(
-    recs: &[u8],
-    places: &[u16],
-    names: &[u32],
-    sees: &[u64],
-    k: usize,
-    plain: &[u64],
-    ctx: &[u64],
-    rec: &[u8],
-) -> Judged
-    requires { (k ≤ most_sets)
-        × (k ≤ length places.now)
-        × (k ≤ length names.now)
-        × (most_recent ≤ length sees.now)
-        × (k ≤ length plain.now)
-        × (k ≤ length ctx.now)
-        × NamesIn recs.now places.now k names.now }
-    ensures { RowsTell (sets_in recs.now places.now k) plain.now ctx.now →
-        SeesTell (sets_in recs.now places.now k) sees.now →
-        JudgedOf (sets_in recs.now places.now k) (decode_of rec.now) result }
-{
-    let s = sight_of(recs, places, names, sees, k, rec);
-    let t = told_by(plain, ctx, k, s);
+    let s = sight_of(recs, &rows.members, &rows.names, &rows.sees, k, rec);
+    let t = told_by(&rows.plain, &rows.contexts, k, s);
     Judged {
         nameless: t.nameless,
         conflicts: t.conflicts,
@@ -294,8 +257,7 @@ fn are_named_with(
         NamedBy (sets_in recs.now places.now k) result plain.new ctx.new
         sees.new }
 {
-    let mut i: usize = 0;
-    while i < k {
+    for i in 0..k {
         let s = sight_at(recs, places, names, sees, i, places[i]);
         let own = left_by(plain, ctx, s);
         if is_nameless(plain, s, own) {
@@ -303,7 +265,6 @@ fn are_named_with(
         }
         put_told(plain, ctx, i, s.plain, own);
         sees[i % RECENT] = s.seen;
-        i += 1;
     }
     true
 }

@@ -42,11 +42,8 @@ pub fn chain_sets(chain: &mut [u8], recs: &[u8], n: usize, places: &[u16])
     ensures { Indexed recs.now n places.now → TargetsHeld recs.now n →
         ByteChained recs.now n chain.new }
 {
-    let mut i = n;
-    while 0 < i {
-        let q = i - 1;
+    for q in (0..n).rev() {
         link_record(chain, recs, places, q);
-        i = q;
     }
 }
 
@@ -60,6 +57,7 @@ pub fn gather_sets(out: &mut [u16], chain: &[u8], p: usize) -> usize
 {
     let mut at = byte_at(chain, p);
     let mut k: usize = 0;
+    // goes from place to place along the chain; k bounds it
     while (at != 0) & (k < SETS) {
         out[k] = at as u16;
         k += 1;

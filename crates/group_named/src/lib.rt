@@ -17,27 +17,19 @@ ghost use Rattle.edit_history.specs.Answers2to5.{records_pass};
 ghost use Rattle.edit_history.specs.Answer16.{records_named};
 ghost use Rattle.edit_walk.specs.WalkForms.{Indexed};
 ghost use Rattle.group_step.specs.GroupRows.{most_sets};
-ghost use Rattle.group_sight.specs.SightForms.{most_recent};
 ghost use Rattle.group_named.specs.ChainForms.{ByteChained};
 ghost use Rattle.group_named.specs.NamedForms.{FewSets, LawfulSets, is_named_at, swap_of, BoxTold};
 
 use edit_history::RECORDS;
 use edit_record::{CREATE, LIMITED};
-use group_sight::RECENT;
-use group_step::SETS;
+use group_limited::BoxRows;
 
 // Whether one of the first n records is a limited Set; only the kinds are read.
 fn is_limited_held(recs: &[u8], n: usize) -> bool
     requires { n ≤ most_records }
     ensures { result ≡ any is_limited (edits_of recs.now n) }
 {
-    let mut found = false;
-    let mut i: usize = 0;
-    while i < n {
-        found = found | (edit_history::kind_at(recs, i) == LIMITED);
-        i += 1;
-    }
-    found
+    (0..n).any(|p| edit_history::kind_at(recs, p) == LIMITED)
 }
 
 // The number i, where a and b have changed places.
@@ -57,85 +49,56 @@ fn swapped(i: usize, a: usize, b: usize) -> usize
 // before it; there is nothing to ask of another edit. Where the rows of these Sets are asked for, they are put down in
 // any case, as they else are only where one of them is limited.
 fn are_named_at(
-    members: &mut [u16],
-    plain: &mut [u64],
-    ctx: &mut [u64],
-    sees: &mut [u64],
-    names: &mut [u32],
+    rows: &mut BoxRows,
     recs: &[u8],
     n: usize,
     chain: &[u8],
     p: usize,
-    rows: bool,
+    asked: bool,
 ) -> bool
     requires { (n ≤ most_records)
         × (p < n)
-        × FewSets (edits_of recs.now n)
-        × (most_sets ≤ length members.old)
-        × (most_sets ≤ length plain.old)
-        × (most_sets ≤ length ctx.old)
-        × (most_recent ≤ length sees.old)
-        × (most_sets ≤ length names.old) }
+        × FewSets (edits_of recs.now n) }
     ensures { ByteChained recs.now n chain.now → LawfulSets (edits_of recs.now n) →
         (result ≡ is_named_at recs.now n p)
-        × (rows ≡ true → result ≡ true → BoxTold recs.now n p members.new names.new
-        plain.new ctx.new sees.new) }
+        × (asked ≡ true → result ≡ true → BoxTold recs.now n p rows.new.members rows.new.names
+        rows.new.plain rows.new.contexts rows.new.sees) }
 {
     if edit_history::kind_at(recs, p) != CREATE {
         return true;
     }
-    let k = chain::gather_sets(members, chain, p);
-    let limited = group_limited::is_any_limited(recs, members, k);
-    if !(limited | rows) {
+    let k = chain::gather_sets(&mut rows.members, chain, p);
+    let limited = group_limited::is_any_limited(recs, &rows.members, k);
+    if !(limited | asked) {
         return true;
     }
-    group_limited::are_named(plain, ctx, sees, names, recs, members, k)
+    group_limited::are_named(
+        &mut rows.plain,
+        &mut rows.contexts,
+        &mut rows.sees,
+        &mut rows.names,
+        recs,
+        &rows.members,
+        k,
+    )
 }
 
 // The same for each of the first n records, with that in place `last` as the last: what is put down tells of its Sets.
-fn are_named_each(
-    members: &mut [u16],
-    plain: &mut [u64],
-    ctx: &mut [u64],
-    sees: &mut [u64],
-    names: &mut [u32],
-    recs: &[u8],
-    n: usize,
-    chain: &[u8],
-    last: usize,
-) -> bool
+fn are_named_each(rows: &mut BoxRows, recs: &[u8], n: usize, chain: &[u8], last: usize) -> bool
     requires { (n ≤ most_records)
         × (last < n)
-        × FewSets (edits_of recs.now n)
-        × (most_sets ≤ length members.old)
-        × (most_sets ≤ length plain.old)
-        × (most_sets ≤ length ctx.old)
-        × (most_recent ≤ length sees.old)
-        × (most_sets ≤ length names.old) }
+        × FewSets (edits_of recs.now n) }
     ensures { ByteChained recs.now n chain.now → LawfulSets (edits_of recs.now n) →
         (result ≡ all n (is_named_at recs.now n))
-        × (result ≡ true → BoxTold recs.now n last members.new names.new
-        plain.new ctx.new sees.new) }
+        × (result ≡ true → BoxTold recs.now n last rows.new.members rows.new.names
+        rows.new.plain rows.new.contexts rows.new.sees) }
 {
     let end = n - 1;
     let mut named = true;
-    let mut i: usize = 0;
-    while i < n {
+    for i in 0..n {
         let p = swapped(i, end, last);
-        let own = are_named_at(
-            members,
-            plain,
-            ctx,
-            sees,
-            names,
-            recs,
-            n,
-            chain,
-            p,
-            i == end,
-        );
-        named = named & own;
-        i += 1;
+        let own = are_named_at(rows, recs, n, chain, p, i == end);
+        named &= own;
     }
     named
 }
@@ -143,11 +106,7 @@ fn are_named_each(
 // Whether 16 is given to none of the first n records, each after those before it, where they pass 1 to 5 in their order
 // and `places` is their index; the rows of the Sets on the Create in place `last` are left in what is lent.
 pub fn are_named_last(
-    members: &mut [u16],
-    plain: &mut [u64],
-    ctx: &mut [u64],
-    sees: &mut [u64],
-    names: &mut [u32],
+    rows: &mut BoxRows,
     recs: &[u8],
     n: usize,
     places: &[u16],
@@ -155,20 +114,15 @@ pub fn are_named_last(
 ) -> bool
     requires { (n ≤ most_records)
         × (last < n)
-        × FewSets (edits_of recs.now n)
-        × (most_sets ≤ length members.old)
-        × (most_sets ≤ length plain.old)
-        × (most_sets ≤ length ctx.old)
-        × (most_recent ≤ length sees.old)
-        × (most_sets ≤ length names.old) }
+        × FewSets (edits_of recs.now n) }
     ensures { (sites : ℕ) → sites ≤ most_sites → records_pass sites recs.now n ≡ true →
         Indexed recs.now n places.now → (result ≡ records_named recs.now n)
-        × (result ≡ true → BoxTold recs.now n last members.new names.new
-        plain.new ctx.new sees.new) }
+        × (result ≡ true → BoxTold recs.now n last rows.new.members rows.new.names
+        rows.new.plain rows.new.contexts rows.new.sees) }
 {
     let mut chain = [0u8; RECORDS];
     chain::chain_sets(&mut chain, recs, n, places);
-    are_named_each(members, plain, ctx, sees, names, recs, n, &chain, last)
+    are_named_each(rows, recs, n, &chain, last)
 }
 
 // The same where no rows are asked for.
@@ -181,21 +135,5 @@ pub fn are_all_named(recs: &[u8], n: usize, places: &[u16]) -> bool
     if !is_limited_held(recs, n) {
         return true;
     }
-    // what work space holds at first does not matter; zeros would be set by memset (docs/DECISIONS.md, 24)
-    let mut members = [1u16; SETS];
-    let mut plain = [1u64; SETS];
-    let mut ctx = [1u64; SETS];
-    let mut sees = [1u64; RECENT];
-    let mut names = [1u32; SETS];
-    are_named_last(
-        &mut members,
-        &mut plain,
-        &mut ctx,
-        &mut sees,
-        &mut names,
-        recs,
-        n,
-        places,
-        n - 1,
-    )
+    are_named_last(&mut BoxRows::none(), recs, n, places, n - 1)
 }

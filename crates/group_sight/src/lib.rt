@@ -65,15 +65,6 @@ pub fn vector_in(rec: &[u8]) -> [u16; SITES]
     e.vector
 }
 
-// The name of the edit of rec.
-pub fn name_of(rec: &[u8]) -> u32
-    ensures { NameOf result (decode_of rec.now) }
-{
-    let site = edit_record::byte_at(rec, AT_SITE);
-    let seq = edit_record::two_at(rec, AT_SEQ);
-    site as u32 * SEQ_NUMBERS + seq as u32
-}
-
 // The name of the edit in place p, read where it stands.
 fn name_at(recs: &[u8], p: u16) -> u32
     ensures { NameOf result (record_at recs.now p) }
@@ -84,15 +75,20 @@ fn name_at(recs: &[u8], p: u16) -> u32
     site as u32 * SEQ_NUMBERS + seq as u32
 }
 
+// The name of the edit of rec.
+pub fn name_of(rec: &[u8]) -> u32
+    ensures { NameOf result (decode_of rec.now) }
+{
+    name_at(rec, 0)
+}
+
 // Puts down the names of the edits in the k first places.
 pub fn put_names(names: &mut [u32], recs: &[u8], places: &[u16], k: usize)
     requires { (k ≤ length names.old) × (k ≤ length places.now) }
     ensures { NamesIn recs.now places.now k names.new }
 {
-    let mut i: usize = 0;
-    while i < k {
+    for i in 0..k {
         names[i] = name_at(recs, places[i]);
-        i += 1;
     }
 }
 
@@ -134,12 +130,10 @@ fn sum_of_name(names: &[u32], k: usize, x: u32) -> u32
     ensures { result ≡ sum_of_name names.now k x }
 {
     let mut t: u32 = 0;
-    let mut i: usize = 0;
-    while i < k {
-        if names[i] == x {
-            t = t + (FOUND + i as u32);
+    for (i, &name) in names[..k].iter().enumerate() {
+        if name == x {
+            t += FOUND + i as u32;
         }
-        i += 1;
     }
     t
 }
@@ -150,10 +144,8 @@ fn marks_one_by_one(names: &[u32], k: usize, x: u32) -> u64
     ensures { result ≡ marks_of_name names.now k x }
 {
     let mut m: u64 = 0;
-    let mut i: usize = 0;
-    while i < k {
-        m = marked_if(names[i] == x, m, i);
-        i += 1;
+    for (i, &name) in names[..k].iter().enumerate() {
+        m = marked_if(name == x, m, i);
     }
     m
 }
@@ -187,11 +179,7 @@ fn listed(count: u32) -> usize
     ensures { (result ≤ most_members)
         × ((xs : List ℕ) → length xs ≡ most_members → take result xs ≡ take count xs) }
 {
-    if MEMBERS < count as usize {
-        MEMBERS
-    } else {
-        count as usize
-    }
+    MEMBERS.min(count as usize)
 }
 
 // Member i of a limited Set, read where it stands: there are as many as the first two bytes of the count say.
@@ -219,12 +207,10 @@ pub fn listed_among(names: &[u32], k: usize, seen: u64, rec: &[u8]) -> NamedBefo
     let count = edit_record::two_at(rec, AT_COUNT);
     let mut named: u64 = 0;
     let mut strange = false;
-    let mut i: usize = 0;
-    while i < n {
+    for i in 0..n {
         let m = marks_of_name(names, k, edit_record::name_in(member_of(rec, count, i)));
-        named = named | m;
-        strange = strange | (m & seen == 0);
-        i += 1;
+        named |= m;
+        strange |= m & seen == 0;
     }
     NamedBefore { named, strange }
 }

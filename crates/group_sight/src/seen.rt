@@ -147,7 +147,7 @@ pub fn seen_of(names: &[u32], sees: &[u64], k: usize, y: u32, v: &[u16]) -> u64
         let mut known = own;
         if is_seen(names[i], y, v) {
             known = own | known_by(sees, k, i);
-            seen = seen | known;
+            seen |= known;
         }
         left = group_step::without(left, known);
     }
@@ -168,7 +168,7 @@ pub fn foes_among(recs: &[u8], places: &[u16], names: &[u32], m: u64, s: Side) -
         let j = u64::trailing_zeros(left) as usize;
         let rest = group_context::but_first(left);
         if is_foe_at(recs, places[j], names[j], s) {
-            plain = plain | (left - rest);
+            plain |= left - rest;
         }
         left = rest;
     }

@@ -4,3 +4,4 @@ pub mod LoopRuns
 pub mod PutAmong
 pub mod LoopTurns
 pub mod RowAfterStep
+pub mod Chains

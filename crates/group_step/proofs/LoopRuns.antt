@@ -1,14 +1,14 @@
 -- A loop that goes through the n first numbers of a list: what it has passed stands in front, `take i s`, and what is
 -- left is `slice i n s`. Assumes nothing.
 use mathlib.Core.Path.{◌≡◌, sym, ap, ◌∙◌}
-use mathlib.Core.List.{List, [], ◌∷◌, ◌++◌, append-nil}
-use Prim.Native.Nat.{ℕ, suc, ◌+◌, ◌≤◌, ◌<◌}
+use mathlib.Core.List.{List, [], ◌∷◌, ◌++◌}
+use Prim.Native.Nat.{ℕ, ◌+◌, ◌≤◌, ◌<◌}
 use native.Mathlib.Nat.{le_antisymm}
 use native.Mathlib.Numerals.{add-one}
 use native.Mathlib.Omega.{arith}
-use lib.ListN.{length, get_or, take, drop, set, replicate, take-append-drop}
+use lib.ListN.{length, get_or, take, drop, set, take-append-drop}
 use lib.Seq.{slice, slice-cons, slice_empty, take-suc, take-suc-set, append_snoc, take-set-lt, drop-set-lt}
-use lib.Seq.{take-take, drop-cons, drop-drop, set_at, length-take-le, drop-length}
+use lib.Seq.{take-take, drop-drop}
 
 -- one number more is passed as it is
 pub passed :
@@ -55,22 +55,3 @@ module _ (s₀ s : List ℕ) (i n : ℕ) (same : slice i n s ≡ slice i n s₀)
 
   pub left-same : slice (i + 1) n s ≡ slice (i + 1) n s₀
   left-same = sym (drop-drop 1 i (take n s)) ∙ ap (drop 1) same ∙ drop-drop 1 i (take n s₀)
-
--- ---- a copy from the front, and a list filled from the front
-
-pub copied :
-    (s d : List ℕ) (i : ℕ) → i < length s → i < length d →
-    set (take i s ++ drop i d) i (get_or s i 0) ≡ take (i + 1) s ++ drop (i + 1) d
-copied s d i h l =
-    rw (add-one, drop-cons d i 0)
-    (set_at (take i s) (get_or d i 0) (drop (suc i) d) (get_or s i 0) i (length-take-le i s (omega arith))
-    ∙ sym (rw (take-suc s i 0) (append_snoc (take i s) (get_or s i 0) (drop (suc i) d))))
-
-pub copied_all :
-    (s d₀ d : List ℕ) (i n : ℕ) → d ≡ take i s ++ drop i d₀ → i ≤ n → n ≤ i → d ≡ take n s ++ drop n d₀
-copied_all s d₀ d i n e h l = e ∙ rw (le_antisymm h l)
-
-pub filled-all :
-    (d₀ d : List ℕ) (i v : ℕ) → d ≡ replicate i v ++ drop i d₀ → i ≤ length d₀ → length d₀ ≤ i →
-    d ≡ replicate (length d₀) v
-filled-all d₀ d i v e h l = e ∙ rw (le_antisymm h l, drop-length d₀) (append-nil (replicate (length d₀) v))

@@ -28,12 +28,8 @@ pub fn print_file(out: &mut [u8], file: &[u8]) -> usize
         held: [0u16; SITES],
         sum: 0,
     };
-    let r = block_store::read_file(none, &mut records, &mut objects, &mut groups, file);
-    let answer = r.answer;
-    let number = table_drawing::number(answer);
-    if number != 0 {
-        return put_refusal(out, number as u32);
+    match block_store::read_file(none, &mut records, &mut objects, &mut groups, file) {
+        Ok(c) => put_list(out, c, &records, &objects, &groups),
+        Err(e) => put_refusal(out, u8::from(e.refusal) as u32),
     }
-    let c = r.counters;
-    put_list(out, c, &records, &objects, &groups)
 }

@@ -8,13 +8,14 @@ ghost use Rattle.list_text.specs.Pieces.{space, plus, dotted_length, equated_len
 ghost use Rattle.list_line.specs.Line.{name_text, identifier_text};
 ghost use Rattle.list_line.specs.Line.{identifier_length, settings_length, line_length};
 ghost use Rattle.list_version.specs.VersionForms.{name_by, is_in, identifier_by, KeyedBy};
-ghost use Rattle.list_line.specs.LineForms.{stamp_text, settings_by, line_by};
+ghost use Rattle.list_line.specs.LineForms.{stamp_text, settings_by, line_in};
 
 use super::pieces::{form_name, form_setting};
+use group_step::has;
 use list_text::{MINUS, NEWLINE, SPACE, put_byte, put_dotted};
-use list_version::ALL_KEYS;
-use list_version::sets::{NUMBERS, is_member};
+use list_version::gathered::Gathered;
 use list_version::values::last_of;
+use list_version::{ALL_KEYS, NUMBERS};
 
 // Puts `+` and the name of the Set in dispute x, if that is a member of g.
 fn put_lone_name(out: &mut [u8], n: usize, x: u64, g: u64) -> usize
@@ -23,7 +24,7 @@ fn put_lone_name(out: &mut [u8], n: usize, x: u64, g: u64) -> usize
         ≡ take n out.old ++ cond (is_in g x) (plus ∷ name_text (name_by x)) [])
         × (result ≤ n + (1 + dotted_length)) }
 {
-    if !is_member(g, (x % NUMBERS) as usize) {
+    if !has(g, (x % NUMBERS) as usize) {
         return n;
     }
     form_name(out, n, x)
@@ -39,10 +40,8 @@ fn put_lone_names(out: &mut [u8], n: usize, disputes: &[u64], d: usize, g: u64) 
         × (result ≤ n + d * (1 + dotted_length)) }
 {
     let mut w = n;
-    let mut i: usize = 0;
-    while i < d {
-        w = put_lone_name(out, w, disputes[i], g);
-        i += 1;
+    for &x in &disputes[..d] {
+        w = put_lone_name(out, w, x, g);
     }
     w
 }
@@ -99,42 +98,20 @@ fn put_lone_settings(
         × (result ≤ n + settings_length) }
 {
     let mut w = n;
-    let mut k: usize = 0;
-    while k < ALL_KEYS {
+    for k in 0..ALL_KEYS {
         let s = last_of(stamps, t, keyed, peaks, g, k);
         w = put_lone_setting(out, w, k, s);
-        k += 1;
     }
     w
 }
 
-// Puts at the front the line of the version g of the object whose Create is site.seq, by the d Sets in dispute, the
-// stamps of the t Sets and what is noted of their keys; says how many bytes it has.
-pub fn put_lone_line(
-    out: &mut [u8],
-    site: u8,
-    seq: u16,
-    disputes: &[u64],
-    d: usize,
-    stamps: &[u64],
-    t: usize,
-    keyed: &[u64],
-    peaks: u64,
-    g: u64,
-) -> usize
-    requires { (d ≤ length disputes.now)
-        × (d ≤ most_sets)
-        × (line_length ≤ length out.old)
-        × (t ≤ length stamps.now)
-        × (t ≤ most_sets)
-        × (keys ≤ length keyed.now)
-        × KeyedBy stamps.now keyed.now peaks t }
-    ensures { (take result out.new
-        ≡ line_by site seq (take d disputes.now) (take t stamps.now) g)
-        × (result ≤ line_length) }
+// Puts at the front the line of the version v of the object gathered; says how many bytes it has.
+pub fn put_lone_line(out: &mut [u8], g: &Gathered, v: u64) -> usize
+    requires { line_length ≤ length out.old }
+    ensures { (take result out.new ≡ line_in g.now v) × (result ≤ line_length) }
 {
-    let a = put_dotted(out, 0, site, seq);
-    let b = put_lone_identifier(out, a, disputes, d, g);
-    let w = put_lone_settings(out, b, stamps, t, keyed, peaks, g);
+    let a = put_dotted(out, 0, g.site, g.seq);
+    let b = put_lone_identifier(out, a, &g.disputes, g.disputed, v);
+    let w = put_lone_settings(out, b, &g.stamps, g.sets, &g.keyed, g.peaks, v);
     put_byte(out, w, NEWLINE)
 }

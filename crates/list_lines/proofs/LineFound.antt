@@ -9,7 +9,7 @@ use borrow.Author.Tests.{lt-ltb, le-ltb, ltb-true}
 use lib.Dec.{ltb}
 use lib.ListN.{length, get_or, take, drop, length-append, length-drop, length-map, get_or-append}
 use lib.Seq.{slice, get_or-append-add, length-take-le}
-use Rattle.math_lists.proofs.Booleans.{clash, same_test}
+use Rattle.math_lists.proofs.Booleans.{same_test}
 use Rattle.group_step.specs.GroupRows.{most_groups, row}
 use Rattle.group_step.proofs.LoopRuns.{next, none_left}
 use Rattle.table_drawing.specs.Tables.{Tables, groups_at}
@@ -21,7 +21,7 @@ use Rattle.list_version.proofs.VersionsSorted.{versions-length}
 use Rattle.list_lines.specs.declared.LinePlace.{LinePlace}
 use Rattle.list_objects.specs.Objects.{create_of, sets_for, objects_of}
 use Rattle.list_lines.specs.List.{lines_for, version_total, lines_of}
-use Rattle.list_lines.specs.LinesForms.{head_of, LeftOf, FoundIn, NumberedAs}
+use Rattle.list_lines.specs.LinesForms.{head_of, LeftOf, FoundAt, PutAs}
 use Rattle.list_lines.proofs.LinesGathered.{sorted-low}
 
 -- ---- in a list of lists
@@ -116,44 +116,40 @@ module _ (t : Tables) (s : Sound t) where
       pub passed_over : count ≤ left → Left (i + 1) (left - count)
       passed_over h = one-passed (lines_for t) order n k fits i left low f count o-count h
 
-      pub found_at : left < count → FoundIn t k (record { ok = true; object = o; version = left })
+      pub found_at : left < count → FoundAt t k (record { object = o; version = left })
       found_at h =
           let (test, line) = found_here (lines_for t) order n k fits i left low f (omega (arith, o-count)) in
           record {
-            ok = test ∙ ap (λ (os : List ℕ). ltb k (length (flat_map (lines_for t) os))) e;
-            object = λ ok. o-low;
-            version = λ ok. omega (arith, lines-count o o-low);
+            within = sym (test ∙ ap (λ (os : List ℕ). ltb k (length (flat_map (lines_for t) os))) e);
+            object = o-low;
+            version = omega (arith, lines-count o o-low);
             line =
-                λ ok. sym (ap (λ (os : List ℕ). get_or (flat_map (lines_for t) os) k []) e)
+                sym (ap (λ (os : List ℕ). get_or (flat_map (lines_for t) os) k []) e)
                 ∙ line ∙ ap (λ (x : ℕ). get_or (lines_for t x) left []) (sym at);
           }
 
     pub not_found :
-        (i left : ℕ) → i ≤ n → n ≤ i → Left i left → FoundIn t k (record { ok = false; object = 0; version = 0 })
+        (i left : ℕ) → i ≤ n → n ≤ i → Left i left →
+        ltb k (length (flat_map (lines_for t) (objects_of t))) ≡ false
     not_found i left h l f =
-        record {
-          ok = none_found (lines_for t) order n k fits i left h l f
-              ∙ ap (λ (os : List ℕ). ltb k (length (flat_map (lines_for t) os))) e;
-          object = λ ok. clash ok refl;
-          version = λ ok. clash ok refl;
-          line = λ ok. clash ok refl;
-        }
+        sym (none_found (lines_for t) order n k fits i left h l f
+        ∙ ap (λ (os : List ℕ). ltb k (length (flat_map (lines_for t) os))) e)
 
 -- ---- the lines by their numbers, line 0 in front
 
 module _ (t : Tables) (k : ℕ) (out : List ℕ) where
   pub numbered-head :
       (bytes : ℕ) → k ≡ 0 → take bytes out ≡ head_of t.counters t.objects → bytes ≤ line_length →
-      NumberedAs (lines_of t) k (record { ok = true; bytes = bytes }) out
+      PutAs (lines_of t) k bytes out
   unfolding lines_of version_total
   numbered-head bytes z e few =
       record {
-        ok = sym (lt-ltb k (length (lines_of t)) (omega arith));
+        within = lt-ltb k (length (lines_of t)) (omega arith);
         few = few;
-        line = λ ok. e ∙ rw z;
+        line = e ∙ rw z;
       }
 
-  module _ (j : ℕ) (next_one : k ≡ suc j) (f : LinePlace) (at : FoundIn t j f) where
+  module _ (j : ℕ) (next_one : k ≡ suc j) where
     abbrev rest : List (List ℕ)
     rest = flat_map (lines_for t) (objects_of t)
 
@@ -168,16 +164,16 @@ module _ (t : Tables) (k : ℕ) (out : List ℕ) where
     unfolding lines_of
     line-behind = rw next_one
 
-    pub not-numbered : f.ok ≡ false → NumberedAs (lines_of t) k (record { ok = false; bytes = 0 }) out
-    not-numbered h =
-        record { ok = sym h ∙ at.ok ∙ sym test-behind; few = omega arith; line = λ ok. clash ok refl }
+    pub not-numbered : ltb j (length rest) ≡ false → ltb k (length (lines_of t)) ≡ false
+    not-numbered h = test-behind ∙ h
 
     pub numbered :
-        (bytes : ℕ) → f.ok ≡ true → take bytes out ≡ get_or (lines_for t f.object) f.version [] →
-        bytes ≤ line_length → NumberedAs (lines_of t) k (record { ok = true; bytes = bytes }) out
-    numbered bytes h e few =
+        (f : LinePlace) → FoundAt t j f → (bytes : ℕ) →
+        take bytes out ≡ get_or (lines_for t f.object) f.version [] →
+        bytes ≤ line_length → PutAs (lines_of t) k bytes out
+    numbered f at bytes e few =
         record {
-          ok = sym h ∙ at.ok ∙ sym test-behind;
+          within = test-behind ∙ at.within;
           few = few;
-          line = λ ok. e ∙ sym (at.line h) ∙ sym line-behind;
+          line = e ∙ sym at.line ∙ sym line-behind;
         }

@@ -2,7 +2,7 @@
 use mathlib.Core.Path.{◌≡◌, refl, sym, ap, ◌∙◌, fun_ext}
 use mathlib.Core.Bool.{Bool, true, false}
 use mathlib.Core.List.{List, [], ◌∷◌, map}
-use Prim.Native.Nat.{ℕ, zero, suc, ◌-◌, ◌≤◌, ◌<◌}
+use Prim.Native.Nat.{ℕ, zero, suc, ◌<◌}
 use native.Mathlib.Numerals.{add-one}
 use native.Mathlib.Omega.{arith}
 use native.Mathlib.Decide.{dec_lt}
@@ -17,70 +17,54 @@ use Rattle.math_lists.proofs.NumbersBelow.{keep_at}
 use Rattle.math_lists.proofs.Elements.{any-off}
 use Rattle.math_lists.proofs.ByPlaces.{any-place-on}
 use Rattle.math_lists.proofs.PutInOrder.{any-gathered, gathered-length}
-use Rattle.edit_record.specs.Layout.{keys}
-use Rattle.group_step.specs.GroupRows.{most_sets, most_groups}
 use Rattle.table_drawing.specs.Tables.{Tables}
 use Rattle.table_soundness.proofs.SoundFacts.{Sound}
 use Rattle.table_arrival.specs.Answers6and7.{row_of}
 use Rattle.list_version.specs.VersionOrder.{versions_of}
 use Rattle.list_line.specs.Line.{version_line, object_lines}
 use Rattle.math_lists.proofs.ByPlaces.{map-place}
+use Rattle.list_line.specs.LineForms.{line_in}
 use Rattle.list_line.proofs.LineByStamps.{line-by}
-use Rattle.list_objects.specs.declared.Gathered.{Gathered}
+use Rattle.list_version.specs.declared.gathered.Gathered.{Gathered}
 use Rattle.list_objects.specs.Objects.{create_of, sets_for, objects_of}
 use Rattle.list_objects.specs.ObjectForms.{goes_first, GatheredOf}
 use Rattle.list_objects.proofs.GatheredIs.{names-differ}
 use Rattle.list_objects.proofs.KeysByTops.{in_order_lem}
 use Rattle.list_lines.specs.List.{lines_for}
-use Rattle.list_lines.specs.LinesForms.{LongEnough, line_in}
 
 -- ---- what is gathered of an object
 
-module _ (t : Tables) (s : Sound t) (o : ℕ) (low : o < t.counters.objects) (g : Gathered) (ds ss ks vs : List ℕ)
-    (f : GatheredOf t o g ds ss ks vs) (disputes-long : most_sets ≤ length ds) (stamps-long : most_sets ≤ length ss)
-    (keyed-long : keys ≤ length ks) (versions-long : most_groups ≤ length vs) where
-  pub gathered-ready : LongEnough g ds ss ks vs
-  gathered-ready =
-      record {
-        few = f.few-sets;
-        disputed = f.few-disputes;
-        disputes-long = disputes-long;
-        stamps-long = stamps-long;
-        keyed-long = keyed-long;
-        keyed = f.keyed;
-        versions-long = versions-long;
-      }
-
-  line-is : (v : ℕ) → line_in g ds ss v ≡ version_line (create_of t o) (sets_for t o) v
+module _ (t : Tables) (s : Sound t) (o : ℕ) (low : o < t.counters.objects) (g : Gathered) (f : GatheredOf t o g) where
+  line-is : (v : ℕ) → line_in g v ≡ version_line (create_of t o) (sets_for t o) v
   line-is v =
-      let stamps = take g.sets ss in
+      let stamps = take g.sets g.stamps in
       let long : length stamps ≡ length (sets_for t o)
-      = length-take-le g.sets ss (omega (arith, f.few-sets)) ∙ f.sets in
+      = length-take-le g.sets g.stamps (omega (arith, g.few_sets, g.stamps_long)) ∙ f.sets in
       rw (f.site, f.seq, f.disputes)
       (line-by (sets_for t o) stamps f.stamps v (create_of t o) (names-differ t s o low)
-      (omega (arith, f.sets, f.few-sets)) long)
+      (omega (arith, f.sets, g.few_sets)) long)
 
-  pub gathered-lines : map (line_in g ds ss) (take g.count vs) ≡ lines_for t o
+  pub gathered-lines : map (line_in g) (take g.count g.versions) ≡ lines_for t o
   unfolding lines_for object_lines
   gathered-lines =
-      ap (map (line_in g ds ss)) f.versions
+      ap (map (line_in g)) f.versions
       ∙ ap (λ (h : ℕ → List ℕ). map h (versions_of (sets_for t o) (row_of t o))) (fun_ext line-is)
 
   pub gathered-count : length (lines_for t o) ≡ g.count
   gathered-count =
       ap length (sym gathered-lines)
-      ∙ length-map (take g.count vs) (line_in g ds ss)
-      ∙ length-take-le g.count vs (omega (arith, f.few-groups))
+      ∙ length-map (take g.count g.versions) (line_in g)
+      ∙ length-take-le g.count g.versions (omega (arith, g.few_groups, g.versions_long))
 
   pub gathered-line :
-      (v : ℕ) → v < length (lines_for t o) → line_in g ds ss (get_or vs v 0) ≡ get_or (lines_for t o) v []
+      (v : ℕ) → v < length (lines_for t o) → line_in g (get_or g.versions v 0) ≡ get_or (lines_for t o) v []
   gathered-line v l =
       let low : v < g.count = omega (arith, gathered-count) in
-      let front = take g.count vs in
-      let long = length-take-le g.count vs (omega (arith, f.few-groups)) in
+      let front = take g.count g.versions in
+      let long = length-take-le g.count g.versions (omega (arith, g.few_groups, g.versions_long)) in
       sym (ap (λ (ls : List (List ℕ)). get_or ls v []) (sym gathered-lines)
-      ∙ map-place (line_in g ds ss) front v 0 [] (omega (arith, long))
-      ∙ ap (line_in g ds ss) (get_or-take g.count vs v 0 low))
+      ∙ map-place (line_in g) front v 0 [] (omega (arith, long))
+      ∙ ap (line_in g) (get_or-take g.count g.versions v 0 low))
 
 -- ---- the objects in their order are the numbers below their count, each once
 

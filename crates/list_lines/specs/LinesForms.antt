@@ -1,36 +1,17 @@
--- The lines of what the code gathered of an object, and where a line is found. No one need believe it: laws in proofs/
+-- Line 0 from what is lent, and where a line is found. No one need believe it: laws in proofs/
 -- tie it to `List`. Assumes nothing.
-use Rattle.std.specs.Prelude.{◌≡◌, true, ℕ, ◌≤◌, ◌<◌, ltb, length, get_or, take}
+use Rattle.std.specs.Prelude.{◌≡◌, true, false, Option, Some, None, ℕ, ◌≤◌, ◌<◌, ltb, length, get_or, take}
 use mathlib.Core.List.{List, [], flat_map}
 use Rattle.math_lists.specs.NumbersBelow.{sum}
-use Rattle.group_step.specs.GroupRows.{most_sets, most_groups}
 use Rattle.table_drawing.specs.declared.Counters.{Counters}
 use Rattle.table_drawing.specs.Tables.{Tables, groups_at}
-use Rattle.edit_record.specs.Layout.{keys}
 use Rattle.list_text.specs.HeadAndRefusal.{head_line}
-use Rattle.list_version.specs.VersionForms.{KeyedBy}
 use Rattle.list_line.specs.Line.{line_length}
-use Rattle.list_line.specs.LineForms.{line_by}
-use Rattle.list_objects.specs.declared.Gathered.{Gathered}
 use Rattle.list_objects.specs.Objects.{objects_of}
 use Rattle.list_lines.specs.declared.LinePlace.{LinePlace}
-use Rattle.list_lines.specs.declared.PutLine.{PutLine}
 use Rattle.list_lines.specs.List.{lines_for}
 
--- ---- the lines of what is gathered
-
--- the arrays are as long as they must be: the Sets in dispute, the stamps, the Sets of each key, and the versions
-pub record LongEnough (g : Gathered) (ds ss ks vs : List ℕ) : Type 0 where
-  pub few : g.sets ≤ most_sets
-  pub disputed : g.disputes ≤ most_sets
-  pub disputes-long : most_sets ≤ length ds
-  pub stamps-long : most_sets ≤ length ss
-  pub keyed-long : keys ≤ length ks
-  pub keyed : KeyedBy ss ks g.peaks g.sets
-  pub versions-long : most_groups ≤ length vs
-
-abbrev pub line_in : Gathered → List ℕ → List ℕ → ℕ → List ℕ
-line_in g ds ss v = line_by g.site g.seq (take g.disputes ds) (take g.sets ss) v
+-- ---- line 0
 
 -- line 0, from the counters and the objects as they are lent
 abbrev pub head_of : Counters → List ℕ → List ℕ
@@ -43,17 +24,25 @@ pub record LeftOf (lines : ℕ → List (List ℕ)) (os : List ℕ) (k : ℕ) (r
   pub test : ltb k (length (flat_map lines os)) ≡ ltb left (length (flat_map lines rest))
   pub line : get_or (flat_map lines os) k [] ≡ get_or (flat_map lines rest) left []
 
--- the k-th of the lines of all objects is that version's line of that object, if there is one
-pub record FoundIn (t : Tables) (k : ℕ) (f : LinePlace) : Type 0 where
-  pub ok : f.ok ≡ ltb k (length (flat_map (lines_for t) (objects_of t)))
-  pub object : f.ok ≡ true → f.object < t.counters.objects
-  pub version : f.ok ≡ true → f.version < length (lines_for t f.object)
-  pub line :
-      f.ok ≡ true →
-      get_or (flat_map (lines_for t) (objects_of t)) k [] ≡ get_or (lines_for t f.object) f.version []
+-- the k-th of the lines of all objects is that version's line of that object
+pub record FoundAt (t : Tables) (k : ℕ) (f : LinePlace) : Type 0 where
+  pub within : ltb k (length (flat_map (lines_for t) (objects_of t))) ≡ true
+  pub object : f.object < t.counters.objects
+  pub version : f.version < length (lines_for t f.object)
+  pub line : get_or (flat_map (lines_for t) (objects_of t)) k [] ≡ get_or (lines_for t f.object) f.version []
 
--- the k-th of the lines stands at the front of the output, if there is one
-pub record NumberedAs (lines : List (List ℕ)) (k : ℕ) (r : PutLine) (out : List ℕ) : Type 0 where
-  pub ok : r.ok ≡ ltb k (length lines)
-  pub few : r.bytes ≤ line_length
-  pub line : r.ok ≡ true → take r.bytes out ≡ get_or lines k []
+-- it is found there, or there is none
+abbrev pub FoundIn : Tables → ℕ → Option LinePlace → Type 0
+FoundIn t k (Some f) = FoundAt t k f
+FoundIn t k None = ltb k (length (flat_map (lines_for t) (objects_of t))) ≡ false
+
+-- the k-th of the lines stands at the front of the output, so many bytes long
+pub record PutAs (lines : List (List ℕ)) (k bytes : ℕ) (out : List ℕ) : Type 0 where
+  pub within : ltb k (length lines) ≡ true
+  pub few : bytes ≤ line_length
+  pub line : take bytes out ≡ get_or lines k []
+
+-- it stands there, or there is none
+abbrev pub NumberedAs : List (List ℕ) → ℕ → Option ℕ → List ℕ → Type 0
+NumberedAs lines k (Some bytes) out = PutAs lines k bytes out
+NumberedAs lines k None out = ltb k (length lines) ≡ false

@@ -2,42 +2,35 @@
 #![tactic(auto)]
 
 ghost use Rattle.std.specs.Prelude.{◌≡◌, true, [], ◌≤◌, ◌<◌, length, get_or, take};
+ghost use Rattle.std.specs.Result.{result_unwrap_or};
 ghost use Rattle.math_lists.specs.NumbersBelow.{sum};
 ghost use Rattle.edit_walk.specs.WalkForms.{Indexed};
-ghost use Rattle.group_step.specs.GroupRows.{most_objects, most_groups};
+ghost use Rattle.group_step.specs.GroupRows.{most_objects};
 ghost use Rattle.table_drawing.specs.Tables.{groups_at, tables_of};
-ghost use Rattle.table_drawing.specs.AnswerNumbers.{number_of};
+ghost use Rattle.table_drawing.specs.AnswerNumbers.{answer_of};
 ghost use Rattle.table_soundness.specs.Sound.{sound};
 ghost use Rattle.table_output.specs.Output.{writing};
 ghost use Rattle.list_line.specs.Line.{line_length};
 ghost use Rattle.list_lines.specs.List.{lines_for, lines_of};
 ghost use Rattle.list_lines.specs.LineByNumber.{line_of};
-ghost use Rattle.list_lines.specs.LinesForms.{LongEnough, line_in, head_of, FoundIn, NumberedAs};
+ghost use Rattle.list_lines.specs.LinesForms.{head_of, FoundIn, NumberedAs};
 
 use edit_walk::PLACES;
-use group_step::{GROUPS, OBJECTS, SETS};
+use group_step::{OBJECTS, SETS};
 use list_line::LINE;
 use list_line::alone::put_lone_line;
 use list_objects::order::sort_objects;
-use list_objects::{Gathered, gather, put_sets};
-use list_version::ALL_KEYS;
+use list_objects::{gather, put_sets};
+use list_version::gathered::Gathered;
 use table_drawing::entries::at16;
-use table_drawing::{Answer, Counters, ENTRY};
-use table_output::{Written, put_at};
+use table_drawing::{Counters, ENTRY, Refusal};
+use table_output::put_at;
 
-// Where a line of a version is found: whether there is one, the object, and which of its versions it is.
+// Where a line of a version is found: the object, and which of its versions it is.
 #[derive(Clone, Copy)]
 struct LinePlace {
-    ok: bool,
     object: usize,
     version: usize,
-}
-
-// A line put at the front of a buffer: whether there is one of that number, and how many bytes it has.
-#[derive(Clone, Copy)]
-struct PutLine {
-    ok: bool,
-    bytes: usize,
 }
 
 // How many versions the first m objects have.
@@ -46,10 +39,8 @@ fn version_total(objects: &[u16], m: usize) -> u32
     ensures { result ≡ sum m (groups_at objects.now) }
 {
     let mut total: u32 = 0;
-    let mut o: usize = 0;
-    while o < m {
-        total = total + at16(objects, o * ENTRY + 2) as u32;
-        o += 1;
+    for o in 0..m {
+        total += at16(objects, o * ENTRY + 2) as u32;
     }
     total
 }
@@ -63,7 +54,7 @@ pub fn head(out: &mut [u8], c: Counters, objects: &[u16]) -> usize
     list_text::put_head(out, c.sites as u32, c.objects as u32, total, c.sum)
 }
 
-// Where the k-th line of a version is found, line 0 left out, by the index of the records' places.
+// Where the k-th line of a version is found, line 0 left out, if there is one, by the index of the records' places.
 fn find(
     c: Counters,
     records: &[u8],
@@ -71,7 +62,7 @@ fn find(
     groups: &[u64],
     places: &[u16],
     k: usize,
-) -> LinePlace
+) -> Option<LinePlace>
     requires { (sound (tables_of c records.now objects.now groups.now) ≡ true)
         × Indexed records.now c.records places.now }
     ensures { FoundIn (tables_of c records.now objects.now groups.now) k result }
@@ -86,56 +77,18 @@ fn find(
         places,
     );
     let mut left = k;
-    let mut i: usize = 0;
-    while i < c.objects as usize {
+    for i in 0..c.objects as usize {
         let o = at16(&order, i) as usize;
         let count = at16(objects, o * ENTRY + 2) as usize;
         if left < count {
-            return LinePlace {
-                ok: true,
+            return Some(LinePlace {
                 object: o,
                 version: left,
-            };
+            });
         }
-        left = left - count;
-        i += 1;
+        left -= count;
     }
-    LinePlace {
-        ok: false,
-        object: 0,
-        version: 0,
-    }
-}
-
-// Puts the line of the v-th version at the front of out.
-fn put_version(
-    out: &mut [u8],
-    g: Gathered,
-    disputes: &[u64],
-    stamps: &[u64],
-    keyed: &[u64],
-    versions: &[u64],
-    v: usize,
-) -> usize
-    requires { LongEnough g disputes.now stamps.now keyed.now versions.now
-        × (v < most_groups)
-        × (line_length ≤ length out.old) }
-    ensures { (take result out.new
-        ≡ line_in g disputes.now stamps.now (get_or versions.now v 0))
-        × (result ≤ line_length) }
-{
-    put_lone_line(
-        out,
-        g.site,
-        g.seq,
-        disputes,
-        g.disputes,
-        stamps,
-        g.sets,
-        keyed,
-        g.peaks,
-        versions[v],
-    )
+    None
 }
 
 // Puts the line of a version of object o at the front of out.
@@ -159,26 +112,12 @@ fn put_found(
     // what work space holds at first does not matter; zeros would be set by memset (docs/DECISIONS.md, 24)
     let mut places = [1u16; SETS];
     put_sets(&mut places, c, records, objects, groups, o);
-    let mut disputes = [1u64; SETS];
-    let mut stamps = [1u64; SETS];
-    let mut versions = [1u64; GROUPS];
-    let mut keyed = [0u64; ALL_KEYS];
-    let g = gather(
-        &mut disputes,
-        &mut stamps,
-        &mut keyed,
-        &mut versions,
-        c,
-        records,
-        objects,
-        groups,
-        &places,
-        o,
-    );
-    put_version(out, g, &disputes, &stamps, &keyed, &versions, v)
+    let mut g = Gathered::none();
+    gather(&mut g, c, records, objects, groups, &places, o);
+    put_lone_line(out, &g, g.versions[v])
 }
 
-// Puts line k at the front of out, if there is one, by the index of the records' places.
+// Puts line k at the front of out, if there is one, by the index of the records' places; says how many bytes it has.
 fn put_numbered(
     out: &mut [u8],
     c: Counters,
@@ -187,7 +126,7 @@ fn put_numbered(
     groups: &[u64],
     places: &[u16],
     k: usize,
-) -> PutLine
+) -> Option<usize>
     requires { (sound (tables_of c records.now objects.now groups.now) ≡ true)
         × Indexed records.now c.records places.now
         × (line_length ≤ length out.old) }
@@ -196,21 +135,13 @@ fn put_numbered(
         k result out.new }
 {
     if k == 0 {
-        let bytes = head(out, c, objects);
-        return PutLine { ok: true, bytes };
+        return Some(head(out, c, objects));
     }
-    let f = find(c, records, objects, groups, places, k - 1);
-    if !f.ok {
-        return PutLine {
-            ok: false,
-            bytes: 0,
-        };
-    }
-    let bytes = put_found(out, c, records, objects, groups, f.object, f.version);
-    PutLine { ok: true, bytes }
+    let f = find(c, records, objects, groups, places, k - 1)?;
+    Some(put_found(out, c, records, objects, groups, f.object, f.version))
 }
 
-// Puts line k into out from the start on; refused, everything stays as it was.
+// Puts line k into out from the start on, and says how many bytes it has; refused, everything stays as it was.
 pub fn print_line(
     c: Counters,
     records: &[u8],
@@ -219,26 +150,19 @@ pub fn print_line(
     k: usize,
     out: &mut [u8],
     start: usize,
-) -> Written
-    ensures { writing (number_of result.answer) result.bytes out.new
+) -> Result<usize, Refusal>
+    ensures { writing (answer_of result) (result_unwrap_or result 0) out.new
         ≡ line_of (tables_of c records.now objects.now groups.now) k
         out.old start }
 {
     // what work space holds at first does not matter; zeros would be set by memset (docs/DECISIONS.md, 24)
     let mut places = [1u16; PLACES];
     if !table_soundness::is_sound_with(c, records, objects, groups, &mut places) {
-        return Written {
-            answer: Answer::Unsound,
-            bytes: 0,
-        };
+        return Err(Refusal::Unsound);
     }
     let mut line = [1u8; LINE];
-    let r = put_numbered(&mut line, c, records, objects, groups, &places, k);
-    if !r.ok {
-        return Written {
-            answer: Answer::NoLine,
-            bytes: 0,
-        };
-    }
-    put_at(out, start, &line, r.bytes)
+    let Some(bytes) = put_numbered(&mut line, c, records, objects, groups, &places, k) else {
+        return Err(Refusal::NoLine);
+    };
+    put_at(out, start, &line, bytes)
 }

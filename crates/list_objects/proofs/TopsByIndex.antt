@@ -15,7 +15,6 @@ use Rattle.math_lists.specs.SortedLists.{filter}
 use Rattle.math_lists.proofs.Booleans.{both, and-on, or_left, off}
 use Rattle.math_lists.proofs.ByPlaces.{zero-anywhere}
 use Rattle.math_lists.proofs.GrownAtEnd.{filter-snoc}
-use Rattle.edit_record.specs.declared.Edit.{Edit}
 use Rattle.edit_record.specs.Answer1.{is_top, is_bottom}
 use Rattle.edit_record.proofs.WellFormed.{layer-aimed}
 use Rattle.edit_causal.specs.Causal.{same_edit}

@@ -1,12 +1,12 @@
 // All lines, put at the front of the output one behind another where they have room.
 ghost use Rattle.std.specs.Prelude.{◌≡◌, true, ◌+◌, ◌*◌, ◌≤◌, ◌<◌, length};
-ghost use Rattle.group_step.specs.GroupRows.{most_objects, most_sets, most_groups};
+ghost use Rattle.group_step.specs.GroupRows.{most_objects, most_groups};
 ghost use Rattle.table_drawing.specs.Tables.{tables_of};
 ghost use Rattle.edit_walk.specs.WalkForms.{Indexed};
 ghost use Rattle.table_soundness.specs.Sound.{sound};
 ghost use Rattle.table_sets.specs.ChainForms.{Chained};
 ghost use Rattle.list_line.specs.Line.{line_length};
-ghost use Rattle.list_line.specs.LineForms.{piece_length, Kept};
+ghost use Rattle.list_line.specs.LineForms.{piece_length};
 ghost use Rattle.list_lines.specs.List.{lines_for};
 ghost use Rattle.list_print.specs.Printing.{joined, list_of, list_length};
 ghost use Rattle.list_lines.specs.LinesForms.{head_of};
@@ -14,16 +14,15 @@ ghost use Rattle.list_print.specs.PrintForms.{all_lines, Behind};
 
 use super::object_lines::{put_behind, put_versions};
 use edit_history::RECORDS;
-use edit_walk::PLACES;
-use group_step::{GROUPS, OBJECTS, SETS};
+use group_step::{OBJECTS, SETS};
 use list_line::BUFFER;
-use list_line::pieces::{PIECE, PIECES};
+use list_line::pieces::Pieces;
 use list_lines::head;
 use list_objects::order::sort_objects;
 use list_objects::{gather, put_chained};
-use list_version::ALL_KEYS;
+use list_version::gathered::Gathered;
 use table_drawing::Counters;
-use table_index::chain::CHAINS;
+use table_index::Index;
 
 // Puts line 0 at the front; says where it ends. The line is formed in a buffer of its own.
 fn put_head(out: &mut [u8], line: &mut [u8], c: Counters, objects: &[u16]) -> usize
@@ -34,17 +33,12 @@ fn put_head(out: &mut [u8], line: &mut [u8], c: Counters, objects: &[u16]) -> us
     put_behind(out, 0, line, k)
 }
 
-// Puts the lines of object o behind the first n bytes; what is lent besides is work space, which is made once, and the
-// chain of the Sets of each object.
+// Puts the lines of object o behind the first n bytes. The pieces and what is gathered are lent from object to object.
 fn put_object(
     out: &mut [u8],
     line: &mut [u8],
-    texts: &mut [u8],
-    lens: &mut [u8],
-    told: &mut [u64],
-    disputes: &mut [u64],
-    stamps: &mut [u64],
-    versions: &mut [u64],
+    kept: &mut Pieces,
+    g: &mut Gathered,
     n: usize,
     c: Counters,
     records: &[u8],
@@ -57,26 +51,16 @@ fn put_object(
         × Chained records.now c.records chain.now
         × (o < c.objects)
         × (n + most_groups * line_length ≤ list_length)
-        × (line_length + piece_length ≤ length line.old)
-        × Kept texts.old lens.old told.old
-        × (most_sets ≤ length disputes.old)
-        × (most_sets ≤ length stamps.old)
-        × (most_groups ≤ length versions.old) }
+        × (line_length + piece_length ≤ length line.old) }
     ensures { Behind out.old n
         (joined (lines_for (tables_of c records.now objects.now groups.now) o))
-        (most_groups * line_length) out.new result
-        × Kept texts.new lens.new told.new }
+        (most_groups * line_length) out.new result }
 {
     // what work space holds at first does not matter; zeros would be set by memset (docs/DECISIONS.md, 24)
     let mut places = [1u16; SETS];
     put_chained(&mut places, c, records, objects, groups, chain, o);
-    let mut keyed = [0u64; ALL_KEYS];
-    let g = gather(
-        disputes, stamps, &mut keyed, versions, c, records, objects, groups, &places, o,
-    );
-    put_versions(
-        out, line, texts, lens, told, n, g, disputes, stamps, &keyed, versions,
-    )
+    gather(g, c, records, objects, groups, &places, o);
+    put_versions(out, line, kept, n, g)
 }
 
 // Puts the lines of all objects behind the first n bytes, in their order, by the index of the records' places and the
@@ -105,34 +89,14 @@ fn put_objects(
     // what work space holds at first does not matter; zeros would be set by memset (docs/DECISIONS.md, 24)
     let mut order = [1u16; OBJECTS];
     sort_objects(&mut order, records, c.records as usize, objects, m, places);
-    let mut texts = [1u8; PIECES * PIECE];
-    let mut lens = [0u8; PIECES];
-    let mut told = [0u64; ALL_KEYS];
-    let mut disputes = [1u64; SETS];
-    let mut stamps = [1u64; SETS];
-    let mut versions = [1u64; GROUPS];
+    let mut kept = Pieces::none();
+    let mut g = Gathered::none();
     let mut w = n;
-    let mut i: usize = 0;
-    while i < m {
+    for i in 0..m {
         let o = order[i] as usize;
         w = put_object(
-            out,
-            line,
-            &mut texts,
-            &mut lens,
-            &mut told,
-            &mut disputes,
-            &mut stamps,
-            &mut versions,
-            w,
-            c,
-            records,
-            objects,
-            groups,
-            chain,
-            o,
+            out, line, &mut kept, &mut g, w, c, records, objects, groups, chain, o,
         );
-        i += 1;
     }
     w
 }
@@ -175,19 +139,7 @@ pub fn put_list(
         (list_of (tables_of c records.now objects.now groups.now))
         list_length out.new result }
 {
-    // what work space holds at first does not matter; zeros would be set by memset (docs/DECISIONS.md, 24)
-    let mut places = [1u16; PLACES];
-    let mut numbers = [1u8; RECORDS];
-    let mut counts = [0u16; OBJECTS];
-    let mut chains = [0u8; CHAINS];
-    let k = c.records as usize;
-    table_index::build(
-        records,
-        k,
-        &mut places,
-        &mut numbers,
-        &mut counts,
-        &mut chains,
-    );
-    put_list_by(out, c, records, objects, groups, &places)
+    let mut ix = Index::none();
+    table_index::build(&mut ix, records, c.records as usize);
+    put_list_by(out, c, records, objects, groups, &ix.places)
 }

@@ -2,15 +2,14 @@
 ghost use Rattle.std.specs.Prelude.{map, ◌+◌, ◌*◌, ◌≤◌, ◌<◌, length, take, get_or};
 ghost use Rattle.group_step.specs.GroupRows.{most_groups};
 ghost use Rattle.list_line.specs.Line.{line_length};
-ghost use Rattle.list_line.specs.LineForms.{piece_length, Kept, NamesKept};
+ghost use Rattle.list_line.specs.LineForms.{line_in, piece_length, NamesKept};
 ghost use Rattle.list_print.specs.Printing.{joined, list_length};
-ghost use Rattle.list_lines.specs.LinesForms.{LongEnough, line_in};
 ghost use Rattle.list_print.specs.PrintForms.{Behind};
 
 use list_line::alone::put_lone_line;
-use list_line::pieces::put_names;
+use list_line::pieces::Pieces;
 use list_line::put_line;
-use list_objects::Gathered;
+use list_version::gathered::Gathered;
 use table_output::{copy_in, has_room};
 
 // Puts the first k bytes of a line behind the first n bytes of out, if they have room there; says where they end, room
@@ -31,114 +30,44 @@ pub fn put_behind(out: &mut [u8], n: usize, line: &[u8], k: usize) -> usize
 fn put_version(
     out: &mut [u8],
     line: &mut [u8],
-    texts: &mut [u8],
-    lens: &mut [u8],
-    told: &mut [u64],
+    kept: &mut Pieces,
     n: usize,
-    g: Gathered,
-    disputes: &[u64],
-    stamps: &[u64],
-    keyed: &[u64],
-    versions: &[u64],
+    g: &Gathered,
     v: usize,
 ) -> usize
-    requires { LongEnough g disputes.now stamps.now keyed.now versions.now
-        × (v < most_groups)
+    requires { (v < most_groups)
         × (n + line_length ≤ list_length)
         × (line_length + piece_length ≤ length line.old)
-        × Kept texts.old lens.old told.old
-        × NamesKept texts.old lens.old (take g.disputes disputes.now) }
-    ensures { Behind out.old n
-        (line_in g disputes.now stamps.now (get_or versions.now v 0)) line_length
-        out.new result
-        × Kept texts.new lens.new told.new
-        × NamesKept texts.new lens.new (take g.disputes disputes.now) }
+        × NamesKept kept.old.texts kept.old.lens (take g.now.disputed g.now.disputes) }
+    ensures { Behind out.old n (line_in g.now (get_or g.now.versions v 0)) line_length out.new result
+        × NamesKept kept.new.texts kept.new.lens (take g.now.disputed g.now.disputes) }
 {
-    let k = put_line(
-        line,
-        texts,
-        lens,
-        told,
-        g.site,
-        g.seq,
-        disputes,
-        g.disputes,
-        stamps,
-        g.sets,
-        keyed,
-        g.peaks,
-        versions[v],
-    );
+    let k = put_line(line, kept, g, g.versions[v]);
     put_behind(out, n, line, k)
 }
 
 // Puts the lines of all versions behind the first n bytes, one after another. The names of the Sets in dispute are
 // formed once for all of them.
-fn put_each(
-    out: &mut [u8],
-    line: &mut [u8],
-    texts: &mut [u8],
-    lens: &mut [u8],
-    told: &mut [u64],
-    n: usize,
-    g: Gathered,
-    disputes: &[u64],
-    stamps: &[u64],
-    keyed: &[u64],
-    versions: &[u64],
-) -> usize
-    requires { LongEnough g disputes.now stamps.now keyed.now versions.now
-        × (g.count ≤ most_groups)
-        × (n + most_groups * line_length ≤ list_length)
-        × (line_length + piece_length ≤ length line.old)
-        × Kept texts.old lens.old told.old }
+fn put_each(out: &mut [u8], line: &mut [u8], kept: &mut Pieces, n: usize, g: &Gathered) -> usize
+    requires { (n + most_groups * line_length ≤ list_length)
+        × (line_length + piece_length ≤ length line.old) }
     ensures { Behind out.old n
-        (joined (map (line_in g disputes.now stamps.now)
-        (take g.count versions.now))) (g.count * line_length) out.new result
-        × Kept texts.new lens.new told.new }
+        (joined (map (line_in g.now) (take g.now.count g.now.versions))) (g.now.count * line_length) out.new result }
 {
-    put_names(texts, lens, disputes, g.disputes);
+    kept.put_names(&g.disputes, g.disputed);
     let mut w = n;
-    let mut v: usize = 0;
-    while v < g.count {
-        w = put_version(
-            out, line, texts, lens, told, w, g, disputes, stamps, keyed, versions, v,
-        );
-        v += 1;
+    for v in 0..g.count {
+        w = put_version(out, line, kept, w, g, v);
     }
     w
 }
 
 // Puts the line of the only version of the object gathered behind the first n bytes.
-fn put_alone(
-    out: &mut [u8],
-    line: &mut [u8],
-    n: usize,
-    g: Gathered,
-    disputes: &[u64],
-    stamps: &[u64],
-    keyed: &[u64],
-    versions: &[u64],
-) -> usize
-    requires { LongEnough g disputes.now stamps.now keyed.now versions.now
-        × (n + line_length ≤ list_length)
-        × (line_length ≤ length line.old) }
-    ensures { Behind out.old n
-        (line_in g disputes.now stamps.now (get_or versions.now 0 0)) line_length
-        out.new result }
+fn put_alone(out: &mut [u8], line: &mut [u8], n: usize, g: &Gathered) -> usize
+    requires { (n + line_length ≤ list_length) × (line_length ≤ length line.old) }
+    ensures { Behind out.old n (line_in g.now (get_or g.now.versions 0 0)) line_length out.new result }
 {
-    let k = put_lone_line(
-        line,
-        g.site,
-        g.seq,
-        disputes,
-        g.disputes,
-        stamps,
-        g.sets,
-        keyed,
-        g.peaks,
-        versions[0],
-    );
+    let k = put_lone_line(line, g, g.versions[0]);
     put_behind(out, n, line, k)
 }
 
@@ -146,30 +75,17 @@ fn put_alone(
 pub fn put_versions(
     out: &mut [u8],
     line: &mut [u8],
-    texts: &mut [u8],
-    lens: &mut [u8],
-    told: &mut [u64],
+    kept: &mut Pieces,
     n: usize,
-    g: Gathered,
-    disputes: &[u64],
-    stamps: &[u64],
-    keyed: &[u64],
-    versions: &[u64],
+    g: &Gathered,
 ) -> usize
-    requires { LongEnough g disputes.now stamps.now keyed.now versions.now
-        × (g.count ≤ most_groups)
-        × (n + most_groups * line_length ≤ list_length)
-        × (line_length + piece_length ≤ length line.old)
-        × Kept texts.old lens.old told.old }
+    requires { (n + most_groups * line_length ≤ list_length)
+        × (line_length + piece_length ≤ length line.old) }
     ensures { Behind out.old n
-        (joined (map (line_in g disputes.now stamps.now)
-        (take g.count versions.now))) (g.count * line_length) out.new result
-        × Kept texts.new lens.new told.new }
+        (joined (map (line_in g.now) (take g.now.count g.now.versions))) (g.now.count * line_length) out.new result }
 {
     if g.count == 1 {
-        return put_alone(out, line, n, g, disputes, stamps, keyed, versions);
+        return put_alone(out, line, n, g);
     }
-    put_each(
-        out, line, texts, lens, told, n, g, disputes, stamps, keyed, versions,
-    )
+    put_each(out, line, kept, n, g)
 }

@@ -1,2 +1,3 @@
 pub mod OneDecimal
+pub mod PrintedDecimal
 pub mod PiecesBehind

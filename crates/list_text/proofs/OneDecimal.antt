@@ -177,11 +177,6 @@ pub length_more : (m : ℕ) → 10 ≤ m → length (decimal m) ≡ length (deci
 length_more m h =
     ap length (decimal-more m h) ∙ length-append (decimal (m / 10)) ((zero_digit + m % 10) ∷ [])
 
-pub length-two-more : (m : ℕ) → 100 ≤ m → length (decimal m) ≡ length (decimal (m / 100)) + 2
-length-two-more m h =
-    let rest : m / 100 ≡ m / 10 / 10 = omega arith in
-    rw rest (omega (arith, length_more m (omega arith), length_more (m / 10) (omega arith)))
-
 -- a number below 10 ^ f has at most f digits
 pub digits-fit : (f m : ℕ) → 0 < f → m < 10 ^ f → length (decimal m) ≤ f
 digits-fit zero m p h = absurd (omega arith)

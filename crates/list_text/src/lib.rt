@@ -22,9 +22,6 @@ pub const EQUALS: u8 = b'=';
 
 pub const NEWLINE: u8 = b'\n';
 
-// The byte of the digit 0.
-const ZERO: u8 = b'0';
-
 // The digits, at most, of a key, and of a number of one, two and four bytes.
 const KEY_DIGITS: usize = 2;
 
@@ -54,12 +51,9 @@ pub fn put_bytes(out: &mut [u8], n: usize, s: &[u8]) -> usize
     ensures { (take result out.new ≡ take n out.old ++ s.now)
         × (result ≡ n + length s.now) }
 {
-    let mut i: usize = 0;
-    while i < s.len() {
-        out[n + i] = s[i];
-        i += 1;
-    }
-    n + i
+    let end = n + s.len();
+    out[n..end].copy_from_slice(s);
+    end
 }
 
 // How many digits the decimal of m has; nothing is divided for it.
@@ -96,28 +90,14 @@ fn digits(m: u32) -> usize
     10
 }
 
-// Puts the decimal of m, from the last digit to the first, two at a time while there are more.
+// Puts the decimal of m.
 fn put_decimal(out: &mut [u8], n: usize, m: u32) -> usize
     requires { n + length (decimal m) ≤ length out.old }
     ensures { (take result out.new ≡ take n out.old ++ decimal m)
         × (result ≡ n + length (decimal m)) }
 {
     let end = n + digits(m);
-    let mut i = end;
-    let mut left = m;
-    while 100 <= left {
-        let both = left % 100;
-        out[i - 1] = ZERO + (both % 10) as u8;
-        out[i - 2] = ZERO + (both / 10) as u8;
-        left = left / 100;
-        i -= 2;
-    }
-    while 10 <= left {
-        i -= 1;
-        out[i] = ZERO + (left % 10) as u8;
-        left = left / 10;
-    }
-    out[n] = ZERO + left as u8;
+    itoa::write_digits(m as u64, out, end);
     end
 }
 

@@ -12,7 +12,6 @@ pub mod VersionsSorted
 pub mod RanksStrict
 pub mod ValueShown
 pub mod LastInAnyOrder
-pub mod HighestMember
 pub mod StampsByKey
 pub mod NamesOfSome
 pub mod SitesInTurn

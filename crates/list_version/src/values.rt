@@ -1,7 +1,7 @@
 // The values of a version. A stamp is an edit's key, then its place in the total order, then its value, as one number
 // that is never 0 for a key: the largest stamp of the members with a key is that of the last one. The stamps of an
 // object's Sets are made once, and with them is noted which Sets have a key, so that a version looks at few of them.
-ghost use Rattle.std.specs.Prelude.{◌≡◌, List, ℕ, ◌+◌, ◌*◌, ◌-◌, ◌≤◌, ◌<◌, max, length, take, drop, set, replicate};
+ghost use Rattle.std.specs.Prelude.{◌≡◌, List, ℕ, ◌+◌, ◌*◌, ◌-◌, ◌≤◌, ◌<◌, length, take, drop, set, replicate};
 ghost use Rattle.edit_record.specs.declared.Edit.{Edit};
 ghost use Rattle.edit_record.specs.Layout.{most_sites, keys, two_bytes, record_length, vector_at};
 ghost use Rattle.edit_record.specs.RecordBytes.{counts};
@@ -13,10 +13,9 @@ ghost use Rattle.list_version.specs.Identifier.{site_numbers};
 ghost use Rattle.list_version.specs.VersionForms.{sets_at, stamp_of, values, placings, Small, Stamped};
 ghost use Rattle.list_version.specs.VersionForms.{largest_by, KeyedBy, KeyedTo};
 
-use super::sets::{highest, is_member};
 use super::{ALL_KEYS, SITE_NUMBERS};
 use edit_record::{AT_KEY, AT_SITE, AT_VECTOR, KEYS, PLACE, RECORD, SITES, VALUES};
-use group_step::{only, without};
+use group_step::{has, highest, only, without};
 use table_sets::copied::copy_at;
 
 // A number above each place in the total order with a value behind it.
@@ -38,11 +37,9 @@ fn sum_of(rec: &[u8]) -> u32
         × (result ≤ most_sites * (two_bytes - 1)) }
 {
     let mut total: u32 = 0;
-    let mut i: usize = 0;
-    while i < SITES / 2 {
+    for i in 0..SITES / 2 {
         let both = edit_record::four_at(rec, AT_VECTOR + 4 * i);
         total = total + both % 65536 + both / 65536;
-        i += 1;
     }
     total
 }
@@ -85,7 +82,7 @@ fn note(keyed: &mut [u64], tops: &mut [u64], peaks: u64, i: usize, s: u64) -> u6
 {
     let k = (s / PLACINGS) as usize;
     let own = only(i);
-    keyed[k] = keyed[k] | own;
+    keyed[k] |= own;
     if s <= tops[k] {
         return peaks;
     }
@@ -105,21 +102,12 @@ pub fn put_stamps(out: &mut [u64], keyed: &mut [u64], recs: &[u8], places: &[u16
 {
     let mut tops = [0u64; ALL_KEYS];
     let mut peaks: u64 = 0;
-    let mut i: usize = 0;
-    while i < t {
+    for i in 0..t {
         let s = stamp_at(recs, places[i]);
         out[i] = s;
         peaks = note(keyed, &mut tops, peaks, i, s);
-        i += 1;
     }
     peaks
-}
-
-// The larger of two numbers.
-fn larger(a: u64, b: u64) -> u64
-    ensures { result ≡ max a b }
-{
-    if a < b { b } else { a }
 }
 
 // The largest stamp of the key k among the members of g; 0 where there is none. They are gone through from the last one
@@ -136,8 +124,8 @@ pub fn last_of(stamps: &[u64], t: usize, keyed: &[u64], peaks: u64, g: u64, k: u
     let mut left = g & keyed[k];
     while left != 0 {
         let i = highest(left);
-        found = larger(found, stamps[i]);
-        if is_member(peaks, i) {
+        found = found.max(stamps[i]);
+        if has(peaks, i) {
             return found;
         }
         left = without(left, only(i));

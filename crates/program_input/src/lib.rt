@@ -34,6 +34,7 @@ pub fn read_full<R: Read>(from: &mut R, buf: &mut [u8]) -> io::Result<usize>
         (λ n. IfSome (R.remaining from.old) (λ xs. take n buf.new ≡ take (length buf.new) xs)) }
 {
     let mut done = 0;
+    // goes on by as much as each turn read
     while done < buf.len() {
         let n = from.read(&mut buf[done..])?;
         if n == 0 {

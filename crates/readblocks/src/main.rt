@@ -5,7 +5,6 @@
 
 ghost use Rattle.std.specs.Prelude.{◌≡◌, length};
 
-use block_store::FileRead;
 use edit_history::RECORDS;
 use edit_record::{PLACE, SITES};
 use group_step::{GROUPS, OBJECTS};
@@ -37,10 +36,8 @@ fn tell_written<R: Print>(rt: &R, n: usize, out: &[u8], file: &[u8]) -> io::Resu
     Ok(())
 }
 
-fn tell_read<R: Print>(rt: &R, r: FileRead) -> io::Result<()> {
-    let answer = table_drawing::number(r.answer);
-    let c = r.counters;
-    print!(rt; ": answer {answer}, index {}", r.index)?;
+fn tell_read<R: Print>(rt: &R, answer: u8, index: usize, c: Counters) -> io::Result<()> {
+    print!(rt; ": answer {answer}, index {index}")?;
     print!(rt; ", sites {}, records {}", c.sites, c.records)
 }
 
@@ -56,11 +53,14 @@ fn tell<R: Print>(rt: &R, file: &[u8]) -> io::Result<()> {
         sum: 0,
     };
     let r = block_store::read_file(none, &mut records, &mut objects, &mut groups, file);
+    let (answer, index, c) = match r {
+        Ok(c) => (0, 0, c),
+        Err(e) => (u8::from(e.refusal), e.index, e.counters),
+    };
     let mut out = [0u8; RECORDS * PLACE + block_trailer::TRAILER];
-    let c = r.counters;
     let w = block_store::write(c, &records, &objects, &groups, &mut out, 0);
-    tell_read(rt, r)?;
-    tell_written(rt, w.bytes, &out, file)?;
+    tell_read(rt, answer, index, c)?;
+    tell_written(rt, w.unwrap_or(0), &out, file)?;
     println!(rt;)
 }
 

@@ -5,10 +5,12 @@ use mathlib.Core.Bool.{Bool, true, false, cond}
 use mathlib.Core.List.{List}
 use Prim.Native.Nat.{ℕ, ◌≤◌, ◌<◌}
 use lib.ListN.{length, get_or}
+use Rattle.std.specs.Prelude.{Some, is_some}
 use Rattle.edit_record.specs.Layout.{place_length}
 use Rattle.edit_record.specs.RecordBytes.{decode_of, span_of}
 use Rattle.edit_record.specs.Answer1.{is_create, is_set}
-use Rattle.edit_record.proofs.WellFormed.{otherwise-layer}
+use Rattle.edit_record.proofs.WellFormed.{otherwise-layer, set-aimed}
+use Rattle.edit_history.specs.declared.Held.{Held}
 use Rattle.edit_history.specs.declared.Surveyed.{Surveyed}
 use Rattle.edit_history.specs.EditsHeld.{most_records}
 use Rattle.edit_history.specs.Answer16.{records_named}
@@ -23,10 +25,10 @@ use Rattle.table_index.specs.IndexForms.{Holds}
 use Rattle.table_arrival.specs.Answers6and7.{first_of, in_turn}
 use Rattle.table_arrival.specs.Arrival.{counted, put_record, put_entry, with_create, with_layer}
 use Rattle.table_arrival.specs.Arrival.{acceptance_of, arrival_of}
-use Rattle.table_arrival.specs.ArrivalForms.{three_by, to_six_by, first_to_six, InHand}
+use Rattle.table_arrival.specs.ArrivalForms.{three_by, to_six_by, first_to_six, InHand, Ready}
 use Rattle.table_arrival.proofs.SixByCounters.{three-are, to-six-are}
 use Rattle.table_arrival.proofs.ProperWith.{judges}
-use Rattle.table_arrival.proofs.Admitted.{admitted, admitted-span}
+use Rattle.table_arrival.proofs.Admitted.{admitted, admitted-span, admitted-target}
 use Rattle.table_soundness.proofs.ObjectsByNumber.{entered-sets-few}
 use Rattle.table_arrival.proofs.CodeOutcomes.{refused-is, create-is, layer-is, count_room}
 
@@ -95,9 +97,26 @@ module _
   pub first-is : first_of in_turn (to_six_by t.counters b v j) ≡ first_to_six t b
   first-is =
       to-six-are t sound-facts b h.timely v h.surveyed j
-      (judges t sound-facts (decode_of b) j v.found h.surveyed.found h.judged)
+      (judges t sound-facts (decode_of b) j (is_some v.held) h.surveyed.found h.judged)
 
   module _ (z : first_to_six t b ≡ 0) where
+    -- ---- a Set
+
+    -- its target is held
+    pub set-held : is_set (decode_of b) ≡ true → is_some v.held ≡ true
+    set-held k = h.surveyed.found ∙ admitted-target t b (admitted t b z) (set-aimed (decode_of b) k)
+
+    -- and it is ready to be taken
+    pub set-ready : (d : Held) → v.held ≡ Some d → is_set (decode_of b) ≡ true → Ready t b d j apart
+    set-ready d is k = record {
+      is_sound = h.is_sound;
+      surveyed = h.surveyed.whole d is;
+      judged = rw is at h.judged;
+      rows = h.rows;
+      passes = z;
+      set = k;
+    }
+
     -- ---- a Create
 
     pub create-given :

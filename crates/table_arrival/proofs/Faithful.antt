@@ -17,7 +17,6 @@ use Rattle.edit_record.specs.declared.Edit.{Edit}
 use Rattle.edit_record.specs.Layout.{most_sites}
 use Rattle.edit_record.specs.RecordBytes.{decode_of}
 use Rattle.edit_record.specs.Answer1.{is_create, is_set, is_layer}
-use Rattle.math_maximal.specs.Groups.{groups}
 use Rattle.math_maximal.specs.Step.{step}
 use Rattle.edit_causal.specs.Conflict.{conflicts_with}
 use Rattle.edit_causal.specs.ConflictForms.{NoneItself}

@@ -1,16 +1,17 @@
 -- What is judged by the rows of the box of an edit e whose target is held, and stands in place p by the index. Assumes
 -- nothing.
 use mathlib.Core.Path.{◌≡◌, refl, sym, ap, ap₂, subst, ◌∙◌}
-use mathlib.Core.Bool.{Bool, true, ◌&&◌}
+use mathlib.Core.Bool.{Bool, true}
 use mathlib.Core.List.{List}
 use Prim.Native.Nat.{ℕ, ◌<◌}
 use lib.ListN.{length}
+use Rattle.std.specs.Prelude.{Option, Some, is_some}
 use Rattle.math_lists.specs.SortedLists.{any}
-use Rattle.math_lists.proofs.Booleans.{both}
 use Rattle.edit_record.specs.declared.Site.{Site}
 use Rattle.edit_record.specs.declared.Seq.{Seq}
 use Rattle.edit_record.specs.declared.Edit.{Edit}
 use Rattle.edit_causal.proofs.Identities.{same-site, same-seq}
+use Rattle.edit_history.specs.declared.Held.{Held}
 use Rattle.edit_history.specs.declared.Surveyed.{Surveyed}
 use Rattle.edit_history.specs.SurveyForms.{survey_of, SurveyedOf}
 use Rattle.edit_history.specs.EditsHeld.{record_at, edits_of, sets_on, is_target}
@@ -23,7 +24,6 @@ use Rattle.group_named.specs.NamedForms.{SetsTold, BoxTold}
 use Rattle.table_drawing.specs.declared.Counters.{Counters}
 use Rattle.table_index.specs.IndexForms.{Holds}
 use Rattle.table_index.proofs.SurveyByIndex.{target-placed}
-use Rattle.table_arrival.specs.declared.Tested.{Tested}
 use Rattle.table_arrival.specs.ArrivalForms.{TestedFor}
 
 module _ (c : Counters) (rs : List ℕ) (h : Holds c rs) (ps : List ℕ) (ix : Indexed rs c.records ps) (e : Edit)
@@ -67,20 +67,19 @@ module _ (c : Counters) (rs : List ℕ) (h : Holds c rs) (ps : List ℕ) (ix : I
 
 -- ---- by the survey of the edit
 
-module _ (es : List Edit) (e : Edit) (v : Surveyed) (sv : SurveyedOf es e v) (b : Bool)
-    (h : (v.found && b) ≡ true) where
+module _ (es : List Edit) (e : Edit) (v : Surveyed) (sv : SurveyedOf es e v) (h : Held) (is : v.held ≡ Some h) where
   pub target-held : any (is_target e) es ≡ true
-  target-held = sym sv.found ∙ (both v.found b h).0
+  target-held = sym sv.found ∙ ap is_some is
 
-  pub sets-counted : v.sets ≡ length (sets_on e.tsite e.tseq es)
+  pub sets-counted : h.sets ≡ length (sets_on e.tsite e.tseq es)
   unfolding survey_of
-  sets-counted = ap (λ (x : Surveyed). x.sets) (sv.whole (both v.found b h).0)
+  sets-counted = ap (λ (x : Held). x.sets) (sv.whole h is)
 
 -- what is tested where the target is held is tested in any case
 pub where_found :
-    (found : Bool) (rs : List ℕ) (n : ℕ) (e : Edit) (r : Tested) → TestedFor true rs n e r → TestedFor found rs n e r
+    (found : Bool) (rs : List ℕ) (n : ℕ) (e : Edit) (r : Option Judged) → TestedFor true rs n e r → TestedFor found rs n e r
 where_found found rs n e r t = record {
   named = t.named;
-  judged = λ h.
-      record { nameless = λ asked. (t.judged h).nameless (λ y. refl); conflicts = λ y. (t.judged h).conflicts refl };
+  judged = λ j h.
+      record { nameless = λ asked. (t.judged j h).nameless (λ y. refl); conflicts = λ y. (t.judged j h).conflicts refl };
 }

@@ -20,7 +20,7 @@ use Rattle.edit_causal.specs.Causal.{same_edit}
 use Rattle.edit_causal.proofs.CausalLaws.{same-reflexive}
 use Rattle.edit_history.specs.EditsHeld.{record_at, edits_of, creates, is_set_on, is_target, object_of}
 use Rattle.edit_history.proofs.RecordsPassed.{one_place}
-use Rattle.group_step.specs.GroupRows.{most_groups, row, put_row}
+use Rattle.group_step.specs.GroupRows.{most_groups, put_row}
 use Rattle.table_drawing.specs.Tables.{Tables, held_by, place_at, sets_at, groups_at, entry_length}
 use Rattle.table_soundness.proofs.SoundFacts.{Sound}
 use Rattle.table_soundness.proofs.EachObject.{Entry, Row, Object}

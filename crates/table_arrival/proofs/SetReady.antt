@@ -13,7 +13,7 @@ use Rattle.edit_record.specs.RecordBytes.{decode_of, span_of}
 use Rattle.edit_record.specs.Answer1.{is_set}
 use Rattle.edit_record.proofs.WellFormed.{set-aimed}
 use Rattle.math_maximal.specs.Step.{step}
-use Rattle.edit_history.specs.declared.Surveyed.{Surveyed}
+use Rattle.edit_history.specs.declared.Held.{Held}
 use Rattle.edit_history.specs.EditsHeld.{most_records, is_target}
 use Rattle.edit_causal.specs.Conflict.{conflicts_with}
 use Rattle.edit_history.specs.SurveyForms.{survey_of}
@@ -32,15 +32,15 @@ use Rattle.table_arrival.proofs.ObjectOfSet.{object-less, row-few, row-ascending
 use Rattle.table_arrival.proofs.CodeOutcomes.{set_is, crowded-is, count_room}
 
 -- the groups that the step is given, and those that it gives
-abbrev pub row_by : Tables → Surveyed → List ℕ
+abbrev pub row_by : Tables → Held → List ℕ
 row_by t v = take (groups_at t.objects v.object) (row v.object t.groups)
 
-abbrev pub step_by : Tables → Surveyed → ℕ → List ℕ
+abbrev pub step_by : Tables → Held → ℕ → List ℕ
 step_by t v m = step m v.sets (row_by t v)
 
 -- ---- what is given
 
-pub record GivenSet (t : Tables) (b : List ℕ) (v : Surveyed) : Type 0 where
+pub record GivenSet (t : Tables) (b : List ℕ) (v : Held) : Type 0 where
   pub object : v.object < most_objects
   pub sets : v.sets < most_sets
   pub groups : groups_at t.objects v.object ≤ most_groups
@@ -58,7 +58,7 @@ pub record GivenSet (t : Tables) (b : List ℕ) (v : Surveyed) : Type 0 where
 -- ---- what is left
 
 -- the step gave too many groups, and the table of groups is as the step left it
-abbrev pub Refused : Tables → List ℕ → Surveyed → ℕ → Type 0
+abbrev pub Refused : Tables → List ℕ → Held → ℕ → Type 0
 Refused t b v m =
     most_groups < length (step_by t v m) →
     outcome_of 7
@@ -67,7 +67,7 @@ Refused t b v m =
     ≡ acceptance_of t b
 
 -- the step gave few enough, and the record, the entry and the counters are stored
-abbrev pub Stored : Tables → List ℕ → Surveyed → ℕ → Type 0
+abbrev pub Stored : Tables → List ℕ → Held → ℕ → Type 0
 Stored t b v m =
     length (step_by t v m) ≤ most_groups →
     outcome_of 0
@@ -82,7 +82,7 @@ module _ (t : Tables) (b : List ℕ) (is_sound : Sound t) (z : first_to_six t b 
   abbrev e : Edit
   e = decode_of b
 
-  abbrev v : Surveyed
+  abbrev v : Held
   v = survey_of (held_by t) e
 
   abbrev a : Admitted t b
@@ -127,7 +127,7 @@ module _ (t : Tables) (b : List ℕ) (is_sound : Sound t) (z : first_to_six t b 
 module _
     (t : Tables)
     (b : List ℕ)
-    (v : Surveyed)
+    (v : Held)
     (j : Judged)
     (apart : Bool)
     (r : Ready t b v j apart) where
@@ -140,38 +140,33 @@ module _
   target : any (is_target edit) (held_by t) ≡ true
   target = admitted-target t b passed (set-aimed edit r.set)
 
-  -- the survey is whole
-  survey-is : v ≡ survey_of (held_by t) edit
-  survey-is = r.in_hand.surveyed.whole (r.in_hand.surveyed.found ∙ target)
-
   -- the Sets that are judged to conflict do
   marks-are : j.conflicts ≡ conflicts_with edit (mates_of t edit)
   marks-are =
       let pass = admitted-passes t b passed in
-      let s = r.in_hand.surveyed in
-      let of = judges t (sound-at t r.in_hand.is_sound) edit j v.found s.found r.in_hand.judged in
+      let of = judges t (sound-at t r.is_sound) edit j true (sym target) r.judged in
       of.conflicts target pass (of.nameless pass ∙ passed.named)
 
   -- what holds of the survey of the records and of the Sets that conflict
   in-hand :
-      (P : Surveyed → ℕ → Type 0) →
+      (P : Held → ℕ → Type 0) →
       P (survey_of (held_by t) edit) (conflicts_with edit (mates_of t edit)) →
       P v j.conflicts
   in-hand P h =
       subst (λ (m : ℕ). P v m) (sym marks-are)
-      (subst (λ (y : Surveyed). P y (conflicts_with edit (mates_of t edit))) (sym survey-is) h)
+      (subst (λ (y : Held). P y (conflicts_with edit (mates_of t edit))) (sym r.surveyed) h)
 
   pub set_given : GivenSet t b v
   set_given =
-      in-hand (λ y m. GivenSet t b y) (given t b (sound-at t r.in_hand.is_sound) r.passes r.set)
+      in-hand (λ y m. GivenSet t b y) (given t b (sound-at t r.is_sound) r.passes r.set)
 
   pub set_apart : apart ≡ true → Apart (row_by t v)
   set_apart h =
-      r.in_hand.rows h v.object
-      (rw survey-is (unfold survey_of in object-less t (sound-at t r.in_hand.is_sound) edit target))
+      r.rows h v.object
+      (rw r.surveyed (unfold survey_of in object-less t (sound-at t r.is_sound) edit target))
 
   pub set-refused : Refused t b v j.conflicts
-  set-refused = in-hand (Refused t b) (refused t b (sound-at t r.in_hand.is_sound) r.passes r.set)
+  set-refused = in-hand (Refused t b) (refused t b (sound-at t r.is_sound) r.passes r.set)
 
   pub set-stored : Stored t b v j.conflicts
-  set-stored = in-hand (Stored t b) (stored t b (sound-at t r.in_hand.is_sound) r.passes r.set)
+  set-stored = in-hand (Stored t b) (stored t b (sound-at t r.is_sound) r.passes r.set)

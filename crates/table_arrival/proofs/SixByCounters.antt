@@ -9,13 +9,15 @@ use native.Mathlib.Omega.{arith}
 use lib.ListN.{length}
 use lib.Dec.{eqb}
 use borrow.Author.Tests.{eqb-true, not-false}
+use Rattle.std.specs.Prelude.{Option, Some, None, is_some}
 use Rattle.math_lists.specs.SortedLists.{any}
-use Rattle.math_lists.proofs.Booleans.{decide, neither}
+use Rattle.math_lists.proofs.Booleans.{clash, decide, neither}
 use Rattle.edit_record.specs.Layout.{most_sites}
 use Rattle.edit_record.specs.RecordBytes.{decode_of, span_of}
 use Rattle.edit_record.specs.Answer1.{is_set, is_aimed, unfit, malformed}
 use Rattle.edit_record.proofs.WellFormed.{well-formed, set-aimed}
 use Rattle.edit_record.specs.declared.Edit.{Edit}
+use Rattle.edit_history.specs.declared.Held.{Held}
 use Rattle.edit_history.specs.declared.Surveyed.{Surveyed}
 use Rattle.edit_history.specs.EditsHeld.{is_target}
 use Rattle.edit_history.specs.Answers2to5.{is_repeated, is_early, is_torn, is_astray, passes}
@@ -28,7 +30,7 @@ use Rattle.table_drawing.specs.declared.Counters.{Counters}
 use Rattle.table_drawing.specs.Tables.{Tables, held_by}
 use Rattle.table_soundness.proofs.SoundFacts.{Sound}
 use Rattle.table_arrival.specs.Answers6and7.{is_full, is_crowded, first_of, in_turn, answer_to}
-use Rattle.table_arrival.specs.ArrivalForms.{full_with, Judges, three_by, to_six_by, first_to_six}
+use Rattle.table_arrival.specs.ArrivalForms.{full_with, Judges, three_by, surveyed_sets, to_six_by, first_to_six}
 
 -- ---- 1 to 3
 
@@ -106,6 +108,11 @@ first-same true e f f' g g' p q = refl
 first-same false true f f' g g' p q = refl
 first-same false false f f' g g' p q = rw (p refl, q refl)
 
+-- what is asked of a target that is held
+held-one : (r : Option Held) → is_some r ≡ true → (h : Held) × (r ≡ Some h)
+held-one None y = clash y refl
+held-one (Some h) y = (h, refl)
+
 module _
     (t : Tables)
     (s : Sound t)
@@ -145,14 +152,15 @@ module _
 
   -- the survey says how many Sets the object of a Set has
   full_is : (is_torn es edit || is_astray es edit) ≡ false →
-      full_with t.counters edit.kind v.sets ≡ is_full t edit
+      full_with t.counters edit.kind (surveyed_sets v) ≡ is_full t edit
   unfolding is_full is_astray survey_of
   full_is h = elim (decide (is_set edit)) [
     | inl set ↦
         let (_, astray) = neither (is_torn es edit) (is_astray es edit) h in
         let held : any (is_target edit) es ≡ true
         = not-false (any (is_target edit) es) (rw (set-aimed edit set) at astray) in
-        rw (sv.whole (sv.found ∙ held))
+        let (h, is) = held-one v.held (sv.found ∙ held) in
+        rw (is, sv.whole h is)
     | inr other ↦ rw other
   ]
 
@@ -161,7 +169,7 @@ module _
   to-six-are =
       rw (none.0, rep, early, sv.torn, sv.found)
       (first-same (is_torn es edit) (is_aimed edit && not (any (is_target edit) es)) j.nameless (is_nameless es edit)
-      (full_with t.counters edit.kind v.sets) (is_full t edit)
+      (full_with t.counters edit.kind (surveyed_sets v)) (is_full t edit)
       (λ h. sj.nameless (passes_on (unfold is_astray in h)))
       (λ h. full_is (unfold is_astray in h)))
 

@@ -1,18 +1,19 @@
 -- Forms that the code uses: 1 to 6, with 16 after 5, from the counters, a survey of the records and what is judged of
 -- the edit. No one need believe them: laws in proofs/ tie them to `Arrival`. Assumes nothing.
-use Rattle.std.specs.Prelude.{ℕ, ◌<◌, List, [], ◌∷◌, ◌≡◌, Bool, true, false, not, ◌&&◌, ◌||◌, eqb, leb, length}
+use Rattle.std.specs.Prelude.{ℕ, ◌<◌, List, [], ◌∷◌, ◌≡◌, Bool, true, false, not, ◌&&◌, ◌||◌, eqb, leb, length, Option, Some, is_some, unwrap_or, option_map}
 use Rattle.math_lists.specs.SortedLists.{any}
 use Rattle.edit_record.specs.Layout.{create_kind, set_kind, limited_kind}
 use Rattle.edit_record.specs.declared.Edit.{Edit}
 use Rattle.edit_record.specs.RecordBytes.{decode_of}
 use Rattle.edit_record.specs.Answer1.{is_set, is_limited, is_aimed, malformed}
+use Rattle.edit_history.specs.declared.Held.{Held}
 use Rattle.edit_history.specs.declared.Surveyed.{Surveyed}
 use Rattle.edit_causal.specs.Conflict.{conflicts_with}
 use Rattle.edit_causal.specs.ConflictForms.{plain_marks}
 use Rattle.edit_history.specs.EditsHeld.{most_records, edits_of, sets_on, is_target}
 use Rattle.edit_history.specs.Answers2to5.{is_repeated, is_early, is_torn, is_astray, passes}
 use Rattle.edit_history.specs.Answer16.{is_nameless, records_named}
-use Rattle.edit_history.specs.SurveyForms.{repeated_against, early_against, SurveyedOf}
+use Rattle.edit_history.specs.SurveyForms.{repeated_against, early_against, survey_of, SurveyedOf}
 use Rattle.group_step.specs.GroupRows.{most_objects, most_sets}
 use Rattle.group_step.specs.StepForms.{Apart}
 use Rattle.group_limited.specs.declared.Judged.{Judged}
@@ -21,7 +22,6 @@ use Rattle.table_drawing.specs.declared.Counters.{Counters}
 use Rattle.table_drawing.specs.Tables.{Tables, held_by}
 use Rattle.table_soundness.specs.Sound.{sound}
 use Rattle.table_arrival.specs.declared.Mates.{Mates}
-use Rattle.table_arrival.specs.declared.Tested.{Tested}
 use Rattle.table_arrival.specs.Answers6and7.{row_of, is_full, first_of, in_turn}
 
 -- 6 to an edit of this kind whose object has k Sets
@@ -53,6 +53,10 @@ three_by c b =
     ∷ early_against c.held (decode_of b)
     ∷ []
 
+-- how many Sets the object of an edit has by its survey; none, where its target is not held
+abbrev pub surveyed_sets : Surveyed → ℕ
+surveyed_sets v = unwrap_or (option_map (λ (h : Held). h.sets) v.held) 0
+
 -- 1 to 6 of a record to which none of 1 to 3 is given, by its survey and what is judged of it
 abbrev pub to_six_by : Counters → List ℕ → Surveyed → Judged → List Bool
 to_six_by c b v j =
@@ -60,9 +64,9 @@ to_six_by c b v j =
     ∷ false
     ∷ false
     ∷ v.torn
-    ∷ (is_aimed (decode_of b) && not v.found)
+    ∷ (is_aimed (decode_of b) && not (is_some v.held))
     ∷ j.nameless
-    ∷ full_with c (decode_of b).kind v.sets
+    ∷ full_with c (decode_of b).kind (surveyed_sets v)
     ∷ []
 
 -- 1 to 6 as `reasons` has them
@@ -93,17 +97,20 @@ pub record InHand (t : Tables) (b : List ℕ) (v : Surveyed) (j : Judged) (apart
   pub timely : first_of in_turn (three_by t.counters b) ≡ 0
   pub surveyed : SurveyedOf (held_by t) (decode_of b) v
   pub judged :
-      JudgedWhere v.found (sets_on (decode_of b).tsite (decode_of b).tseq (held_by t)) (decode_of b) j
+      JudgedWhere (is_some v.held) (sets_on (decode_of b).tsite (decode_of b).tseq (held_by t)) (decode_of b) j
   pub rows : apart ≡ true → RowsApart t
 
--- the same of a Set that passes 1 to 6
-pub record Ready (t : Tables) (b : List ℕ) (v : Surveyed) (j : Judged) (apart : Bool) : Type 0 where
-  pub in_hand : InHand t b v j apart
+-- the same of a Set that passes 1 to 6: its target is held, and h is what is asked of that
+pub record Ready (t : Tables) (b : List ℕ) (h : Held) (j : Judged) (apart : Bool) : Type 0 where
+  pub is_sound : sound t ≡ true
+  pub surveyed : h ≡ survey_of (held_by t) (decode_of b)
+  pub judged : JudgedWhere true (sets_on (decode_of b).tsite (decode_of b).tseq (held_by t)) (decode_of b) j
+  pub rows : apart ≡ true → RowsApart t
   pub passes : first_to_six t b ≡ 0
   pub set : is_set (decode_of b) ≡ true
 
--- whether 16 is given to none of the first n records, and what is judged of an edit e after them if so, where `found`
--- tells whether its target is held
-pub record TestedFor (found : Bool) (rs : List ℕ) (n : ℕ) (e : Edit) (r : Tested) : Type 0 where
-  pub named : r.named ≡ records_named rs n
-  pub judged : r.named ≡ true → JudgedWhere found (sets_on e.tsite e.tseq (edits_of rs n)) e r.judged
+-- what is judged of an edit e after the first n records, where 16 is given to none of them, or none; `found` tells
+-- whether its target is held
+pub record TestedFor (found : Bool) (rs : List ℕ) (n : ℕ) (e : Edit) (r : Option Judged) : Type 0 where
+  pub named : is_some r ≡ records_named rs n
+  pub judged : (j : Judged) → r ≡ Some j → JudgedWhere found (sets_on e.tsite e.tseq (edits_of rs n)) e j

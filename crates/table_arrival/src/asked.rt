@@ -5,27 +5,26 @@ ghost use Rattle.math_lists.specs.SortedLists.{any};
 ghost use Rattle.edit_record.specs.Layout.{most_sites, record_length, place_length};
 ghost use Rattle.edit_record.specs.RecordBytes.{decode_of};
 ghost use Rattle.edit_history.specs.EditsHeld.{most_records, edits_of, sets_on, is_target};
-ghost use Rattle.edit_history.specs.Answers2to5.{is_torn};
 ghost use Rattle.edit_history.specs.Answer16.{records_named};
 ghost use Rattle.edit_history.specs.SurveyForms.{survey_of, SurveyedOf, repeated_against, early_against};
 ghost use Rattle.edit_walk.specs.WalkForms.{Indexed, in_turn_against};
 ghost use Rattle.group_step.specs.GroupRows.{most_sets};
 ghost use Rattle.table_index.specs.IndexForms.{number_at, Holds};
-ghost use Rattle.table_drawing.specs.AnswerNumbers.{number_of};
+ghost use Rattle.table_drawing.specs.AnswerNumbers.{number_of, answer_of};
 ghost use Rattle.table_arrival.specs.Answers6and7.{first_of, in_turn};
 ghost use Rattle.table_arrival.specs.ArrivalForms.{three_by, MatesOf};
 
 use super::Mates;
-use edit_history::Surveyed;
+use edit_history::{Held, Surveyed};
 use edit_record::{
     AT_KIND, AT_SEQ, AT_SITE, AT_TARGET, AT_TARGET_SEQ, CREATE, LIMITED, PLACE, Seq, Site,
 };
-use table_drawing::{Answer, Counters};
+use table_drawing::{Counters, Refusal};
 
 // 2 or 3, if one of them applies to a record that is there whole, by the counts of the edits held.
-fn two_or_three(held: &[u16], rec: &[u8]) -> Answer
+fn two_or_three(held: &[u16], rec: &[u8]) -> Result<(), Refusal>
     requires { (record_length ≤ length rec.now) × (most_sites ≤ length held.now) }
-    ensures { number_of result ≡ first_of in_turn (false
+    ensures { answer_of result ≡ first_of in_turn (false
         ∷ repeated_against held.now (decode_of rec.now)
         ∷ early_against held.now (decode_of rec.now) ∷ []) }
 {
@@ -33,22 +32,22 @@ fn two_or_three(held: &[u16], rec: &[u8]) -> Answer
     let s = rec[AT_SITE];
     let q = edit_record::pair_at(rec, AT_SEQ);
     if edit_history::is_repeated(held, Site(s), Seq(q)) {
-        return Answer::Repeated;
+        return Err(Refusal::Repeated);
     }
     if edit_history::is_early(held, v, Site(s), Seq(q)) {
-        return Answer::Early;
+        return Err(Refusal::Early);
     }
-    Answer::Done
+    Ok(())
 }
 
 // 1 to 3, the first that applies to a record, by the counters. It says as well what the type of the counts says, for
 // callers that have them from a struct.
-pub fn one_to_three(c: Counters, rec: &[u8]) -> Answer
-    ensures { (number_of result ≡ first_of in_turn (three_by c rec.now)) × (length c.held ≡ most_sites) }
+pub fn one_to_three(c: Counters, rec: &[u8]) -> Result<(), Refusal>
+    ensures { (answer_of result ≡ first_of in_turn (three_by c rec.now)) × (length c.held ≡ most_sites) }
 {
     let held = c.held;
     if edit_fit::is_malformed(c.sites, rec) {
-        return Answer::Malformed;
+        return Err(Refusal::Malformed);
     }
     two_or_three(&held, rec)
 }
@@ -59,12 +58,10 @@ fn creates_before(recs: &[u8], p: usize) -> usize
     ensures { result ≡ number_at recs.now p }
 {
     let mut count: usize = 0;
-    let mut i: usize = 0;
-    while i < p {
+    for i in 0..p {
         if edit_history::kind_at(recs, i) == CREATE {
             count += 1;
         }
-        i += 1;
     }
     count
 }
@@ -80,8 +77,7 @@ fn mates_on(recs: &[u8], n: usize, s: Site, q: Seq, rec: &[u8]) -> Mates
     let mut sets: usize = 0;
     let mut plain: u64 = 0;
     let mut limited = false;
-    let mut i: usize = 0;
-    while i < n {
+    for i in 0..n {
         let at = i * PLACE;
         let place = &recs[at..];
         if edit_object::is_set_in(place, s, q) {
@@ -90,7 +86,6 @@ fn mates_on(recs: &[u8], n: usize, s: Site, q: Seq, rec: &[u8]) -> Mates
             limited = limited | (place[AT_KIND] == LIMITED);
             sets += 1;
         }
-        i += 1;
     }
     Mates {
         sets,
@@ -100,23 +95,20 @@ fn mates_on(recs: &[u8], n: usize, s: Site, q: Seq, rec: &[u8]) -> Mates
 }
 
 // All that a record whose target is held asks of the records held.
-fn survey_held(c: Counters, recs: &[u8], places: &[u16], rec: &[u8], torn: bool) -> Surveyed
+fn survey_held(c: Counters, recs: &[u8], places: &[u16], rec: &[u8]) -> Held
     requires { Holds c recs.now
         × (most_records * place_length ≤ length recs.now)
         × Indexed recs.now c.records places.now
         × (record_length ≤ length rec.now)
         × (any (is_target (decode_of rec.now)) (edits_of recs.now c.records) ≡ true) }
-    ensures { torn ≡ is_torn (edits_of recs.now c.records) (decode_of rec.now) →
-        result ≡ survey_of (edits_of recs.now c.records) (decode_of rec.now) }
+    ensures { result ≡ survey_of (edits_of recs.now c.records) (decode_of rec.now) }
 {
     let s = rec[AT_TARGET];
     let q = edit_record::pair_at(rec, AT_TARGET_SEQ);
     let p = edit_walk::place_at(places, Site(s), Seq(q));
     let object = creates_before(recs, p as usize);
     let m = mates_on(recs, c.records as usize, Site(s), Seq(q), rec);
-    Surveyed {
-        torn,
-        found: true,
+    Held {
         object,
         sets: m.sets,
         plain: m.plain,
@@ -136,18 +128,26 @@ pub fn survey(c: Counters, recs: &[u8], places: &[u16], rec: &[u8]) -> Surveyed
 {
     let a = table_index::aim_of(c, recs, places, rec);
     if !a.held {
-        return edit_history::none_found(a.torn);
+        return Surveyed {
+            torn: a.torn,
+            held: None,
+        };
     }
-    survey_held(c, recs, places, rec, a.torn)
+    let held = survey_held(c, recs, places, rec);
+    Surveyed {
+        torn: a.torn,
+        held: Some(held),
+    }
 }
 
-// The answer to a record that asks nothing of the Sets held: 8 before it, where 16 is given to a record held.
-pub fn answer_where_named(c: Counters, recs: &[u8], places: &[u16], answer: Answer) -> Answer
+// Why a record that asks nothing of the Sets held is refused: 8 before r, where 16 is given to a record held.
+pub fn refusal_where_named(c: Counters, recs: &[u8], places: &[u16], r: Refusal) -> Refusal
     requires { Holds c recs.now × Indexed recs.now c.records places.now }
-    ensures { number_of result ≡ cond (records_named recs.now c.records) (number_of answer) 8 }
+    ensures { number_of result ≡ cond (records_named recs.now c.records) (number_of r) 8 }
 {
     if group_named::are_all_named(recs, c.records as usize, places) {
-        return answer;
+        r
+    } else {
+        Refusal::Unsound
     }
-    Answer::Unsound
 }

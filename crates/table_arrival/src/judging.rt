@@ -1,26 +1,24 @@
 // What is tested of an arriving record at tables that are sound but for 16, and judged of it where 16 is given to none
 // of the records held: whether it is given to the arriving one, and which Sets conflict with it.
-ghost use Rattle.std.specs.Prelude.{◌≡◌, true, ◌≤◌, length};
+ghost use Rattle.std.specs.Prelude.{◌≡◌, true, false, ◌≤◌, length, is_some, IfSome};
 ghost use Rattle.math_lists.specs.SortedLists.{any};
 ghost use Rattle.edit_record.specs.Layout.{record_length};
 ghost use Rattle.edit_record.specs.RecordBytes.{decode_of};
 ghost use Rattle.edit_history.specs.EditsHeld.{edits_of, sets_on, is_target};
+ghost use Rattle.edit_history.specs.Answer16.{records_named};
 ghost use Rattle.edit_history.specs.SurveyForms.{SurveyedOf};
 ghost use Rattle.edit_walk.specs.WalkForms.{Indexed};
 ghost use Rattle.table_index.specs.IndexForms.{Holds};
 ghost use Rattle.table_arrival.specs.ArrivalForms.{TestedFor};
 
-use super::Tested;
 use edit_history::Surveyed;
 use edit_record::{AT_KIND, AT_TARGET, AT_TARGET_SEQ, LIMITED, Seq, Site};
-use group_limited::Judged;
-use group_sight::RECENT;
-use group_step::SETS;
+use group_limited::{BoxRows, Judged};
 use table_drawing::Counters;
 
-// What is tested and judged by the rows of the box, which has k Sets: they are worked out once, as 16 of them is
-// tested.
-fn judge_by_rows(c: Counters, recs: &[u8], places: &[u16], rec: &[u8], k: usize) -> Tested
+// What is judged by the rows of the box, which has k Sets, or none where 16 is given to a record held: the rows are
+// worked out once, as 16 of them is tested.
+fn judge_by_rows(c: Counters, recs: &[u8], places: &[u16], rec: &[u8], k: usize) -> Option<Judged>
     requires { Holds c recs.now
         × Indexed recs.now c.records places.now
         × (record_length ≤ length rec.now)
@@ -32,56 +30,52 @@ fn judge_by_rows(c: Counters, recs: &[u8], places: &[u16], rec: &[u8], k: usize)
     let s = rec[AT_TARGET];
     let q = edit_record::pair_at(rec, AT_TARGET_SEQ);
     let p = edit_walk::place_at(places, Site(s), Seq(q));
-    // what work space holds at first does not matter; zeros would be set by memset (docs/DECISIONS.md, 24)
-    let mut members = [1u16; SETS];
-    let mut plain = [1u64; SETS];
-    let mut ctx = [1u64; SETS];
-    let mut sees = [1u64; RECENT];
-    let mut names = [1u32; SETS];
+    let mut rows = BoxRows::none();
     let n = c.records as usize;
-    let named = group_named::are_named_last(
-        &mut members,
-        &mut plain,
-        &mut ctx,
-        &mut sees,
-        &mut names,
-        recs,
-        n,
-        places,
-        p as usize,
-    );
+    let named = group_named::are_named_last(&mut rows, recs, n, places, p as usize);
     if !named {
-        let judged = Judged {
-            nameless: false,
-            conflicts: 0,
-        };
-        return Tested { named, judged };
+        return None;
     }
-    let judged = group_limited::judge(recs, &members, &names, &sees, k, &plain, &ctx, rec);
-    Tested { named, judged }
+    let judged = group_limited::judge(&rows, recs, k, rec);
+    Some(judged)
 }
 
-// What is tested and judged with the survey v. Where no Set of its object is limited, and it is not, document 01's
-// conflicts are all that there are. One whose object is not held is not judged. The rows are asked for in two places,
-// so that their work space is no part of an arrival's, in which soundness was tested before.
-pub fn judge(c: Counters, recs: &[u8], places: &[u16], rec: &[u8], v: Surveyed) -> Tested
+// What is judged where document 01's conflicts, plain, are all that there are, or none where 16 is given to a record
+// held.
+fn judge_plainly(c: Counters, recs: &[u8], places: &[u16], plain: u64) -> Option<Judged>
+    requires { Holds c recs.now × Indexed recs.now c.records places.now }
+    ensures { (is_some result ≡ records_named recs.now c.records)
+        × IfSome result (λ j. (j.nameless ≡ false) × (j.conflicts ≡ plain)) }
+{
+    if !group_named::are_all_named(recs, c.records as usize, places) {
+        return None;
+    }
+    Some(Judged {
+        nameless: false,
+        conflicts: plain,
+    })
+}
+
+// What is judged with the survey v, or none where 16 is given to a record held. Where no Set of its object is limited,
+// and it is not, document 01's conflicts are all that there are. One whose object is not held is not judged. The rows
+// are asked for in two places, so that their work space is no part of an arrival's, in which soundness was tested
+// before.
+pub fn judge(c: Counters, recs: &[u8], places: &[u16], rec: &[u8], v: Surveyed) -> Option<Judged>
     requires { Holds c recs.now
         × Indexed recs.now c.records places.now
         × (record_length ≤ length rec.now)
         × SurveyedOf (edits_of recs.now c.records) (decode_of rec.now) v }
-    ensures { TestedFor v.found recs.now c.records (decode_of rec.now) result }
+    ensures { TestedFor (is_some v.held) recs.now c.records (decode_of rec.now) result }
 {
     let limited = edit_record::byte_at(rec, AT_KIND) == LIMITED;
-    if v.found & limited {
-        return judge_by_rows(c, recs, places, rec, v.sets);
-    }
-    if v.found & v.limited {
-        return judge_by_rows(c, recs, places, rec, v.sets);
-    }
-    let named = group_named::are_all_named(recs, c.records as usize, places);
-    let judged = Judged {
-        nameless: false,
-        conflicts: v.plain,
+    let Some(h) = v.held else {
+        return judge_plainly(c, recs, places, 0);
     };
-    Tested { named, judged }
+    if limited {
+        return judge_by_rows(c, recs, places, rec, h.sets);
+    }
+    if h.limited {
+        return judge_by_rows(c, recs, places, rec, h.sets);
+    }
+    judge_plainly(c, recs, places, h.plain)
 }

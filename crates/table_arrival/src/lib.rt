@@ -5,30 +5,23 @@ pub mod asked;
 mod judging;
 
 ghost use Rattle.std.specs.Prelude.{◌≡◌, [], ◌∷◌, ◌+◌, ◌≤◌, ◌<◌, length, get_or};
+ghost use Rattle.std.specs.Result.{result_unwrap_or};
 ghost use Rattle.edit_record.specs.Layout.{two_bytes, record_length, place_length};
 ghost use Rattle.edit_record.specs.RecordBytes.{span_of};
 ghost use Rattle.edit_history.specs.EditsHeld.{most_records};
 ghost use Rattle.group_step.specs.GroupRows.{most_objects};
 ghost use Rattle.table_drawing.specs.Tables.{tables_of, records_length, objects_length};
-ghost use Rattle.table_drawing.specs.AnswerNumbers.{outcome_of, number_of};
+ghost use Rattle.table_drawing.specs.AnswerNumbers.{outcome_of, answer_of};
 ghost use Rattle.table_arrival.specs.Answers6and7.{first_of, in_turn};
 ghost use Rattle.table_arrival.specs.Arrival.{counted, put_record, put_counts, put_entry, acceptance_of, arrival_of};
-ghost use Rattle.table_arrival.specs.ArrivalForms.{full_with, to_six_by, InHand, Ready};
+ghost use Rattle.table_arrival.specs.ArrivalForms.{full_with, surveyed_sets, to_six_by, InHand, Ready};
 
-use edit_history::{RECORDS, Surveyed};
+use edit_history::{Held, RECORDS, Surveyed};
 use edit_record::{AT_KIND, AT_SITE, CREATE, PLACE, RECORD, Site};
 use edit_walk::PLACES;
 use group_limited::Judged;
 use group_step::{OBJECTS, SETS};
-use table_drawing::{Answer, Counters, ENTRY};
-
-// An answer to an arriving edit, and the counters after it.
-#[repr(C)]
-#[derive(Clone, Copy)]
-pub struct Arrived {
-    pub answer: Answer,
-    pub counters: Counters,
-}
+use table_drawing::{Counters, ENTRY, Refusal};
 
 // Of the Sets of an object how many they are, which of them conflict with an edit by document 01's rule, bit i for the
 // i-th, and whether one is limited.
@@ -39,34 +32,14 @@ pub struct Mates {
     pub limited: bool,
 }
 
-// Whether 16 is given to none of the records held, and what is judged of an arriving one if so.
-#[derive(Clone, Copy)]
-pub struct Tested {
-    pub named: bool,
-    pub judged: Judged,
-}
-
-// The bytes of the record src into d.
+// The bytes of the record src into d. A loop: of a length that is known at run time alone, `copy_from_slice` is a call,
+// and reading a file takes longer by it.
 fn copy_record(d: &mut [u8], src: &[u8])
     requires { length d.old ≡ length src.now }
     ensures { d.new ≡ src.now }
 {
-    let mut i: usize = 0;
-    while i < src.len() {
+    for i in 0..src.len() {
         d[i] = src[i];
-        i += 1;
-    }
-}
-
-// The bytes of a plain record into d: from a copy, since a processor moves those many at a time.
-fn put_whole(d: &mut [u8], whole: [u8; RECORD])
-    requires { length d.old ≡ record_length }
-    ensures { d.new ≡ whole }
-{
-    let mut i: usize = 0;
-    while i < RECORD {
-        d[i] = whole[i];
-        i += 1;
     }
 }
 
@@ -90,7 +63,7 @@ pub fn put_plain(recs: &mut [u8], p: usize, rec: [u8; RECORD])
 {
     let at = p * PLACE;
     let end = at + RECORD;
-    put_whole(&mut recs[at..end], rec);
+    recs[at..end].copy_from_slice(&rec);
 }
 
 // The number of Sets and the number of groups in the entry of object o.
@@ -152,41 +125,51 @@ fn first_reason(
     five: bool,
     sixteen: bool,
     six: bool,
-) -> Answer
-    ensures { number_of result ≡ first_of in_turn (one ∷ two ∷ three ∷ four ∷ five ∷ sixteen ∷ six ∷ []) }
+) -> Result<(), Refusal>
+    ensures { answer_of result ≡ first_of in_turn (one ∷ two ∷ three ∷ four ∷ five ∷ sixteen ∷ six ∷ []) }
 {
     if one {
-        return Answer::Malformed;
+        return Err(Refusal::Malformed);
     }
     if two {
-        return Answer::Repeated;
+        return Err(Refusal::Repeated);
     }
     if three {
-        return Answer::Early;
+        return Err(Refusal::Early);
     }
     if four {
-        return Answer::Torn;
+        return Err(Refusal::Torn);
     }
     if five {
-        return Answer::Astray;
+        return Err(Refusal::Astray);
     }
     if sixteen {
-        return Answer::Nameless;
+        return Err(Refusal::Nameless);
     }
     if six {
-        return Answer::Full;
+        return Err(Refusal::Full);
     }
-    Answer::Done
+    Ok(())
+}
+
+// How many Sets the object of an edit has by its survey; none, where its target is not held.
+fn sets_of(v: Surveyed) -> usize
+    ensures { result ≡ surveyed_sets v }
+{
+    match v.held {
+        Some(h) => h.sets,
+        None => 0,
+    }
 }
 
 // 4 to 6, the first that applies to a record to which none of 1 to 3 is given, from the counters, the survey of the
 // records and what is judged of the edit.
-fn refusal(c: Counters, rec: &[u8], v: Surveyed, j: Judged) -> Answer
-    ensures { number_of result ≡ first_of in_turn (to_six_by c rec.now v j) }
+fn refusal(c: Counters, rec: &[u8], v: Surveyed, j: Judged) -> Result<(), Refusal>
+    ensures { answer_of result ≡ first_of in_turn (to_six_by c rec.now v j) }
 {
     let kind = edit_record::byte_at(rec, AT_KIND);
-    let five = edit_record::is_aimed_kind(kind) & !v.found;
-    let six = is_full(c, kind, v.sets);
+    let five = edit_record::is_aimed_kind(kind) & v.held.is_none();
+    let six = is_full(c, kind, sets_of(v));
     first_reason(false, false, false, v.torn, five, j.nameless, six)
 }
 
@@ -250,32 +233,25 @@ fn take_set(
     objects: &mut [u16],
     groups: &mut [u64],
     rec: &[u8],
-    v: Surveyed,
+    h: Held,
     j: Judged,
     apart: bool,
-) -> Arrived
-    requires { Ready (tables_of c records.old objects.old groups.old) rec.now v j apart }
-    ensures { outcome_of (number_of result.answer)
-        (tables_of result.counters records.new objects.new groups.new)
+) -> Result<Counters, Refusal>
+    requires { Ready (tables_of c records.old objects.old groups.old) rec.now h j apart }
+    ensures { outcome_of (answer_of result) (tables_of (result_unwrap_or result c) records.new objects.new groups.new)
         ≡ acceptance_of (tables_of c records.old objects.old groups.old)
         rec.now }
 {
-    let o = v.object;
-    let k = v.sets;
+    let o = h.object;
+    let k = h.sets;
     let g = objects[o * ENTRY + 2];
     let m = group_apart::step_known(groups, o, g as usize, j.conflicts, k, apart);
     if group_step::GROUPS < m {
-        return Arrived {
-            answer: Answer::Crowded,
-            counters: c,
-        };
+        return Err(Refusal::Crowded);
     }
     let s = Site(edit_record::byte_at(rec, AT_SITE));
     let d = store_set(c, records, objects, rec, s, o, k as u16 + 1, m as u16);
-    Arrived {
-        answer: Answer::Done,
-        counters: d,
-    }
+    Ok(d)
 }
 
 // Takes a layer edit that passes 1 to 6: its record and the counters after it.
@@ -305,37 +281,28 @@ pub fn accept(
     v: Surveyed,
     j: Judged,
     apart: bool,
-) -> Arrived
+) -> Result<Counters, Refusal>
     requires { InHand (tables_of c records.old objects.old groups.old) rec.now v j apart }
-    ensures { outcome_of (number_of result.answer)
-        (tables_of result.counters records.new objects.new groups.new)
+    ensures { outcome_of (answer_of result) (tables_of (result_unwrap_or result c) records.new objects.new groups.new)
         ≡ acceptance_of (tables_of c records.old objects.old groups.old)
         rec.now }
 {
-    let answer = refusal(c, rec, v, j);
-    if table_drawing::number(answer) != 0 {
-        return Arrived {
-            answer,
-            counters: c,
-        };
-    }
+    refusal(c, rec, v, j)?;
     let kind = edit_record::byte_at(rec, AT_KIND);
     if edit_record::is_set_kind(kind) {
-        return take_set(c, records, objects, groups, rec, v, j, apart);
+        // 5 has been given to a Set whose target is not held
+        let Some(h) = v.held else {
+            return Err(Refusal::Astray);
+        };
+        return take_set(c, records, objects, groups, rec, h, j, apart);
     }
     let s = Site(edit_record::byte_at(rec, AT_SITE));
-    if kind == CREATE {
-        let d = take_create(c, records, objects, rec, s);
-        return Arrived {
-            answer: Answer::Done,
-            counters: d,
-        };
-    }
-    let d = take_layer(c, records, rec, s);
-    Arrived {
-        answer: Answer::Done,
-        counters: d,
-    }
+    let d = if kind == CREATE {
+        take_create(c, records, objects, rec, s)
+    } else {
+        take_layer(c, records, rec, s)
+    };
+    Ok(d)
 }
 
 // An arriving edit, any bytes, at any tables: 8, then 1 to 7 in turn, with 16 after 5, the first that applies; else the
@@ -346,36 +313,22 @@ pub fn arrive(
     objects: &mut [u16],
     groups: &mut [u64],
     rec: &[u8],
-) -> Arrived
-    ensures { outcome_of (number_of result.answer)
-        (tables_of result.counters records.new objects.new groups.new)
+) -> Result<Counters, Refusal>
+    ensures { outcome_of (answer_of result) (tables_of (result_unwrap_or result c) records.new objects.new groups.new)
         ≡ arrival_of (tables_of c records.old objects.old groups.old)
         rec.now }
 {
     // what work space holds at first does not matter; zeros would be set by memset (docs/DECISIONS.md, 24)
     let mut places = [1u16; PLACES];
     if !table_soundness::is_sound_but_named(c, records, objects, groups, &mut places) {
-        return Arrived {
-            answer: Answer::Unsound,
-            counters: c,
-        };
+        return Err(Refusal::Unsound);
     }
-    let first = asked::one_to_three(c, rec);
-    if table_drawing::number(first) != 0 {
-        let answer = asked::answer_where_named(c, records, &places, first);
-        return Arrived {
-            answer,
-            counters: c,
-        };
+    if let Err(r) = asked::one_to_three(c, rec) {
+        return Err(asked::refusal_where_named(c, records, &places, r));
     }
     let v = asked::survey(c, records, &places, rec);
-    let t = judging::judge(c, records, &places, rec, v);
-    if !t.named {
-        return Arrived {
-            answer: Answer::Unsound,
-            counters: c,
-        };
-    }
-    let j = t.judged;
+    let Some(j) = judging::judge(c, records, &places, rec, v) else {
+        return Err(Refusal::Unsound);
+    };
     accept(c, records, objects, groups, rec, v, j, false)
 }

@@ -1,13 +1,12 @@
 -- Sets without conflict come into every group, and may do so together and later: the groups with some Sets in each of
 -- them, one Set more, none at all, and a step that has no conflicts. Assumes nothing.
-use mathlib.Core.Path.{◌≡◌, refl, sym, ap, fun_ext, ◌∙◌}
+use mathlib.Core.Path.{◌≡◌, refl, sym, fun_ext, ◌∙◌}
 use mathlib.Core.Bool.{true, false, ◌||◌, or_assoc}
-use mathlib.Core.List.{List, [], ◌∷◌, ◌++◌, map}
-use Prim.Native.Nat.{ℕ, zero, suc, ◌+◌, ◌^◌, ◌≤◌, ◌<◌}
+use mathlib.Core.List.{List, [], ◌∷◌}
+use Prim.Native.Nat.{ℕ, zero, suc, ◌+◌, ◌^◌, ◌<◌}
 use native.Mathlib.Omega.{arith}
 use lib.Bits.{bit_or, bit_and, or_zero_r, or_lt, and_zero_r}
-use lib.ListN.{length, take, drop, length-map}
-use lib.Seq.{take_at, length-take-le}
+use lib.ListN.{length, length-map}
 use borrow.Author.Tests.{eq-eqb}
 use Rattle.math_lists.specs.SortedLists.{any, elem, Ascending}
 use Rattle.math_maximal.specs.Groups.{bit}
@@ -66,13 +65,3 @@ step-joined common k gs up low apart =
 pub joined_length : (m : ℕ) (gs : List ℕ) → length (joined_with m gs) ≡ length gs
 unfolding joined_with
 joined_length m gs = length-map gs (λ g. bit_or g m)
-
--- the front of a row whose first groups were joined
-pub joined-front :
-    (m n : ℕ) (before after : List ℕ) → n ≤ length before →
-    after ≡ map (λ g. bit_or g m) (take n before) ++ drop n before → take n after ≡ joined_with m (take n before)
-unfolding joined_with
-joined-front m n before after l e =
-    ap (take n) e
-    ∙ take_at (map (λ g. bit_or g m) (take n before)) (drop n before) n
-    (length-map (take n before) (λ g. bit_or g m) ∙ length-take-le n before l)

@@ -35,7 +35,7 @@ use Rattle.table_arrival.specs.Answers6and7.{row_of}
 use Rattle.group_true.specs.TrueGroups.{groups_of, true_groups}
 use Rattle.group_true.proofs.GroupsGrow.{is-maximal, none-part, never-fewer-groups, sets-step}
 use Rattle.table_sets.specs.KeyForms.{TellsIn}
-use Rattle.table_check.specs.CheckForms.{row_true, row_stands, groups_in, WorkedThrough}
+use Rattle.table_check.specs.CheckForms.{row_true, row_stands, groups_in, ProperInTurn}
 use Rattle.table_check.proofs.SettledByRecords.{used-long}
 use Rattle.table_check.proofs.SetsInTurn.{lawful-all, told-in-turn, named-on, named-turn, turn-named}
 
@@ -157,27 +157,28 @@ module _ (t : Tables) (s : SoundBut t) (o : ℕ) (l : o < t.counters.objects) (p
   pub row-fits-in : o * most_groups + most_groups ≤ length t.groups
   row-fits-in = omega (arith, s.groups-long, s.few-objects)
 
-  module _ (ms gs : List ℕ) (r : ℕ) (fits : k ≤ length ms) (e : take k ms ≡ places_on rs n create)
-      (w : WorkedThrough rs ms k gs r) where
+  module _ (ms : List ℕ) (fits : k ≤ length ms) (e : take k ms ≡ places_on rs n create) where
     abbrev named? : Bool
     named? = is_named_at rs n create
 
     named-is : named? ≡ named_in_turn (sets_in rs ms k)
     named-is = named-on t s create ms k fits e (s.object o l).entry.create
 
-    pub too_many : most_groups < r → false ≡ row_stands t o
-    too_many m =
+    pub too_many :
+        (ProperInTurn rs ms k → most_groups < length (groups_in rs ms k)) → false ≡ row_stands t o
+    too_many more =
         let g = groups_at t.objects o in
         let few = (s.object o l).row.few in
         let long = used-long t.groups o g few row-fits-in in
         sym (off-where named? (row_true t o) (λ h.
         let turn = named-turn rs ms k fits (lawful-all t s create ms k fits e) (sym named-is ∙ h) in
-        let many = w.many m turn in
+        let many = more turn in
         rw
         (ne_eqb (length (row_of t o)) (length (true_groups (held_by t) (record_at rs create)))
         (λ h. omega (arith, ap length (groups-are ms e))))))
 
-    pub row-decides : (b : Bool) → r ≤ most_groups → b ≡ same_list (row_of t o) (take r gs) → b ≡ row_stands t o
-    row-decides b few h =
-        let (turn, front) = w.few few in
+    pub row-decides :
+        (gs : List ℕ) (r : ℕ) (b : Bool) → ProperInTurn rs ms k → take r gs ≡ groups_in rs ms k →
+        b ≡ same_list (row_of t o) (take r gs) → b ≡ row_stands t o
+    row-decides gs r b turn front h =
         rw (named-is, turn-named rs ms k fits turn) (h ∙ ap (same_list (row_of t o)) (front ∙ groups-are ms e))

@@ -1,7 +1,7 @@
 -- Forms that the code uses: tables are true exactly when they are sound and every row of groups is true, and a row is
 -- worked out from the places of its object's Sets. No one need believe them: laws in proofs/ tie them to `Check`.
 -- Assumes nothing.
-use Rattle.std.specs.Prelude.{◌≡◌, Bool, false, ◌&&◌, List, map, ℕ, ◌≤◌, ◌<◌, get_or, length, take}
+use Rattle.std.specs.Prelude.{◌≡◌, Bool, false, ◌&&◌, Option, MatchOption, List, map, ℕ, ◌≤◌, ◌<◌, get_or, length, take}
 use Rattle.std.specs.Int.Bits.{bit_or}
 use Rattle.math_lists.specs.NumbersBelow.{all, same_list}
 use Rattle.edit_causal.specs.ConflictForms.{Proper}
@@ -45,12 +45,12 @@ pub record ProperInTurn (rs ms : List ℕ) (k : ℕ) : Type 0 where
   pub proper : (i : ℕ) → i ≤ k → Proper (sets_in rs ms i)
   pub named : (i : ℕ) → i < k → nameless_among (sets_in rs ms i) (record_at rs (get_or ms i 0)) ≡ false
 
--- the groups l stand at the front of the row gs, and are r; or r says that they are too many for a row
-pub record WorkedOut (l gs : List ℕ) (r : ℕ) : Type 0 where
-  pub few : r ≤ most_groups → take r gs ≡ l
-  pub many : most_groups < r → most_groups < length l
+-- the groups l stand at the front of the row gs, and r says how many they are; or none, and they are too many for a row
+abbrev pub WorkedOut : List ℕ → List ℕ → Option ℕ → Type 0
+WorkedOut l gs r = MatchOption r (most_groups < length l) (λ n. (n ≤ most_groups) × (take n gs ≡ l))
 
--- the same, where 16 may be given to one of the Sets: then r says that they are too many
-pub record WorkedThrough (rs ms : List ℕ) (k : ℕ) (gs : List ℕ) (r : ℕ) : Type 0 where
-  pub few : r ≤ most_groups → ProperInTurn rs ms k × (take r gs ≡ groups_in rs ms k)
-  pub many : most_groups < r → ProperInTurn rs ms k → most_groups < length (groups_in rs ms k)
+-- the same, where 16 may be given to one of the Sets: then r says none as well
+abbrev pub WorkedThrough : List ℕ → List ℕ → ℕ → List ℕ → Option ℕ → Type 0
+WorkedThrough rs ms k gs r =
+    MatchOption r (ProperInTurn rs ms k → most_groups < length (groups_in rs ms k))
+    (λ n. (n ≤ most_groups) × ProperInTurn rs ms k × (take n gs ≡ groups_in rs ms k))

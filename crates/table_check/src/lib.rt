@@ -15,7 +15,7 @@ ghost use Rattle.group_step.specs.GroupRows.{most_groups, most_sets, row};
 ghost use Rattle.group_step.specs.StepForms.{Apart};
 ghost use Rattle.group_sight.specs.SightForms.{most_recent, sets_in, NamesIn};
 ghost use Rattle.table_drawing.specs.Tables.{tables_of};
-ghost use Rattle.table_drawing.specs.AnswerNumbers.{number_of};
+ghost use Rattle.table_drawing.specs.AnswerNumbers.{answer_of};
 ghost use Rattle.table_soundness.specs.SoundnessForms.{sound_but_named};
 ghost use Rattle.table_sets.specs.ChainForms.{Chained};
 ghost use Rattle.table_sets.specs.KeyForms.{TellsIn};
@@ -25,28 +25,13 @@ ghost use Rattle.table_check.specs.CheckForms.{WorkedOut, WorkedThrough};
 
 use edit_history::RECORDS;
 use edit_walk::PLACES;
+use group_limited::BoxRows;
 use group_sight::{RECENT, put_names};
 use group_step::{GROUPS, SETS};
 use table_drawing::entries::at16;
-use table_drawing::{Answer, Counters, ENTRY};
+use table_drawing::{Counters, ENTRY, Refusal};
 use table_sets::by_key::KEY_CHAINS;
 use table_sets::by_mask::mark_set;
-
-// Whether two rows of groups are the same.
-fn is_same(a: &[u64], b: &[u64]) -> bool
-    ensures { result ≡ same_list a.now b.now }
-{
-    if a.len() != b.len() {
-        return false;
-    }
-    let mut same = true;
-    let mut i: usize = 0;
-    while i < a.len() {
-        same = same & (a[i] == b[i]);
-        i += 1;
-    }
-    same
-}
 
 // Whether the g groups of object o are the r at the front of gs.
 fn is_row(groups: &[u64], o: usize, g: usize, gs: &[u64], r: usize) -> bool
@@ -56,8 +41,7 @@ fn is_row(groups: &[u64], o: usize, g: usize, gs: &[u64], r: usize) -> bool
     ensures { result ≡ same_list (take g (row o groups.now)) (take r gs.now) }
 {
     let at = o * GROUPS;
-    let end = at + g;
-    is_same(&groups[at..end], &gs[..r])
+    groups[at..at + g] == gs[..r]
 }
 
 // How many groups there are after a step, and which Sets are yet to be put into all of them.
@@ -73,10 +57,8 @@ fn join_all(gs: &mut [u64], n: usize, m: u64)
     ensures { (length gs.new ≡ length gs.old)
         × (take n gs.new ≡ joined_with m (take n gs.old)) }
 {
-    let mut i: usize = 0;
-    while i < n {
-        gs[i] = gs[i] | m;
-        i += 1;
+    for g in &mut gs[..n] {
+        *g |= m;
     }
 }
 
@@ -108,9 +90,9 @@ fn step_later(gs: &mut [u64], n: usize, common: u64, m: u64, i: usize) -> Steppe
 }
 
 // Makes the step for one after another of the Sets in the first k places, none of which is limited, on a row that has
-// the empty group alone; says how many groups there are. Once they are more than a row holds, they stay so, and the
-// rest is left.
-fn step_plainly(gs: &mut [u64], recs: &[u8], places: &[u16], k: usize) -> usize
+// the empty group alone; says how many groups there are, or none if they are more than a row holds: once they are, they
+// stay so, and the rest is left.
+fn step_plainly(gs: &mut [u64], recs: &[u8], places: &[u16], k: usize) -> Option<usize>
     requires { (length gs.old ≡ most_groups)
         × (take 1 gs.old ≡ 0 ∷ [])
         × (k ≤ length places.now)
@@ -125,67 +107,55 @@ fn step_plainly(gs: &mut [u64], recs: &[u8], places: &[u16], k: usize) -> usize
     let mut tolds = [1u64; SETS];
     let mut n: usize = 1;
     let mut common: u64 = 0;
-    let mut i: usize = 0;
-    while i < k {
+    for i in 0..k {
         let m = mark_set(&mut sets, &mut tolds, recs, places, i);
         let t = step_later(gs, n, common, m, i);
         n = t.count;
         common = t.common;
         if GROUPS < n {
-            return n;
+            return None;
         }
-        i += 1;
     }
     join_all(gs, n, common);
-    n
+    Some(n)
 }
 
 // The same where Sets may be limited: the conflicts of each are told by the rows of those before it, which are put down
-// in `plain` and `ctx`, and by the names of all. Where 16 is given to one, it says that there are too many groups: no
-// row is right then.
+// in `rows`, and by the names of all. Where 16 is given to one, it says none as well: no row is right then.
 fn step_limited(
     gs: &mut [u64],
-    plain: &mut [u64],
-    ctx: &mut [u64],
-    sees: &mut [u64],
+    rows: &mut BoxRows,
     recs: &[u8],
     places: &[u16],
-    names: &[u32],
     k: usize,
-) -> usize
+) -> Option<usize>
     requires { (length gs.old ≡ most_groups)
         × (take 1 gs.old ≡ 0 ∷ [])
-        × (k ≤ length plain.old)
-        × (k ≤ length ctx.old)
-        × (most_recent ≤ length sees.old)
         × (k ≤ length places.now)
         × (k ≤ most_sets)
         × Lawful (box_on (sets_in recs.now places.now k)) k
-        × (k ≤ length names.now)
-        × NamesIn recs.now places.now k names.now }
+        × NamesIn recs.now places.now k rows.old.names }
     ensures { WorkedThrough recs.now places.now k gs.new result }
 {
     let mut n: usize = 1;
-    let mut i: usize = 0;
-    while i < k {
-        let t = group_limited::told_at(recs, places, names, sees, i, plain, ctx, places[i]);
+    for i in 0..k {
+        let t = group_limited::told_at(rows, recs, places, i, places[i]);
         if t.nameless {
-            return GROUPS + 1;
+            return None;
         }
         n = group_apart::step_apart(gs, n, t.conflicts, i);
         if GROUPS < n {
-            return n;
+            return None;
         }
-        group_limited::put_told(plain, ctx, i, t.row, t.context);
-        sees[i % RECENT] = t.seen;
-        i += 1;
+        group_limited::put_told(&mut rows.plain, &mut rows.contexts, i, t.row, t.context);
+        rows.sees[i % RECENT] = t.seen;
     }
-    n
+    Some(n)
 }
 
 // Puts the groups of the Sets in the first k places at the front of gs, by the step for one Set after another from the
-// empty group; says how many they are, or that they are more than a row holds or that 16 is given to one of the Sets.
-fn work_out(recs: &[u8], places: &[u16], k: usize, gs: &mut [u64]) -> usize
+// empty group; says how many they are, or none if they are more than a row holds or 16 is given to one of the Sets.
+fn work_out(recs: &[u8], places: &[u16], k: usize, gs: &mut [u64]) -> Option<usize>
     requires { (k ≤ length places.now)
         × (k ≤ most_sets)
         × (length gs.old ≡ most_groups)
@@ -197,13 +167,9 @@ fn work_out(recs: &[u8], places: &[u16], k: usize, gs: &mut [u64]) -> usize
     if !group_limited::is_any_limited(recs, places, k) {
         return step_plainly(gs, recs, places, k);
     }
-    // what work space holds at first does not matter; zeros would be set by memset (docs/DECISIONS.md, 24)
-    let mut plain = [1u64; SETS];
-    let mut ctx = [1u64; SETS];
-    let mut sees = [1u64; RECENT];
-    let mut names = [1u32; SETS];
-    put_names(&mut names, recs, places, k);
-    step_limited(gs, &mut plain, &mut ctx, &mut sees, recs, places, &names, k)
+    let mut rows = BoxRows::none();
+    put_names(&mut rows.names, recs, places, k);
+    step_limited(gs, &mut rows, recs, places, k)
 }
 
 // Whether 16 is given to none of the Sets of object o, which are found by the chain, and its row has their groups.
@@ -228,10 +194,9 @@ fn is_row_true(
     let mut members = [1u16; SETS];
     let mut gs = [1u64; GROUPS];
     table_sets::gather_sets(chain, p as usize, k as usize, &mut members);
-    let r = work_out(records, &members, k as usize, &mut gs);
-    if GROUPS < r {
+    let Some(r) = work_out(records, &members, k as usize, &mut gs) else {
         return false;
-    }
+    };
     is_row(groups, o, g as usize, &gs, r)
 }
 
@@ -252,26 +217,24 @@ fn are_rows_true(
     let mut chain = [1u16; RECORDS];
     table_sets::chain_sets(records, n, places, &mut chain);
     let mut right = true;
-    let mut o: usize = 0;
-    while o < m {
-        right = right & is_row_true(c, records, objects, groups, &chain, o);
-        o += 1;
+    for o in 0..m {
+        right &= is_row_true(c, records, objects, groups, &chain, o);
     }
     right
 }
 
 // The separate check: done exactly when the tables are what their records give from an empty drawing, else unsound.
-pub fn check(c: Counters, records: &[u8], objects: &[u16], groups: &[u64]) -> Answer
-    ensures { number_of result
+pub fn check(c: Counters, records: &[u8], objects: &[u16], groups: &[u64]) -> Result<(), Refusal>
+    ensures { answer_of result
         ≡ check_of (tables_of c records.now objects.now groups.now) }
 {
     let mut places = [1u16; PLACES];
     if !table_soundness::is_sound_but_named(c, records, objects, groups, &mut places) {
-        return Answer::Unsound;
+        return Err(Refusal::Unsound);
     }
     if are_rows_true(c, records, objects, groups, &places) {
-        Answer::Done
+        Ok(())
     } else {
-        Answer::Unsound
+        Err(Refusal::Unsound)
     }
 }

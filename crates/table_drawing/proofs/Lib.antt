@@ -1,1 +1,2 @@
 pub mod OpeningOutcomes
+pub mod RefusalNumbers

@@ -4,8 +4,9 @@
 pub mod entries;
 
 ghost use Rattle.std.specs.Prelude.{◌≡◌, ◌&&◌, eqb};
+ghost use Rattle.std.specs.Result.{result_unwrap_or};
 ghost use Rattle.table_drawing.specs.Tables.{records_length, objects_length, groups_length, sites_right, tables_of};
-ghost use Rattle.table_drawing.specs.AnswerNumbers.{outcome_of, number_of};
+ghost use Rattle.table_drawing.specs.AnswerNumbers.{outcome_of, number_of, answer_of};
 ghost use Rattle.table_drawing.specs.Opening.{opening_of};
 
 use edit_history::RECORDS;
@@ -15,10 +16,9 @@ use group_step::{GROUPS, OBJECTS};
 // The numbers of an object's entry: the place of its Create, its number of Sets and its number of groups.
 pub const ENTRY: usize = 3;
 
-// The answers of documents 01 and 02; `number_of` gives each its number.
-#[derive(Clone, Copy)]
-pub enum Answer {
-    Done,
+// Why a call is refused, by documents 01 and 02; `number_of` gives each its number.
+#[derive(Clone, Copy, PartialEq, Eq)]
+pub enum Refusal {
     Malformed,
     Repeated,
     Early,
@@ -47,13 +47,6 @@ pub struct Counters {
     pub sum: u32,
 }
 
-// An answer to a call that opens a drawing, and its counters.
-#[derive(Clone, Copy)]
-pub struct Opened {
-    pub answer: Answer,
-    pub counters: Counters,
-}
-
 // Whether tables of these lengths are as long as they must be.
 pub fn lengths_right(records: usize, objects: usize, groups: usize) -> bool
     ensures { result ≡ (eqb records records_length && eqb objects objects_length && eqb groups groups_length) }
@@ -68,26 +61,36 @@ pub fn sites_right(n: u8) -> bool
     (1 <= n) & (n as usize <= SITES)
 }
 
-// The number of an answer.
-pub fn number(a: Answer) -> u8
-    ensures { result ≡ number_of a }
+impl From<Refusal> for u8 {
+    ghost from_gives = { λ r n. n ≡ number_of r };
+
+    fn from(r: Refusal) -> u8 {
+        match r {
+            Refusal::Malformed => 1,
+            Refusal::Repeated => 2,
+            Refusal::Early => 3,
+            Refusal::Torn => 4,
+            Refusal::Astray => 5,
+            Refusal::Full => 6,
+            Refusal::Crowded => 7,
+            Refusal::Unsound => 8,
+            Refusal::BadSites => 9,
+            Refusal::BadFile => 10,
+            Refusal::NoRoom => 11,
+            Refusal::NoLine => 12,
+            Refusal::Nameless => 16,
+            Refusal::TooManySets => 18,
+        }
+    }
+}
+
+// The number of an answer: 0 where the call is done.
+pub fn number<T>(answer: &Result<T, Refusal>) -> u8
+    ensures { result ≡ answer_of answer.now }
 {
-    match a {
-        Answer::Done => 0,
-        Answer::Malformed => 1,
-        Answer::Repeated => 2,
-        Answer::Early => 3,
-        Answer::Torn => 4,
-        Answer::Astray => 5,
-        Answer::Full => 6,
-        Answer::Crowded => 7,
-        Answer::Unsound => 8,
-        Answer::BadSites => 9,
-        Answer::BadFile => 10,
-        Answer::NoRoom => 11,
-        Answer::NoLine => 12,
-        Answer::Nameless => 16,
-        Answer::TooManySets => 18,
+    match answer {
+        Ok(_) => 0,
+        Err(r) => u8::from(*r),
     }
 }
 
@@ -98,36 +101,24 @@ pub fn open(
     objects: &mut [u16],
     groups: &mut [u64],
     n: u8,
-) -> Opened
-    ensures { outcome_of (number_of result.answer)
-        (tables_of result.counters records.new objects.new groups.new)
+) -> Result<Counters, Refusal>
+    ensures { outcome_of (answer_of result) (tables_of (result_unwrap_or result c) records.new objects.new groups.new)
         ≡ opening_of (tables_of c records.old objects.old groups.old) n }
 {
     if !lengths_right(records.len(), objects.len(), groups.len()) {
-        return Opened {
-            answer: Answer::Unsound,
-            counters: c,
-        };
+        return Err(Refusal::Unsound);
     }
     if !sites_right(n) {
-        return Opened {
-            answer: Answer::BadSites,
-            counters: c,
-        };
+        return Err(Refusal::BadSites);
     }
-    entries::clear_records(records);
-    entries::clear_objects(objects);
-    entries::clear_groups(groups);
-    let held = [0u16; SITES];
-    let counters = Counters {
+    records.fill(0);
+    objects.fill(0);
+    groups.fill(0);
+    Ok(Counters {
         sites: n,
         records: 0,
         objects: 0,
-        held,
+        held: [0; SITES],
         sum: 0,
-    };
-    Opened {
-        answer: Answer::Done,
-        counters,
-    }
+    })
 }

@@ -1,13 +1,14 @@
 -- What is found before the search: the Create of a box by the index of the records, the refusals, and the masks of its
 -- Sets, which are proper where 16 is given to no record. Assumes nothing.
-use mathlib.Core.Path.{◌≡◌, refl, sym, ap₂, subst, ◌∙◌}
+use mathlib.Core.Path.{◌≡◌, refl, sym, ap, ap₂, subst, ◌∙◌}
 use mathlib.Core.Bool.{Bool, true, false, ◌&&◌}
 use mathlib.Core.List.{List, []}
 use Prim.Native.Nat.{ℕ, ◌≤◌, ◌<◌}
-use native.Mathlib.Omega.{arith}
 use lib.Dec.{ltb}
 use lib.ListN.{length}
 use borrow.Author.Tests.{ltb-true, lt-ltb}
+use Rattle.std.specs.Prelude.{Result, Ok, Err, IfOk}
+use Rattle.std.proofs.lemmas.Result.{IfOk-at_ok}
 use Rattle.math_lists.specs.SortedLists.{Asc, any}
 use Rattle.math_lists.proofs.Booleans.{both, and-on, clash, same_test}
 use Rattle.edit_record.specs.declared.Site.{Site}
@@ -26,11 +27,12 @@ use Rattle.group_step.specs.GroupRows.{most_sets}
 use Rattle.group_true.proofs.ProperSets.{orderly-table}
 use Rattle.group_sight.specs.SightForms.{sets_in}
 use Rattle.table_drawing.specs.declared.Counters.{Counters}
+use Rattle.table_drawing.specs.declared.Refusal.{Refusal}
+use Rattle.table_drawing.specs.declared.Refusal.TheVariants.{Unsound}
 use Rattle.table_drawing.specs.Tables.{tables_of}
-use Rattle.table_drawing.specs.AnswerNumbers.{number_of}
+use Rattle.table_drawing.specs.AnswerNumbers.{answer_of}
 use Rattle.table_sets.specs.KeyForms.{Tells}
 use Rattle.table_sets.proofs.SetsTold.{passed-told}
-use Rattle.table_engine.specs.declared.Prepared.{Prepared}
 use Rattle.table_engine.specs.EngineForms.{MasksTell, sets_of, BoxIn, MaskedWhere, refusal_of, PreparedFor}
 use Rattle.table_engine.proofs.EnumerationOutcomes.{none_left}
 
@@ -95,46 +97,47 @@ module _ (c : Counters) (rs ps : List ℕ) (p k : ℕ) (b : BoxIn c rs ps p k) w
 
 -- ---- what is prepared
 
-module _ (rs : List ℕ) (n : ℕ) (s : Site) (q : Seq) (long : ℕ) (ms : List ℕ) (r : Prepared) where
+module _ (rs : List ℕ) (n : ℕ) (s : Site) (q : Seq) (long : ℕ) (ms : List ℕ) (r : Result ℕ Refusal) where
   abbrev es : List Edit
   es = edits_of rs n
 
   -- the Create is not held
   pub none-prepared :
-      is_held es s q ≡ false → number_of r.answer ≡ refusal_of (records_named rs n) long false 0 →
+      is_held es s q ≡ false → answer_of r ≡ refusal_of (records_named rs n) long false 0 →
       PreparedFor (records_named rs n) es s q long ms r
   unfolding refusal_of
   none-prepared gone told =
-      let never : number_of r.answer ≡ 0 → ⊥
-      = λ z. clash (none_left (records_named rs n) long false 0 (sym told ∙ z)).2 refl in
+      let never : (k : ℕ) → r ≡ Ok k → ⊥
+      = λ k e. clash (none_left (records_named rs n) long false 0 (sym told ∙ ap answer_of e)).2 refl in
       record {
         refused = rw gone told;
-        counted = λ z. absurd (never z);
-        masked = λ z. absurd (never z);
+        counted = λ k e. absurd (never k e);
+        masked = λ k e. absurd (never k e);
       }
 
-  -- it is, and the masks of its Sets are put down
+  -- it is, its box has k Sets, and the masks of them are put down
   pub box-prepared :
-      is_held es s q ≡ true → (p : ℕ) → sets_of rs n p ≡ sets_on s q es → (named : Bool) →
-      MaskedWhere rs n r.sets (sets_of rs n p) ms named → r.sets ≡ length (sets_on s q es) →
-      number_of r.answer ≡ refusal_of named long true r.sets → PreparedFor (records_named rs n) es s q long ms r
-  box-prepared held p there named m many told =
+      is_held es s q ≡ true → (p : ℕ) → sets_of rs n p ≡ sets_on s q es → (named : Bool) (k : ℕ) →
+      MaskedWhere rs n k (sets_of rs n p) ms named → k ≡ length (sets_on s q es) →
+      answer_of r ≡ refusal_of named long true k → IfOk r (λ m. m ≡ k) → PreparedFor (records_named rs n) es s q long ms r
+  box-prepared held p there named k m many told own =
       record {
         refused = rw (held, ← m.decides, ← many) told;
-        counted = λ z. many;
-        masked = λ z.
-            let (on, _, _, few) = none_left named long true r.sets (sym told ∙ z) in
-            subst (λ (xs : List Edit). MasksTell r.sets xs ms) there (m.masked on few);
+        counted = λ j e. IfOk-at_ok (λ m. m ≡ k) e own ∙ many;
+        masked = λ j e.
+            let (on, _, _, few) = none_left named long true k (sym told ∙ ap answer_of e) in
+            rw (IfOk-at_ok (λ m. m ≡ k) e own)
+            (subst (λ (xs : List Edit). MasksTell k xs ms) there (m.masked on few));
       }
 
 -- tables that are not sound, whatever is asked of them
 pub unsound-prepared :
-    (sound : Bool) → sound ≡ false → (es : List Edit) (s : Site) (q : Seq) (long : ℕ) (ms : List ℕ) (r : Prepared) →
-    number_of r.answer ≡ 8 → PreparedFor sound es s q long ms r
+    (sound : Bool) → sound ≡ false → (es : List Edit) (s : Site) (q : Seq) (long : ℕ) (ms : List ℕ) →
+    PreparedFor sound es s q long ms (Err Unsound)
 unfolding refusal_of
-unsound-prepared sound off es s q long ms r eight =
+unsound-prepared sound off es s q long ms =
     record {
-      refused = rw off eight;
-      counted = λ z. absurd (omega (arith, eight, z));
-      masked = λ z. absurd (omega (arith, eight, z));
+      refused = rw off;
+      counted = λ k e. cc;
+      masked = λ k e. cc;
     }

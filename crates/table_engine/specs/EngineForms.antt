@@ -1,5 +1,5 @@
 -- Forms that the code uses. No one need believe them: laws in proofs/ tie them to `Enumeration`. Assumes nothing.
-use Rattle.std.specs.Prelude.{◌≡◌, Bool, true, not, cond, List, ◌++◌, ℕ, ◌-◌, ◌≤◌, ◌<◌, eqb, ltb, length, get_or, replicate}
+use Rattle.std.specs.Prelude.{◌≡◌, Bool, true, not, cond, List, ◌++◌, ℕ, ◌-◌, ◌≤◌, ◌<◌, eqb, ltb, length, get_or, replicate, Result, Ok}
 use Rattle.math_lists.specs.NumbersBelow.{mask}
 use Rattle.edit_record.specs.declared.Site.{Site}
 use Rattle.edit_record.specs.declared.Seq.{Seq}
@@ -12,9 +12,9 @@ use Rattle.edit_walk.specs.WalkForms.{Indexed}
 use Rattle.edit_object.specs.CreateHeld.{is_held}
 use Rattle.group_step.specs.GroupRows.{most_groups}
 use Rattle.table_drawing.specs.declared.Counters.{Counters}
-use Rattle.table_drawing.specs.AnswerNumbers.{number_of}
+use Rattle.table_drawing.specs.declared.Refusal.{Refusal}
+use Rattle.table_drawing.specs.AnswerNumbers.{answer_of}
 use Rattle.table_index.specs.IndexForms.{Holds}
-use Rattle.table_engine.specs.declared.Prepared.{Prepared}
 use Rattle.table_engine.specs.Enumeration.{most_decided, Enumeration, enumeration}
 
 -- ---- which of the Sets of a box conflict
@@ -57,12 +57,12 @@ refusal_of sound long held k =
     (cond (not held) 5
     (cond (ltb most_decided k) 18 0)))
 
--- of the box whose Create is s.q, where the edits es are held
-pub record PreparedFor (sound : Bool) (es : List Edit) (s : Site) (q : Seq) (long : ℕ) (ms : List ℕ) (r : Prepared) :
-    Type 0 where
-  pub refused : number_of r.answer ≡ refusal_of sound long (is_held es s q) (length (sets_on s q es))
-  pub counted : number_of r.answer ≡ 0 → r.sets ≡ length (sets_on s q es)
-  pub masked : number_of r.answer ≡ 0 → MasksTell r.sets (sets_on s q es) ms
+-- of the box whose Create is s.q, where the edits es are held: how many Sets it has, or why it is refused
+pub record PreparedFor (sound : Bool) (es : List Edit) (s : Site) (q : Seq) (long : ℕ) (ms : List ℕ)
+    (r : Result ℕ Refusal) : Type 0 where
+  pub refused : answer_of r ≡ refusal_of sound long (is_held es s q) (length (sets_on s q es))
+  pub counted : (k : ℕ) → r ≡ Ok k → k ≡ length (sets_on s q es)
+  pub masked : (k : ℕ) → r ≡ Ok k → MasksTell k (sets_on s q es) ms
 
 -- the groups gs are given, or are too many
 unfoldable pub found_as : List ℕ → List ℕ → Enumeration

@@ -18,7 +18,6 @@ use Rattle.edit_record.specs.Answer1.{is_create, is_limited}
 use Rattle.edit_causal.proofs.Identities.{same-site, same-seq}
 use Rattle.edit_causal.specs.ConflictForms.{plain_marks}
 use Rattle.edit_history.specs.EditsHeld.{record_at, edits_of, creates, sets_on, is_target, index_of, object_of}
-use Rattle.edit_history.specs.Answers2to5.{is_torn}
 use Rattle.edit_history.specs.SurveyForms.{survey_of}
 use Rattle.edit_walk.specs.WalkForms.{place_of, Indexed, target_held, in_turn_against}
 use Rattle.edit_history.proofs.EditsHeld.{target-parts, any-edit-on, any-edit-at, chosen_more, object-snoc}
@@ -134,16 +133,16 @@ module _ (c : Counters) (rs : List ℕ) (h : Holds c rs) where
 
     -- a survey of an edit whose target stands where the index says
     pub survey-found :
-        (e : Edit) → any (is_target e) es ≡ true → (torn limited : Bool) (o k plain : ℕ) → torn ≡ is_torn es e →
+        (e : Edit) → any (is_target e) es ≡ true → (limited : Bool) (o k plain : ℕ) →
         o ≡ number_at rs (place_of ps e.tsite.0 e.tseq.0) → k ≡ length (sets_on e.tsite e.tseq es) →
         plain ≡ plain_marks e (sets_on e.tsite e.tseq es) →
         limited ≡ any is_limited (sets_on e.tsite e.tseq es) →
-        record { torn = torn; found = true; object = o; sets = k; plain = plain; limited = limited }
+        record { object = o; sets = k; plain = plain; limited = limited }
         ≡ survey_of es e
     unfolding survey_of
-    survey-found e held torn limited o k plain y z w v u =
+    survey-found e held limited o k plain z w v u =
         let (l, t) = target-placed e held in
-        rw (y, z, w, v, u, held, object-is e (place_of ps e.tsite.0 e.tseq.0) l t)
+        rw (z, w, v, u, object-is e (place_of ps e.tsite.0 e.tseq.0) l t)
 
 -- ---- by the whole index
 

@@ -47,7 +47,8 @@ pub fn link_set(p: usize, o: usize, kind: u8, key: u8, chains: &mut [u8])
     chains[LIMITS + o] = limit_after(kind, chains[LIMITS + o]);
 }
 
-// The marks with bit k, if b holds; no mark has it yet.
+// The marks with bit k, if b holds; no mark has it yet. They may have higher ones, as a chain goes back from the latest
+// Set: `marked_if` of edit_history, for marks from the lowest on, wants that they have none.
 fn marked_with(b: bool, marks: u64, k: usize) -> u64
     requires { (marks + cond b (2 ^ k) 0 < 2 ^ 64) × (b ≡ true → k < 64) }
     ensures { result ≡ marks + cond b (2 ^ k) 0 }
@@ -101,6 +102,7 @@ pub fn marks_along(
     let o = edit_record::byte_at(numbers, q) as usize;
     let mut marks: u64 = 0;
     let mut p = edit_record::byte_at(chains, o * KEYS as usize + key as usize) as usize;
+    // goes from place to place along the chain, and counts nothing
     while 0 < p {
         let b = is_unseen_at(recs, p, rec, x);
         let k = edit_record::byte_at(numbers, p) as usize;

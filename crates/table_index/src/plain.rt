@@ -1,6 +1,6 @@
 // What a record is asked, by the index, before it is taken: all of it in one look, where it is to be taken, and else no
 // more than that.
-ghost use Rattle.std.specs.Prelude.{◌≡◌, true, false, ◌*◌, ◌≤◌, length, get_or};
+ghost use Rattle.std.specs.Prelude.{◌≡◌, true, false, IfSome, ◌*◌, ◌≤◌, length, get_or};
 ghost use Rattle.math_lists.specs.SortedLists.{any};
 ghost use Rattle.edit_record.specs.Layout.{most_sites, record_length, place_length};
 ghost use Rattle.edit_record.specs.RecordBytes.{decode_of};
@@ -11,18 +11,17 @@ ghost use Rattle.table_drawing.specs.declared.Counters.{Counters};
 ghost use Rattle.table_index.specs.IndexForms.{IndexOf, Holds, counters_of, MetOf, PassedOf};
 ghost use Rattle.table_index.specs.IndexForms.{number_at, ChainsOf, Arriving, marks_on};
 
-use super::{Looked, chain};
+use super::{Index, Looked, chain};
 use edit_next::whole;
 use edit_record::{AT_KIND, AT_TARGET, AT_TARGET_SEQ, CREATE, Seq, Site, byte_at};
 use group_step::{OBJECTS, SETS};
 use table_drawing::entries::at16;
 
 // What is found of a record that is no Set.
-fn no_set(ok: bool) -> Looked
-    ensures { (result.ok ≡ ok) × (result.limited ≡ false) }
+fn no_set() -> Looked
+    ensures { result.limited ≡ false }
 {
     Looked {
-        ok,
         limited: false,
         object: 0,
         sets: 0,
@@ -57,72 +56,64 @@ fn marks_unless(
     chain::marks_along(recs, n, numbers, chains, q, rec)
 }
 
-// What is found of a Set that passes 1 to 5, where it is known of some that they have seen all of
-// the first n records.
-fn look_at_set(
-    all: bool,
-    recs: &[u8],
-    n: usize,
-    places: &[u16],
-    numbers: &[u8],
-    counts: &[u16],
-    chains: &[u8],
-    rec: &[u8],
-) -> Looked
+// What is found of a Set that passes 1 to 5, where it is known of some that they have seen all of the first n records;
+// none where its object has as many Sets as it may.
+fn look_at_set(ix: &Index, all: bool, recs: &[u8], n: usize, rec: &[u8]) -> Option<Looked>
     requires { ((c : Counters) × Holds c recs.now × (c.records ≡ n)
         × (in_turn_against c.sites c.held (decode_of rec.now) ≡ true)
         × (all ≡ true → sees_all c.held (decode_of rec.now) ≡ true))
         × (most_records * place_length ≤ length recs.now)
-        × IndexOf recs.now n places.now numbers.now counts.now chains.now
+        × IndexOf recs.now n ix.now.places ix.now.numbers ix.now.counts ix.now.chains
         × (record_length ≤ length rec.now)
         × (is_set (decode_of rec.now) ≡ true)
         × (any (is_target (decode_of rec.now)) (edits_of recs.now n) ≡ true) }
-    ensures { result.ok ≡ true → MetOf recs.now n places.now numbers.now
-        counts.now (decode_of rec.now) result }
+    ensures { IfSome result (MetOf recs.now n ix.now.places ix.now.numbers ix.now.counts (decode_of rec.now)) }
 {
     let seq = edit_record::pair_at(rec, AT_TARGET_SEQ);
-    let q = edit_walk::place_at(places, Site(rec[AT_TARGET]), Seq(seq)) as usize;
-    let object = byte_at(numbers, q) as usize;
-    let sets = at16(counts, object) as usize;
-    let limits = byte_at(chains, chain::LIMITS + object);
-    let conflicts = marks_unless(all, recs, n, numbers, chains, q, rec);
-    Looked {
-        ok: sets < SETS,
+    let q = edit_walk::place_at(&ix.places, Site(rec[AT_TARGET]), Seq(seq)) as usize;
+    let object = byte_at(&ix.numbers, q) as usize;
+    let sets = at16(&ix.counts, object) as usize;
+    if SETS <= sets {
+        return None;
+    }
+    let limits = byte_at(&ix.chains, chain::LIMITS + object);
+    let conflicts = marks_unless(all, recs, n, &ix.numbers, &ix.chains, q, rec);
+    Some(Looked {
         limited: limits != 0,
         object,
         sets,
         conflicts,
-    }
+    })
 }
 
-// What is found of a record that is there whole, after the first n, of which m are Creates.
+// What is found of a record that is there whole, after the first n, of which m are Creates; none where one of 1 to 6 is
+// given to it.
 pub fn look(
+    ix: &Index,
     sites: u8,
     held: &[u16],
     recs: &[u8],
     n: usize,
     m: u16,
-    places: &[u16],
-    numbers: &[u8],
-    counts: &[u16],
-    chains: &[u8],
     rec: &[u8],
-) -> Looked
+) -> Option<Looked>
     requires { Holds (counters_of sites n m held.now 0) recs.now
         × (most_records * place_length ≤ length recs.now)
-        × IndexOf recs.now n places.now numbers.now counts.now chains.now
+        × IndexOf recs.now n ix.now.places ix.now.numbers ix.now.counts ix.now.chains
         × (record_length ≤ length rec.now)
         × (length held.now ≡ most_sites) }
-    ensures { result.ok ≡ true → PassedOf sites n m recs.now places.now numbers.now
-        counts.now (decode_of rec.now) result }
+    ensures { IfSome result (PassedOf sites n m recs.now ix.now.places ix.now.numbers ix.now.counts (decode_of rec.now)) }
 {
     let kind = rec[AT_KIND];
     let all = whole::is_all_seen(held, recs, n, rec);
-    if !whole::is_passing_with(all, sites, held, recs, places, n, rec) {
-        return no_set(false);
+    if !whole::is_passing_with(all, sites, held, recs, &ix.places, n, rec) {
+        return None;
     }
     if edit_record::is_set_kind(kind) {
-        return look_at_set(all, recs, n, places, numbers, counts, chains, rec);
+        return look_at_set(ix, all, recs, n, rec);
     }
-    no_set((kind != CREATE) | ((m as usize) < OBJECTS))
+    if (kind != CREATE) | ((m as usize) < OBJECTS) {
+        return Some(no_set());
+    }
+    None
 }

@@ -1,9 +1,9 @@
 -- What is kept of a box stays right where one edit more is held, and it is right of the edit's own box where that is
 -- put down. Assumes nothing.
-use mathlib.Core.Path.{◌≡◌, refl, sym, ap, subst, ◌∙◌}
-use mathlib.Core.Bool.{Bool, true, false, ◌&&◌, ◌||◌, cond}
+use mathlib.Core.Path.{◌≡◌, sym, ap, subst, ◌∙◌}
+use mathlib.Core.Bool.{Bool, true, false, ◌&&◌, cond}
 use mathlib.Core.List.{List, [], ◌∷◌, ◌++◌}
-use Prim.Native.Nat.{ℕ, suc, ◌+◌, ◌≤◌, ◌<◌}
+use Prim.Native.Nat.{ℕ, ◌+◌, ◌≤◌, ◌<◌}
 use native.Mathlib.Omega.{arith}
 use lib.Dec.{eqb, ltb}
 use lib.ListN.{length, get_or, set, take, drop, length-set, length-append}
@@ -17,8 +17,8 @@ use Rattle.edit_record.specs.declared.Edit.{Edit}
 use Rattle.edit_record.specs.Answer1.{is_set}
 use Rattle.edit_causal.specs.ConflictForms.{plain_marks}
 use Rattle.edit_causal.proofs.Identities.{same_parts}
-use Rattle.edit_history.specs.declared.Surveyed.{Surveyed}
-use Rattle.edit_history.specs.SurveyForms.{survey_of, SurveyedOf}
+use Rattle.edit_history.specs.declared.Held.{Held}
+use Rattle.edit_history.specs.SurveyForms.{survey_of}
 use Rattle.edit_history.specs.EditsHeld.{is_set_on, sets_on}
 use Rattle.group_step.specs.GroupRows.{most_sets}
 use Rattle.group_limited.proofs.RowsInPlaces.{no_rows, none-sees}
@@ -84,11 +84,10 @@ kept-all es ns rows h s q k all t =
 
 -- what a survey says of the Sets of a box that is held
 pub surveyed-sets :
-    (es : List Edit) (e : Edit) (v : Surveyed) → SurveyedOf es e v → v.found ≡ true →
-    (v.sets ≡ length (sets_on e.tsite e.tseq es)) × (v.plain ≡ plain_marks e (sets_on e.tsite e.tseq es))
+    (es : List Edit) (e : Edit) (h : Held) → h ≡ survey_of es e →
+    (h.sets ≡ length (sets_on e.tsite e.tseq es)) × (h.plain ≡ plain_marks e (sets_on e.tsite e.tseq es))
 unfolding survey_of
-surveyed-sets es e v sv found =
-    (ap (λ (x : Surveyed). x.sets) (sv.whole found), ap (λ (x : Surveyed). x.plain) (sv.whole found))
+surveyed-sets es e h is = (ap (λ (x : Held). x.sets) is, ap (λ (x : Held). x.plain) is)
 
 -- ---- the entries behind the names
 

@@ -26,6 +26,7 @@ fn put_chain(
 {
     let o = byte_at(numbers, q) as usize;
     let mut p = byte_at(chains, o * KEYS as usize + key) as usize;
+    // goes from place to place along the chain, and counts nothing
     while 0 < p {
         let k = byte_at(numbers, p) as usize;
         out[k] = p as u16;
@@ -38,9 +39,7 @@ pub fn put_chains(out: &mut [u16], recs: &[u8], n: usize, numbers: &[u8], chains
     requires { ChainsOn recs.now n numbers.now chains.now q × (most_sets ≤ length out.old) }
     ensures { take (length (places_on recs.now n q)) out.new ≡ places_on recs.now n q }
 {
-    let mut y: usize = 0;
-    while y < KEYS as usize {
-        put_chain(out, recs, n, numbers, chains, q, y);
-        y += 1;
+    for key in 0..KEYS as usize {
+        put_chain(out, recs, n, numbers, chains, q, key);
     }
 }

@@ -1,20 +1,23 @@
 -- A Set that is judged by what is kept of its box: what the look found of it is its survey, and where it names a
 -- version none of 1 to 6 is given to it. Assumes nothing.
 use mathlib.Core.Path.{◌≡◌, refl, sym, ◌∙◌}
-use mathlib.Core.Bool.{Bool, true, false, ◌&&◌, ◌||◌, cond}
+use mathlib.Core.Bool.{Bool, true, false, ◌&&◌, ◌||◌}
 use mathlib.Core.List.{List, [], ◌∷◌, ◌++◌}
 use mathlib.Core.Logic.{inl, inr}
 use Prim.Native.Nat.{ℕ}
 use lib.Dec.{eqb, leb}
 use lib.ListN.{length}
-use borrow.Author.Tests.{eq-eqb, eqb-true, lt-leb, not-true}
+use borrow.Author.Tests.{eq-eqb, lt-leb, not-true}
+use Rattle.std.specs.Prelude.{Option, Some, None, MatchOption}
+use Rattle.std.proofs.lemmas.Option.{same_Some}
 use Rattle.math_lists.specs.SortedLists.{any}
-use Rattle.math_lists.proofs.Booleans.{clash, decide, either, neither, or_right, off-where}
+use Rattle.math_lists.proofs.Booleans.{clash, either, neither, or_right, off-where}
 use Rattle.edit_record.specs.declared.Edit.{Edit}
 use Rattle.edit_record.specs.Layout.{set_kind}
 use Rattle.edit_record.specs.RecordBytes.{decode_of, span_of}
 use Rattle.edit_record.specs.Answer1.{is_create, is_set, is_limited, malformed, unfit}
 use Rattle.edit_record.proofs.WellFormed.{set-not-create}
+use Rattle.edit_history.specs.declared.Held.{Held}
 use Rattle.edit_history.specs.declared.Surveyed.{Surveyed}
 use Rattle.edit_history.specs.SurveyForms.{survey_of, SurveyedOf}
 use Rattle.edit_history.specs.EditsHeld.{most_records, edits_of, sets_on, is_target}
@@ -28,13 +31,13 @@ use Rattle.table_index.specs.IndexForms.{counters_of, MetOf, PassedOf}
 use Rattle.table_index.specs.declared.Looked.{Looked}
 use Rattle.table_index.proofs.LookByIndex.{target-of}
 use Rattle.table_arrival.specs.Answers6and7.{is_full, first_of, in_turn}
-use Rattle.table_arrival.specs.ArrivalForms.{three_by, first_to_six}
+use Rattle.table_arrival.specs.ArrivalForms.{first_to_six}
 use Rattle.table_arrival.proofs.CodeInHand.{holds}
 use Rattle.table_arrival.proofs.ProperWith.{judges}
-use Rattle.table_arrival.proofs.SixByCounters.{three-are}
 use Rattle.table_kept.specs.BoxForms.{KeptFor}
 use Rattle.table_kept.specs.ChainForms.{IndexedIn}
 use Rattle.table_kept.proofs.KeptAlong.{kept_more}
+use Rattle.table_plain.specs.declared.Took.{Took}
 use Rattle.table_plain.specs.TakingForms.{TakesShort, JudgedBy}
 
 none-of-seven :
@@ -67,16 +70,11 @@ module _
 
   -- ---- what was found is its survey
 
+  abbrev asked : Held
+  asked = record { object = r.object; sets = r.sets; plain = r.conflicts; limited = r.limited }
+
   abbrev pub survey : Surveyed
-  survey =
-      record {
-        torn = false;
-        found = true;
-        object = r.object;
-        sets = r.sets;
-        plain = r.conflicts;
-        limited = r.limited;
-      }
+  survey = record { torn = false; held = Some asked }
 
   target : any (is_target e) es ≡ true
   target = target-of sites es e f.pass k
@@ -98,15 +96,14 @@ module _
       let (fit, repeated) = neither u a ua in
       (fit, repeated, early, torn, astray)
 
-  pub surveyed-so : SurveyedOf es e survey
+  asked-so : asked ≡ survey_of es e
   unfolding survey_of
+  asked-so = rw (met.object, met.sets, met.conflicts, met.limited)
+
+  pub surveyed-so : SurveyedOf es e survey
   surveyed-so =
       let (_, _, _, torn, _) = passed in
-      record {
-        torn = sym torn;
-        found = sym target;
-        whole = λ y. rw (met.object, met.sets, met.conflicts, met.limited, target, torn);
-      }
+      record { torn = sym torn; found = sym target; whole = λ h y. sym (same_Some asked h y) ∙ asked-so }
 
   pub indexed-so : IndexedIn rs n ps ns hs
   indexed-so =
@@ -145,17 +142,9 @@ module _
         let nameless = (judges t s e j true (sym target) of).nameless f.pass in
         none-of-seven (formed fit) repeated early torn astray (sym nameless ∙ named) not_full
 
-    -- none of 1 to 3 by the counters
-    timely : first_of in_turn (three_by t.counters b) ≡ 0
-    timely = elim (decide (eqb (first_of in_turn (three_by t.counters b)) 0)) [
-      | inl y ↦ eqb-true (first_of in_turn (three_by t.counters b)) 0 y
-      | inr y ↦ three-are t s b (λ z. clash (eq-eqb (first_of in_turn (three_by t.counters b)) 0 z) y) ∙ none-of-six
-    ]
-
     pub judged-so :
         JudgedBy t ps ns cs b
         (record {
-          ok = true;
           limited = r.limited;
           object = r.object;
           sets = r.sets;
@@ -163,18 +152,14 @@ module _
         })
     judged-so =
         record {
-          survey = survey;
+          asked = asked;
           judged = j;
           ready =
               record {
-                in_hand =
-                    record {
-                      is_sound = p.takes.is_sound;
-                      timely = timely;
-                      surveyed = surveyed-so;
-                      judged = of;
-                      rows = λ y. p.takes.apart;
-                    };
+                is_sound = p.takes.is_sound;
+                surveyed = asked-so;
+                judged = of;
+                rows = λ y. p.takes.apart;
                 passes = none-of-six;
                 set = k;
               };
@@ -199,7 +184,7 @@ set-where sites n m rs ps ns cs e r f h = elim (either r.limited (is_limited e) 
 
 -- what is kept tells of no record more, whether it was taken or not
 pub kept_either :
-    (ok : Bool) (es : List Edit) (e : Edit) (ns rows : List ℕ) → KeptFor es ns rows →
-    KeptFor (cond ok (es ++ (e ∷ [])) es) ns rows
-kept_either true es e ns rows h = kept_more es e ns rows h
-kept_either false es e ns rows h = h
+    (r : Option Took) (es : List Edit) (e : Edit) (ns rows : List ℕ) → KeptFor es ns rows →
+    MatchOption r (KeptFor es ns rows) (λ k. KeptFor (es ++ (e ∷ [])) ns rows)
+kept_either None es e ns rows h = h
+kept_either (Some k) es e ns rows h = kept_more es e ns rows h

@@ -3,27 +3,20 @@
 #![tactic(auto)]
 
 ghost use Rattle.std.specs.Prelude.{◌≡◌, ◌++◌, ◌+◌, ◌≤◌, leb, length, take, drop};
-ghost use Rattle.table_drawing.specs.AnswerNumbers.{number_of};
+ghost use Rattle.std.specs.Result.{result_unwrap_or};
+ghost use Rattle.table_drawing.specs.AnswerNumbers.{answer_of};
 ghost use Rattle.table_output.specs.Output.{writing, written_at};
 
-use table_drawing::Answer;
+use table_drawing::Refusal;
 
-// An answer to a call that writes, and the number of bytes written.
-#[derive(Clone, Copy)]
-pub struct Written {
-    pub answer: Answer,
-    pub bytes: usize,
-}
-
-// The first n bytes of src at the start of out.
+// The first n bytes of src at the start of out. A loop: where a length is known at run time alone, `copy_from_slice` is a
+// call, which takes more stack than docs/MANUAL.md says.
 pub fn copy_in(out: &mut [u8], src: &[u8], n: usize)
     requires { (n ≤ length out.old) × (n ≤ length src.now) }
     ensures { out.new ≡ take n src.now ++ drop n out.old }
 {
-    let mut i: usize = 0;
-    while i < n {
+    for i in 0..n {
         out[i] = src[i];
-        i += 1;
     }
 }
 
@@ -37,21 +30,14 @@ pub fn has_room(n: usize, start: usize, bytes: usize) -> bool
     bytes <= n - start
 }
 
-// Puts the first n bytes of src into out from the start on, if there is room for them.
-pub fn put_at(out: &mut [u8], start: usize, src: &[u8], n: usize) -> Written
+// Puts the first n bytes of src into out from the start on, if there is room for them, and says how many they are.
+pub fn put_at(out: &mut [u8], start: usize, src: &[u8], n: usize) -> Result<usize, Refusal>
     requires { n ≤ length src.now }
-    ensures { writing (number_of result.answer) result.bytes out.new
-        ≡ written_at out.old start (take n src.now) }
+    ensures { writing (answer_of result) (result_unwrap_or result 0) out.new ≡ written_at out.old start (take n src.now) }
 {
     if !has_room(out.len(), start, n) {
-        return Written {
-            answer: Answer::NoRoom,
-            bytes: 0,
-        };
+        return Err(Refusal::NoRoom);
     }
     copy_in(&mut out[start..], src, n);
-    Written {
-        answer: Answer::Done,
-        bytes: n,
-    }
+    Ok(n)
 }

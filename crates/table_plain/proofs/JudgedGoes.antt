@@ -45,8 +45,8 @@ module _
   abbrev s : Sound t
   s = sound-at t p.takes.is_sound
 
-  given : GivenSet t b x.survey
-  given = set_given t b x.survey x.judged true x.ready
+  given : GivenSet t b x.asked
+  given = set_given t b x.asked x.judged true x.ready
 
   -- ---- what the code asks
 
@@ -62,7 +62,7 @@ module _
         groups = rw o given.groups;
         ascending = rw o given.ascending;
         below = rw (o, k) given.below;
-        apart = rw o (set_apart t b x.survey x.judged true x.ready refl);
+        apart = rw o (set_apart t b x.asked x.judged true x.ready refl);
         rest = rw x.own (row-rest t s e x.held);
         objects-long = s.objects-long;
         groups-long = s.groups-long;
@@ -110,7 +110,7 @@ module _
     taken-so =
         let (o, k) = x.surveyed in
         let little = rw (o, k, x.conflicts) at few in
-        rw (o, k, x.conflicts) (set-stored t b x.survey x.judged true x.ready little)
+        rw (o, k, x.conflicts) (set-stored t b x.asked x.judged true x.ready little)
 
     pub judged-enters : Enters held n ps b
     judged-enters = enter-asks sites n m sum held rs os gs ps ns cs hs b p after taken-so

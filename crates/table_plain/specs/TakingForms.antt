@@ -1,6 +1,6 @@
 -- Forms that the code uses: what a record is taken by, and what that leaves. No one need believe them: laws in proofs/
 -- tie them to `Replay`. Assumes nothing.
-use Rattle.std.specs.Prelude.{ℕ, ◌+◌, ◌-◌, ◌^◌, ◌≤◌, ◌<◌, ◌≡◌, Bool, true, false, List, [], ◌∷◌, ◌++◌, eqb, length, get_or, set, take, drop, replicate}
+use Rattle.std.specs.Prelude.{ℕ, ◌+◌, ◌-◌, ◌^◌, ◌≤◌, ◌<◌, ◌≡◌, Option, MatchOption, Bool, true, false, List, [], ◌∷◌, ◌++◌, eqb, length, get_or, set, take, drop, replicate}
 use Rattle.math_lists.specs.SortedLists.{any, elem, Ascending}
 use Rattle.math_maximal.specs.Step.{step}
 use Rattle.edit_record.specs.declared.Edit.{Edit}
@@ -8,18 +8,19 @@ use Rattle.edit_record.specs.Layout.{most_sites, keys, set_kind}
 use Rattle.edit_record.specs.Answer1.{is_create}
 use Rattle.edit_record.specs.RecordBytes.{decode_of, span_of}
 use Rattle.edit_history.specs.EditsHeld.{most_records, count_from, is_target, object_of}
-use Rattle.edit_history.specs.declared.Surveyed.{Surveyed}
+use Rattle.edit_history.specs.declared.Held.{Held}
 use Rattle.edit_walk.specs.WalkForms.{Spaced, SameStarts, slot_of, place_of}
 use Rattle.group_step.specs.GroupRows.{most_objects, most_sets, most_groups, row, put_row, settled}
 use Rattle.group_step.specs.StepForms.{Apart}
 use Rattle.group_limited.specs.declared.Judged.{Judged}
-use Rattle.table_drawing.specs.Tables.{Tables, held_by, groups_at, objects_length, groups_length}
+use Rattle.table_drawing.specs.Tables.{Tables, tables_of, held_by, groups_at, objects_length, groups_length}
 use Rattle.table_drawing.specs.AnswerNumbers.{outcome_of}
 use Rattle.table_soundness.specs.Sound.{sound}
-use Rattle.table_index.specs.IndexForms.{IndexOf, chains_length, linked_in}
+use Rattle.table_index.specs.IndexForms.{IndexOf, counters_of, chains_length, linked_in}
 use Rattle.table_index.specs.declared.Looked.{Looked}
 use Rattle.table_arrival.specs.Arrival.{put_counts, put_entry, acceptance_of}
 use Rattle.table_arrival.specs.ArrivalForms.{RowsApart, Ready}
+use Rattle.table_plain.specs.declared.Took.{Took}
 
 -- what taking the record b asks of the tables t and of the index of their records, which has room for it
 pub record Takes (t : Tables) (ps ns cs hs b : List ℕ) : Type 0 where
@@ -49,6 +50,17 @@ pub record LeavesShort (t : Tables) (b : List ℕ) (ok : Bool) (u : Tables) (ps 
   pub taken : ok ≡ true → Leaves t b 0 u ps ps' ns' cs' hs'
   pub tables : ok ≡ false → u ≡ t
   pub index : ok ≡ false → (ps' ≡ ps) × (ns' ≡ ns) × (cs' ≡ cs) × (hs' ≡ hs)
+
+-- the same of what is said of a record: where there are n records, m objects and this sum, that none is taken, or how
+-- many objects there are then and the sum
+abbrev pub TookShort :
+    ℕ → ℕ → ℕ → ℕ → Tables → List ℕ → Option Took → List ℕ → List ℕ → List ℕ → List ℕ → List ℕ → List ℕ → List ℕ →
+    List ℕ → List ℕ → List ℕ → List ℕ → List ℕ → Type 0
+TookShort sites n m sum t b r held rs os gs ps ns cs hs ps' ns' cs' hs' =
+    MatchOption r
+    (LeavesShort t b false (tables_of (counters_of sites n m held sum) rs os gs) ps ns cs hs ps' ns' cs' hs')
+    (λ k. LeavesShort t b true (tables_of (counters_of sites (n + 1) k.objects held k.sum) rs os gs) ps ns cs hs
+    ps' ns' cs' hs')
 
 -- the place of the record b in the index ps
 abbrev pub spot_of : List ℕ → List ℕ → ℕ
@@ -127,10 +139,10 @@ pub record StoredBeside (n m : ℕ) (e : Edit) (r : Looked) (ok : Bool) (os gs n
 
 -- what was found of the Set b and judged of it, in r: the number of its object is the index's too
 pub record JudgedBy (t : Tables) (ps ns cs b : List ℕ) (r : Looked) : Type 0 where
-  pub survey : Surveyed
+  pub asked : Held
   pub judged : Judged
-  pub ready : Ready t b survey judged true
-  pub surveyed : (r.object ≡ survey.object) × (r.sets ≡ survey.sets)
+  pub ready : Ready t b asked judged true
+  pub surveyed : (r.object ≡ asked.object) × (r.sets ≡ asked.sets)
   pub conflicts : r.conflicts ≡ judged.conflicts
   pub held : any (is_target (decode_of b)) (held_by t) ≡ true
   pub own : r.object ≡ object_of (decode_of b) (held_by t)

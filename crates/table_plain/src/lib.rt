@@ -16,18 +16,17 @@ ghost use Rattle.group_step.specs.StepForms.{Apart};
 ghost use Rattle.table_drawing.specs.Tables.{tables_of, objects_length};
 ghost use Rattle.table_index.specs.IndexForms.{counters_of, FitOf};
 ghost use Rattle.table_arrival.specs.Arrival.{put_entry};
-ghost use Rattle.table_plain.specs.TakingForms.{TakesShort, LeavesShort, spot_of, Enters, Steps, SetStored};
+ghost use Rattle.table_plain.specs.TakingForms.{TakesShort, TookShort, spot_of, Enters, Steps, SetStored};
 ghost use Rattle.table_plain.specs.TakingForms.{StoresBeside, StoredBeside, JudgedBy};
 
 use edit_record::{AT_KEY, AT_KIND, AT_SEQ, AT_SITE, CREATE, RECORD, SET, Seq, Site};
 use group_step::GROUPS;
 use table_drawing::ENTRY;
-use table_index::Looked;
+use table_index::{Index, Looked};
 
-// Whether a record was taken, how many objects there are then, and the sum.
+// How many objects there are after a record that was taken, and the sum.
 #[derive(Clone, Copy)]
 pub struct Took {
-    pub ok: bool,
     pub objects: u16,
     pub sum: u32,
 }
@@ -42,7 +41,7 @@ pub fn enter(held: &mut [u16], n: usize, places: &mut [u16], rec: &[u8])
     let s = rec[AT_SITE];
     let q = edit_record::pair_at(rec, AT_SEQ);
     let own = s as usize;
-    held[own] = held[own] + 1;
+    held[own] += 1;
     let at = edit_walk::slot_of(places, Site(s), Seq(q));
     places[at] = n as u16;
 }
@@ -53,11 +52,7 @@ fn whole_of(rec: &[u8]) -> [u8; RECORD]
     ensures { result ≡ rec.now }
 {
     let mut whole = [0u8; RECORD];
-    let mut i: usize = 0;
-    while i < RECORD {
-        whole[i] = rec[i];
-        i += 1;
-    }
+    whole.copy_from_slice(rec);
     whole
 }
 
@@ -99,21 +94,20 @@ fn step_in(groups: &mut [u64], o: usize, n: usize, m: u64, k: usize) -> usize
 // Puts a Set in place n of which a was found into its object's groups, entry and chain; says whether there is room for
 // the groups. Where there is none, nothing is changed.
 pub fn store_set(
+    ix: &mut Index,
     n: usize,
     objects: &mut [u16],
     groups: &mut [u64],
-    numbers: &mut [u8],
-    counts: &mut [u16],
-    chains: &mut [u8],
     kind: u8,
     key: u8,
     a: Looked,
 ) -> bool
     requires { (n < most_records)
-        × Steps objects.old groups.old numbers.old counts.old chains.old key a }
+        × Steps objects.old groups.old ix.old.numbers ix.old.counts ix.old.chains key a }
     ensures { SetStored n kind key a result
-        objects.old groups.old numbers.old counts.old chains.old
-        objects.new groups.new numbers.new counts.new chains.new }
+        objects.old groups.old ix.old.numbers ix.old.counts ix.old.chains
+        objects.new groups.new ix.new.numbers ix.new.counts ix.new.chains
+        × (ix.new.places ≡ ix.old.places) }
 {
     let o = a.object;
     let k = a.sets;
@@ -123,7 +117,7 @@ pub fn store_set(
         return false;
     }
     table_arrival::put_counts(objects, o, k as u16 + 1, w as u16);
-    table_index::add_set(n, o, kind, key, numbers, counts, chains);
+    table_index::add_set(ix, n, o, kind, key);
     true
 }
 
@@ -131,64 +125,49 @@ pub fn store_set(
 // chain, of a Create the entry and the number of object m. Says whether there is room for the groups; where there is
 // none, nothing is changed.
 fn store(
+    ix: &mut Index,
     n: usize,
     m: u16,
     objects: &mut [u16],
     groups: &mut [u64],
-    numbers: &mut [u8],
-    counts: &mut [u16],
-    chains: &mut [u8],
     rec: &[u8],
     a: Looked,
 ) -> bool
     requires { (n < most_records)
         × (record_length ≤ length rec.now)
-        × StoresBeside m objects.old groups.old numbers.old counts.old chains.old (decode_of rec.now) a }
+        × StoresBeside m objects.old groups.old ix.old.numbers ix.old.counts ix.old.chains (decode_of rec.now) a }
     ensures { StoredBeside n m (decode_of rec.now) a result
-        objects.old groups.old numbers.old counts.old chains.old
-        objects.new groups.new numbers.new counts.new chains.new }
+        objects.old groups.old ix.old.numbers ix.old.counts ix.old.chains
+        objects.new groups.new ix.new.numbers ix.new.counts ix.new.chains
+        × (ix.new.places ≡ ix.old.places) }
 {
     let kind = rec[AT_KIND];
     if kind == SET {
         let key = rec[AT_KEY];
-        return store_set(n, objects, groups, numbers, counts, chains, SET, key, a);
+        return store_set(ix, n, objects, groups, SET, key, a);
     }
     if kind == CREATE {
-        put_create(n, m, objects, numbers);
+        put_create(n, m, objects, &mut ix.numbers);
     }
     true
 }
 
-// What is said of a record that is not taken: there are as many objects as before, and the sum is as it was.
-pub fn not_taken(m: u16, sum: u32) -> Took
-    ensures { (result.ok ≡ false) × (result.objects ≡ m) × (result.sum ≡ sum) }
-{
-    Took {
-        ok: false,
-        objects: m,
-        sum,
-    }
-}
-
-// And of one that is.
+// What is said of a record that is taken, where there were m objects and this sum.
 fn taken(m: u16, sum: u32, rec: &[u8]) -> Took
     requires { (length rec.now ≡ record_length)
         × (span_of rec.now ≡ record_length)
         × (is_create (decode_of rec.now) ≡ true → m < most_objects) }
-    ensures { (result.ok ≡ true)
-        × (result.objects ≡ m + cond (is_create (decode_of rec.now)) 1 0)
+    ensures { (result.objects ≡ m + cond (is_create (decode_of rec.now)) 1 0)
         × (result.sum ≡ wrapped (sum + sum_of (record_words rec.now) rec.now)) }
 {
     let after = edit_sum::added(sum, edit_sum::sum_record(rec));
     if rec[AT_KIND] == CREATE {
         return Took {
-            ok: true,
             objects: m + 1,
             sum: after,
         };
     }
     Took {
-        ok: true,
         objects: m,
         sum: after,
     }
@@ -198,6 +177,7 @@ fn taken(m: u16, sum: u32, rec: &[u8]) -> Took
 // for the groups of its object: then nothing is changed. There are n records, m objects and so many edits of each site,
 // and this sum; the index has room for the record. It is read where it stands, and stored from a copy.
 pub fn take_plain(
+    ix: &mut Index,
     sites: u8,
     n: usize,
     m: u16,
@@ -206,38 +186,32 @@ pub fn take_plain(
     records: &mut [u8],
     objects: &mut [u16],
     groups: &mut [u64],
-    places: &mut [u16],
-    numbers: &mut [u8],
-    counts: &mut [u16],
-    chains: &mut [u8],
     rec: &[u8],
     a: Looked,
-) -> Took
+) -> Option<Took>
     requires { TakesShort
         (tables_of (counters_of sites n m held.old sum) records.old objects.old groups.old)
-        places.old numbers.old counts.old chains.old rec.now
-        × FitOf sites n m records.old places.old numbers.old counts.old (decode_of rec.now) a }
-    ensures { LeavesShort
-        (tables_of (counters_of sites n m held.old sum) records.old objects.old
-        groups.old)
-        rec.now result.ok
-        (tables_of (counters_of sites (n + cond result.ok 1 0) result.objects held.new result.sum)
-        records.new objects.new groups.new)
-        places.old numbers.old counts.old chains.old
-        places.new numbers.new counts.new chains.new }
+        ix.old.places ix.old.numbers ix.old.counts ix.old.chains rec.now
+        × FitOf sites n m records.old ix.old.places ix.old.numbers ix.old.counts (decode_of rec.now) a }
+    ensures { TookShort sites n m sum
+        (tables_of (counters_of sites n m held.old sum) records.old objects.old groups.old)
+        rec.now result held.new records.new objects.new groups.new
+        ix.old.places ix.old.numbers ix.old.counts ix.old.chains
+        ix.new.places ix.new.numbers ix.new.counts ix.new.chains }
 {
-    if !store(n, m, objects, groups, numbers, counts, chains, rec, a) {
-        return not_taken(m, sum);
+    if !store(ix, n, m, objects, groups, rec, a) {
+        return None;
     }
-    enter(held, n, places, rec);
+    enter(held, n, &mut ix.places, rec);
     let whole = whole_of(rec);
     table_arrival::put_plain(records, n, whole);
-    taken(m, sum, rec)
+    Some(taken(m, sum, rec))
 }
 
 // Takes a Set of which a was found, with those of its object's Sets that were judged to conflict with it, unless there
 // is no room for the groups of its object: then nothing is changed.
 pub fn take_judged(
+    ix: &mut Index,
     sites: u8,
     n: usize,
     m: u16,
@@ -246,37 +220,30 @@ pub fn take_judged(
     records: &mut [u8],
     objects: &mut [u16],
     groups: &mut [u64],
-    places: &mut [u16],
-    numbers: &mut [u8],
-    counts: &mut [u16],
-    chains: &mut [u8],
     rec: &[u8],
     a: Looked,
-) -> Took
+) -> Option<Took>
     requires { TakesShort
         (tables_of (counters_of sites n m held.old sum) records.old objects.old groups.old)
-        places.old numbers.old counts.old chains.old rec.now
+        ix.old.places ix.old.numbers ix.old.counts ix.old.chains rec.now
         × JudgedBy (tables_of (counters_of sites n m held.old sum) records.old objects.old groups.old)
-        places.old numbers.old counts.old rec.now a }
-    ensures { LeavesShort
-        (tables_of (counters_of sites n m held.old sum) records.old objects.old
-        groups.old)
-        rec.now result.ok
-        (tables_of (counters_of sites (n + cond result.ok 1 0) result.objects held.new result.sum)
-        records.new objects.new groups.new)
-        places.old numbers.old counts.old chains.old
-        places.new numbers.new counts.new chains.new }
+        ix.old.places ix.old.numbers ix.old.counts rec.now a }
+    ensures { TookShort sites n m sum
+        (tables_of (counters_of sites n m held.old sum) records.old objects.old groups.old)
+        rec.now result held.new records.new objects.new groups.new
+        ix.old.places ix.old.numbers ix.old.counts ix.old.chains
+        ix.new.places ix.new.numbers ix.new.counts ix.new.chains }
 {
     let kind = rec[AT_KIND];
     let key = rec[AT_KEY];
-    if !store_set(n, objects, groups, numbers, counts, chains, kind, key, a) {
-        return not_taken(m, sum);
+    if !store_set(ix, n, objects, groups, kind, key, a) {
+        return None;
     }
-    enter(held, n, places, rec);
+    enter(held, n, &mut ix.places, rec);
     table_arrival::put_record(records, n, rec);
-    Took {
-        ok: true,
+    let after = edit_sum::added(sum, edit_sum::sum_record(rec));
+    Some(Took {
         objects: m,
-        sum: edit_sum::added(sum, edit_sum::sum_record(rec)),
-    }
+        sum: after,
+    })
 }

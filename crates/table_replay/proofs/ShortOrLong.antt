@@ -1,10 +1,9 @@
 -- A record that went the short way, or that this left to the long way: either way it is taken or refused at the tables
 -- where the replay stood. Assumes nothing.
-use mathlib.Core.Path.{◌≡◌, sym, ap, ap₂, subst, ◌∙◌}
-use mathlib.Core.Bool.{Bool, true, false, cond}
+use mathlib.Core.Path.{◌≡◌, refl, sym, ap, ap₂, subst, ◌∙◌}
+use mathlib.Core.Bool.{true, false}
 use mathlib.Core.List.{List, [], ◌∷◌, ◌++◌}
 use Prim.Native.Nat.{ℕ, ◌+◌}
-use native.Mathlib.Omega.{arith}
 use native.Mathlib.Numerals.{add-one}
 use Rattle.edit_record.specs.declared.Edit.{Edit}
 use Rattle.edit_record.specs.RecordBytes.{decode_of}
@@ -20,42 +19,30 @@ use Rattle.table_given.proofs.ReplayGoes.{Going, going_on}
 
 module _
     (sites i : ℕ)
-    (t : Tables)
-    (b ps ns cs hs : List ℕ)
-    (ok : Bool)
-    (m sum : ℕ)
-    (held rs os gs ps' ns' cs' hs' : List ℕ)
-    (l :
-    LeavesShort t b ok (tables_of (counters_of sites (i + cond ok 1 0) m held sum) rs os gs) ps ns cs hs ps' ns' cs'
-    hs') where
-  pub short-took : ok ≡ true → Leaves t b 0 (tables_of (counters_of sites (i + 1) m held sum) rs os gs) ps ps' ns' cs' hs'
-  short-took z =
-      subst (λ (y : Bool). Leaves t b 0 (tables_of (counters_of sites
-      (i + cond y 1 0) m held sum) rs os gs) ps ps' ns' cs'
-      hs')
-      z (l.taken z)
-
+    {t : Tables}
+    {b ps ns cs hs : List ℕ}
+    {m sum : ℕ}
+    {held rs os gs ps' ns' cs' hs' : List ℕ}
+    (l : LeavesShort t b false (tables_of (counters_of sites i m held sum) rs os gs) ps ns cs hs ps' ns' cs' hs') where
   -- the tables that the long way is given
   abbrev kept : Tables
   kept = tables_of (counters_of sites i m held sum) rs os gs
 
-  pub short-kept : ok ≡ false → kept ≡ t
-  short-kept z =
-      let same : i ≡ i + cond ok 1 0 = rw z (omega arith) in
-      ap (λ (k : ℕ). tables_of (counters_of sites k m held sum) rs os gs) same ∙ l.tables z
+  pub short-kept : kept ≡ t
+  short-kept = l.tables refl
 
-  pub long-takes : ok ≡ false → (b' : List ℕ) → Takes t ps ns cs hs b' → Takes kept ps' ns' cs' hs' b'
-  long-takes z b' x =
-      let (p, n, c, h) = l.index z in
-      rw (p, n, c, h) (subst (λ (u : Tables). Takes u ps ns cs hs b') (sym (short-kept z)) x)
+  pub long-takes : (b' : List ℕ) → Takes t ps ns cs hs b' → Takes kept ps' ns' cs' hs' b'
+  long-takes b' x =
+      let (p, n, c, h) = l.index refl in
+      rw (p, n, c, h) (subst (λ (u : Tables). Takes u ps ns cs hs b') (sym short-kept) x)
 
   pub long-leaves :
-      ok ≡ false → (b' : List ℕ) (a : ℕ) (u : Tables) (ps'' ns'' cs'' hs'' : List ℕ) →
+      (b' : List ℕ) (a : ℕ) (u : Tables) (ps'' ns'' cs'' hs'' : List ℕ) →
       Leaves kept b' a u ps' ps'' ns'' cs'' hs'' → Leaves t b' a u ps ps'' ns'' cs'' hs''
-  long-leaves z b' a u ps'' ns'' cs'' hs'' x =
-      let (p, _, _, _) = l.index z in
+  long-leaves b' a u ps'' ns'' cs'' hs'' x =
+      let (p, _, _, _) = l.index refl in
       subst (λ (q : List ℕ). Leaves t b' a u q ps'' ns'' cs'' hs'') p
-      (subst (λ (v : Tables). Leaves v b' a u ps' ps'' ns'' cs'' hs'') (short-kept z) x)
+      (subst (λ (v : Tables). Leaves v b' a u ps' ps'' ns'' cs'' hs'') short-kept x)
 
 -- ---- the next round
 

@@ -8,28 +8,16 @@ ghost use Rattle.edit_history.specs.EditsHeld.{most_records, count_from};
 ghost use Rattle.edit_history.specs.SurveyForms.{Counted};
 ghost use Rattle.edit_walk.specs.WalkForms.{Spaced};
 ghost use Rattle.table_drawing.specs.Tables.{tables_of, empty_drawing, lengths_right, sites_right};
-ghost use Rattle.table_drawing.specs.AnswerNumbers.{number_of};
 ghost use Rattle.table_index.specs.IndexForms.{IndexOf, counters_of};
-ghost use Rattle.table_given.specs.Replay.{replayed, replay_of, edits_in};
+ghost use Rattle.table_given.specs.Replay.{replayed_by, replay_of, edits_in};
 ghost use Rattle.table_kept.specs.BoxForms.{KeptFor};
 
 use edit_form::OLD;
-use edit_history::RECORDS;
 use edit_record::{RECORD, SITES};
-use edit_walk::PLACES;
-use group_kept::ROWS;
-use group_step::OBJECTS;
-use table_drawing::{Answer, Counters};
-use table_index::chain::CHAINS;
-use table_kept::NAMES;
-
-// The answer to the first refused record and its index, or 0 and 0; and the counters after the records before it.
-#[derive(Clone, Copy)]
-pub struct Taken {
-    pub answer: Answer,
-    pub index: usize,
-    pub counters: Counters,
-}
+use table_drawing::Counters;
+use table_given::FileRefusal;
+use table_index::Index;
+use table_kept::Kept;
 
 // How many of the first n records of a stretch name each site.
 fn count_stretch(recs: &[u8], form: u8, n: usize) -> [u16; SITES]
@@ -38,15 +26,13 @@ fn count_stretch(recs: &[u8], form: u8, n: usize) -> [u16; SITES]
 {
     let mut counts = [0u16; SITES];
     let mut at: usize = 0;
-    let mut i: usize = 0;
-    while i < n {
+    for _ in 0..n {
         let rest = &recs[at..];
         let site = edit_form::site_from(rest, form) as usize;
         at = at + edit_form::length_from(rest, form);
         if site < SITES {
             counts[site] = counts[site] + 1;
         }
-        i += 1;
     }
     counts
 }
@@ -54,30 +40,25 @@ fn count_stretch(recs: &[u8], form: u8, n: usize) -> [u16; SITES]
 // Takes the first n records of a stretch, one after another, into an empty drawing: an old one as a long one, a long
 // one where it stands. Each goes the short way if it can, else the long one. The index has room for all of them.
 fn take_records(
+    ix: &mut Index,
     sites: u8,
     records: &mut [u8],
     objects: &mut [u16],
     groups: &mut [u64],
-    places: &mut [u16],
-    numbers: &mut [u8],
-    counts: &mut [u16],
-    chains: &mut [u8],
-    rows: &mut [u64],
-    names: &mut [u32],
+    kept: &mut Kept,
     recs: &[u8],
     form: u8,
     n: usize,
-) -> Taken
+) -> Result<Counters, FileRefusal>
     requires { (tables_of (counters_of sites 0 0 (replicate most_sites 0) 0) records.old objects.old groups.old
         ≡ empty_drawing sites)
-        × IndexOf records.old 0 places.old numbers.old counts.old chains.old
-        × Spaced (λ s. count_from s (edits_in (stored_in form recs.now) n)) places.old
+        × IndexOf records.old 0 ix.old.places ix.old.numbers ix.old.counts ix.old.chains
+        × Spaced (λ s. count_from s (edits_in (stored_in form recs.now) n)) ix.old.places
         × (sites_right sites ≡ true)
         × (n ≤ most_records)
         × (start_of form recs.now n ≤ length recs.now)
-        × KeptFor [] names.old rows.old }
-    ensures { replayed (number_of result.answer) result.index
-        (tables_of result.counters records.new objects.new groups.new)
+        × KeptFor [] kept.old.names kept.old.rows }
+    ensures { replayed_by result records.new objects.new groups.new
         ≡ replay_of sites (stored_in form recs.now) n }
 {
     let mut held = [0u16; SITES];
@@ -86,8 +67,7 @@ fn take_records(
     // written for old records alone: what was just written is read slowly
     let mut wide = [0u8; RECORD];
     let mut at: usize = 0;
-    let mut i: usize = 0;
-    while i < n {
+    for i in 0..n {
         let rest = &recs[at..];
         let used = edit_form::length_from(rest, form);
         at = at + used;
@@ -95,14 +75,11 @@ fn take_records(
             wide = edit_form::widened_from(rest);
         }
         let rec = edit_form::long_in(rest, form, used, &wide);
-        let t = table_next::short::take_short(
-            sites, i, m, sum, &mut held, records, objects, groups, places, numbers, counts, chains,
-            rows, names, rec,
-        );
-        m = t.objects;
-        sum = t.sum;
-        if t.ok {
-            i += 1;
+        if let Some(t) = table_next::short::take_short(
+            ix, sites, i, m, sum, &mut held, records, objects, groups, kept, rec,
+        ) {
+            m = t.objects;
+            sum = t.sum;
             continue;
         }
         let c = Counters {
@@ -112,36 +89,27 @@ fn take_records(
             held,
             sum,
         };
-        let a = table_next::take_next(
-            c, records, objects, groups, places, numbers, counts, chains, rows, names, rec,
-        );
-        let next = a.counters;
-        let answer = a.answer;
-        if table_drawing::number(answer) != 0 {
-            return Taken {
-                answer,
-                index: i,
-                counters: next,
-            };
-        }
-        let after = next.held;
-        held = after;
+        let next = match table_next::take_next(ix, c, records, objects, groups, kept, rec) {
+            Ok(next) => next,
+            Err(refusal) => {
+                return Err(FileRefusal {
+                    refusal,
+                    index: i,
+                    counters: c,
+                });
+            }
+        };
+        held = next.held;
         m = next.objects;
         sum = next.sum;
-        i += 1;
     }
-    let counters = Counters {
+    Ok(Counters {
         sites,
         records: n as u16,
         objects: m,
         held,
         sum,
-    };
-    Taken {
-        answer: Answer::Done,
-        index: 0,
-        counters,
-    }
+    })
 }
 
 // Opens a drawing of so many sites in the tables and takes the first n records of a stretch in a form into it, one
@@ -154,13 +122,12 @@ pub fn replay(
     recs: &[u8],
     form: u8,
     n: usize,
-) -> Taken
+) -> Result<Counters, FileRefusal>
     requires { (lengths_right records.old objects.old groups.old ≡ true)
         × (sites_right sites ≡ true)
         × (n ≤ most_records)
         × (start_of form recs.now n ≤ length recs.now) }
-    ensures { replayed (number_of result.answer) result.index
-        (tables_of result.counters records.new objects.new groups.new)
+    ensures { replayed_by result records.new objects.new groups.new
         ≡ replay_of sites (stored_in form recs.now) n }
 {
     let held = [0u16; SITES];
@@ -171,29 +138,12 @@ pub fn replay(
         held,
         sum: 0,
     };
-    table_drawing::open(none, records, objects, groups, sites);
-    // what work space holds at first does not matter; zeros would be set by memset (docs/DECISIONS.md, 24)
-    let mut places = [1u16; PLACES];
-    let mut numbers = [1u8; RECORDS];
-    let mut counts = [0u16; OBJECTS];
-    let mut chains = [0u8; CHAINS];
-    let mut rows = [1u64; ROWS];
-    let mut names = [0u32; NAMES];
+    _ = table_drawing::open(none, records, objects, groups, sites);
+    let mut kept = Kept::none();
+    let mut ix = Index::none();
     let by_site = count_stretch(recs, form, n);
-    edit_walk::space_places(by_site, &mut places);
+    edit_walk::space_places(by_site, &mut ix.places);
     take_records(
-        sites,
-        records,
-        objects,
-        groups,
-        &mut places,
-        &mut numbers,
-        &mut counts,
-        &mut chains,
-        &mut rows,
-        &mut names,
-        recs,
-        form,
-        n,
+        &mut ix, sites, records, objects, groups, &mut kept, recs, form, n,
     )
 }

@@ -1,7 +1,7 @@
 -- Which of the first Sets are in dispute, one Set more after another: those that it conflicts with, and itself if there
 -- is one. Assumes nothing.
 use mathlib.Core.Path.{◌≡◌, refl, sym, ap, ap₂, ◌∙◌}
-use mathlib.Core.Bool.{Bool, true, false, ◌||◌, or-false}
+use mathlib.Core.Bool.{Bool, true, false, ◌||◌, or_assoc, or-false}
 use mathlib.Core.List.{List}
 use mathlib.Core.Logic.{inl, inr}
 use Prim.Native.Nat.{ℕ, ◌+◌, ◌^◌, ◌≤◌, ◌<◌}
@@ -117,11 +117,13 @@ module _ (rs ps : List ℕ) (i m r : ℕ) (fits : i < length ps) (h : MarkedTo r
     high = λ j l. h.high j (omega arith);
   }
 
-  bits : (j : ℕ) → bit (bit_or (bit_or r m) (2 ^ i)) j ≡ ((bit r j || bit m j) || eqb j i)
+  bits : (j : ℕ) → bit (bit_or r (bit_or m (2 ^ i))) j ≡ ((bit r j || bit m j) || eqb j i)
   bits j =
-      bit-or (bit_or r m) (2 ^ i) j ∙ ap₂ (λ (a b : Bool). a || b) (bit-or r m j) (bit-power i j)
+      bit-or r (bit_or m (2 ^ i)) j
+      ∙ ap (λ (b : Bool). bit r j || b) (bit-or m (2 ^ i) j ∙ ap (λ (b : Bool). bit m j || b) (bit-power i j))
+      ∙ sym (or_assoc (bit r j) (bit m j) (eqb j i))
 
-  pub marked_more : (m ≡ 0 → ⊥) → MarkedTo rs ps (i + 1) (bit_or (bit_or r m) (2 ^ i))
+  pub marked_more : (m ≡ 0 → ⊥) → MarkedTo rs ps (i + 1) (bit_or r (bit_or m (2 ^ i)))
   marked_more some = record {
     marked =
         λ j l. elim (ℕ_discrete j i) [

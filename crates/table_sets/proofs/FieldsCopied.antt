@@ -3,10 +3,9 @@ use mathlib.Core.Path.{◌≡◌, sym, ap, ap₂, ◌∙◌}
 use mathlib.Core.List.{List}
 use Prim.Native.Nat.{ℕ, ◌+◌, ◌-◌, ◌*◌, ◌≤◌, ◌<◌}
 use native.Mathlib.Omega.{arith}
-use native.Mathlib.Decide.{ℕ_discrete}
 use lib.Dec.{lit<}
-use lib.ListN.{length, get_or, set, take, drop}
-use lib.Seq.{ext_get_or, get_or-set_same, get_or-set_other, get_or-take, get_or-drop}
+use lib.ListN.{length, get_or, take, drop}
+use lib.Seq.{ext_get_or, get_or-take, get_or-drop}
 use Rattle.edit_record.specs.Layout.{most_sites, site_at, seq_at, vector_at, key_at, value_at, record_length, place_length}
 use Rattle.edit_record.specs.RecordBytes.{two, four, counts}
 use Rattle.edit_record.proofs.NumbersInBytes.{counts-length, entry-in-record}
@@ -14,20 +13,6 @@ use Rattle.edit_history.specs.EditsHeld.{record_at}
 use Rattle.edit_history.proofs.FieldsInPlace.{site-in-place, seq-in-place, key-in-place, entry-in-place}
 use Rattle.table_sets.specs.FieldForms.{Copied, HasFields}
 use Rattle.table_sets.proofs.MarksByKey.{value-in-place}
-
--- one byte more
-pub copied_more :
-    (b rs : List ℕ) (at i x : ℕ) → i < length b → ((j : ℕ) → j < i → get_or b j 0 ≡ get_or rs (at + j) 0) →
-    x ≡ get_or rs (at + i) 0 → (j : ℕ) → j < i + 1 → get_or (set b i x) j 0 ≡ get_or rs (at + j) 0
-copied_more b rs at i x l h e j m =
-    elim (ℕ_discrete j i) [
-      | yes q ↦
-          ap (λ (k : ℕ). get_or (set b i x) k 0) q
-          ∙ get_or-set_same b i x 0 l
-          ∙ e
-          ∙ ap (λ (k : ℕ). get_or rs (at + k) 0) (sym q)
-      | no d ↦ get_or-set_other b i j x 0 d ∙ h j (omega (arith, d))
-    ]
 
 two-copied :
     (b rs : List ℕ) (at i : ℕ) → Copied b rs at → i + 1 < record_length → two b i ≡ two rs (at + i)

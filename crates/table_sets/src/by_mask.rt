@@ -46,7 +46,7 @@ fn marks_among(
         let j = u64::trailing_zeros(left) as usize;
         let rest = but_first(left);
         if is_unlike(tolds[j], y, rec) {
-            marks = marks | (left - rest);
+            marks |= left - rest;
         }
         left = rest;
     }
@@ -132,13 +132,11 @@ pub fn disputed_in(tolds: &mut [u64], recs: &[u8], places: &[u16], t: usize) -> 
 {
     let mut sets = [0u64; KEY_CHAINS];
     let mut all: u64 = 0;
-    let mut i: usize = 0;
-    while i < t {
+    for i in 0..t {
         let m = mark_in_place(&mut sets, tolds, recs, places, i);
         if m != 0 {
-            all = all | m | (1 << i);
+            all |= m | (1 << i);
         }
-        i += 1;
     }
     all
 }

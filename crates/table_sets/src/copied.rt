@@ -12,11 +12,7 @@ fn copy_whole(recs: &[u8], at: usize) -> [u8; RECORD]
     ensures { Copied result recs.now at }
 {
     let mut copy = [0u8; RECORD];
-    let mut i: usize = 0;
-    while i < RECORD {
-        copy[i] = recs[at + i];
-        i += 1;
-    }
+    copy.copy_from_slice(&recs[at..at + RECORD]);
     copy
 }
 
@@ -26,10 +22,8 @@ fn copy_rest(recs: &[u8], at: usize) -> [u8; RECORD]
     ensures { Copied result recs.now at }
 {
     let mut copy = [0u8; RECORD];
-    let mut i: usize = 0;
-    while i < RECORD {
-        copy[i] = edit_record::byte_at(recs, at + i);
-        i += 1;
+    for (i, byte) in copy.iter_mut().enumerate() {
+        *byte = edit_record::byte_at(recs, at + i);
     }
     copy
 }

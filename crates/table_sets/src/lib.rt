@@ -25,7 +25,8 @@ fn link(chain: &mut [u16], p: usize, q: usize)
 }
 
 // Makes the chain of the first n records, by the index of their places. It is made from the back, so that a Set is put
-// before those that stand behind it.
+// before those that stand behind it. The chain of bytes in group_named wants zeros at first, since it has to tell its
+// own end: here an object's entry says how many Sets there are, so that what it holds at first does not matter.
 pub fn chain_sets(recs: &[u8], n: usize, places: &[u16], chain: &mut [u16])
     requires { (n ≤ most_records)
         × (n ≤ length chain.old)
@@ -33,15 +34,12 @@ pub fn chain_sets(recs: &[u8], n: usize, places: &[u16], chain: &mut [u16])
         × Targeted recs.now n }
     ensures { Chained recs.now n chain.new }
 {
-    let mut i = n;
-    while 0 < i {
-        let q = i - 1;
+    for q in (0..n).rev() {
         let kind = edit_history::kind_at(recs, q);
         if edit_record::is_set_kind(kind) {
             let p = edit_walk::target_place(recs, places, q);
             link(chain, p as usize, q);
         }
-        i = q;
     }
 }
 
@@ -51,11 +49,9 @@ pub fn gather_sets(chain: &[u16], p: usize, k: usize, members: &mut [u16])
     ensures { AlongChain chain.now p k members.new }
 {
     let mut at = p;
-    let mut i: usize = 0;
-    while i < k {
+    for member in &mut members[..k] {
         let next = at16(chain, at);
-        members[i] = next;
+        *member = next;
         at = next as usize;
-        i += 1;
     }
 }

@@ -6,7 +6,8 @@ use Prim.Native.Nat.{ℕ, zero, suc, ◌+◌, ◌≤◌, ◌<◌}
 use native.Mathlib.Omega.{arith}
 use native.Mathlib.Numerals.{add-one}
 use native.Mathlib.Decide.{ℕ_discrete}
-use lib.Dec.{eqb}
+use lib.Dec.{eqb, lit≤}
+use mir.Val.{bool_byte}
 use lib.ListN.{get_or, set, length, length-set, replicate, length-replicate, get_or-replicate}
 use lib.Seq.{get_or-set_same, get_or-set_other}
 use borrow.Author.Tests.{ne_eqb}
@@ -19,6 +20,16 @@ use Rattle.edit_history.specs.EditsHeld.{record_at, edits_of, creates, most_reco
 use Rattle.edit_history.proofs.EditsHeld.{chosen_more, chosen-few}
 use Rattle.edit_walk.specs.WalkForms.{place_of}
 use Rattle.table_soundness.specs.SoundnessForms.{Targeted, CreatesBefore, aims_at, Tallying}
+
+-- ---- how many times b holds, as the library makes a number of it
+
+pub counted_once : (b : Bool) → bool_byte b ≡ cond b 1 0
+counted_once true = refl
+counted_once false = refl
+
+pub counted_most : (b : Bool) → bool_byte b ≤ 1
+counted_most true = lit≤ tt
+counted_most false = lit≤ tt
 
 -- ---- those of the first n records that pass f
 

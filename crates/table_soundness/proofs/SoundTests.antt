@@ -1,15 +1,19 @@
 -- The tests of soundness put together. Assumes nothing.
-use mathlib.Core.Path.{◌≡◌, refl, ap}
+use mathlib.Core.Path.{◌≡◌, refl, sym, ap, ◌∙◌}
 use mathlib.Core.Bool.{Bool, true, false, not, ◌&&◌, ◌||◌, and_assoc, and-true, and-false, or-false}
 use mathlib.Core.List.{List}
 use Prim.Native.Nat.{ℕ, ◌*◌, ◌≤◌, ◌<◌}
 use native.Mathlib.Omega.{arith}
 use lib.Dec.{eqb, leb, ltb}
 use lib.ListN.{get_or, length}
-use borrow.Author.Tests.{eqb-true, leb-true, lt-ltb, le-ltb, le-leb, lt-leb, not-false}
+use lib.Pointwise.{pointwise}
+use lib.Seq.{ext_get_or}
+use Rattle.std.proofs.lemmas.Bool.Decides.{Decides-eqb}
+use Rattle.std.proofs.lemmas.Slice.Eq.{slice_eq-Decides}
+use borrow.Author.Tests.{eq-eqb, eqb-true, leb-true, lt-ltb, le-ltb, le-leb, lt-leb, not-false}
 use Rattle.math_lists.specs.NumbersBelow.{all, sum}
-use Rattle.math_lists.proofs.Booleans.{clash, off, both}
-use Rattle.math_lists.proofs.NumbersBelow.{all-on, all_same}
+use Rattle.math_lists.proofs.Booleans.{clash, off, both, same_test}
+use Rattle.math_lists.proofs.NumbersBelow.{all-on, all-at, all_same}
 use Rattle.edit_record.specs.Layout.{most_sites, place_length}
 use Rattle.edit_record.proofs.WellFormed.{set-aimed}
 use Rattle.edit_history.specs.Answers2to5.{records_pass}
@@ -23,7 +27,7 @@ use Rattle.table_drawing.specs.declared.Counters.{Counters}
 use Rattle.table_drawing.specs.Tables.{Tables, entry_length, held_by, records_length, objects_length, groups_length}
 use Rattle.table_drawing.specs.Tables.{lengths_right, sites_right}
 use Rattle.table_soundness.specs.Sound.{within_limits, counts_agree, object_sound, zero_from, rest_zero}
-use Rattle.table_soundness.specs.SoundnessForms.{sound_but_named, Targeted, GatheredOver, PassedOver}
+use Rattle.table_soundness.specs.SoundnessForms.{sound_but_named, Targeted, WrongAmong, PassedOver}
 use Rattle.table_soundness.specs.declared.Tally.{Tally}
 use Rattle.table_soundness.proofs.SoundFacts.{but-at}
 
@@ -101,15 +105,26 @@ crowded t h =
 
 -- records that do not pass, more of a site than are counted, or a place that is not zero past its record
 pub not_right :
-    (t : Tables) (g : Tally) (ps ns ts : List ℕ) →
-    GatheredOver t.counters.sites (λ s. get_or t.counters.held s 0) t.records t.counters.records g ps ns
-    ts →
-    g.right ≡ false → sound_but_named t ≡ false
-not_right t g ps ns ts over h =
+    (t : Tables) → WrongAmong t.counters.sites (λ s. get_or t.counters.held s 0) t.records t.counters.records →
+    sound_but_named t ≡ false
+not_right t wrong =
     off (sound_but_named t) (λ y.
     let s = but-at t y in
-    over.wrong h s.pass (λ x l. omega (arith, s.held x l))
+    wrong s.pass (λ x l. omega (arith, s.held x l))
     (all-on t.counters.records (rest_zero t.records) s.rests))
+
+-- ---- two lists of counts
+
+pub counts-agree :
+    (a b : List ℕ) → length a ≡ most_sites → length b ≡ most_sites → (r : Bool) → r ≡ pointwise eqb a b →
+    r ≡ all most_sites (λ s. eqb (get_or a s 0) (get_or b s 0))
+counts-agree a b long long' r h =
+    let (same, agree) = slice_eq-Decides Decides-eqb a b r h in
+    same_test r (all most_sites (λ s. eqb (get_or a s 0) (get_or b s 0)))
+    (λ t. all-on most_sites _ (λ s l. eq-eqb _ _ (ap (λ (xs : List ℕ). get_or xs s 0) (same t))))
+    (λ t. agree
+    (ext_get_or 0 a b (long ∙ sym long')
+    (λ s l. eqb-true _ _ (all-at most_sites (λ s. eqb (get_or a s 0) (get_or b s 0)) t s (omega (arith, long))))))
 
 -- ---- what records that pass give
 

@@ -9,7 +9,8 @@ use native.Mathlib.Omega.{arith}
 use native.Mathlib.Numerals.{add-one}
 use native.Mathlib.Decide.{ℕ_discrete, dec_lt}
 use lib.Dec.{eqb, ltb}
-use lib.ListN.{get_or, length, get_or-eq_default}
+use lib.ListN.{get_or, length, take, drop, length-drop, get_or-eq_default}
+use lib.Seq.{take_all}
 use lib.Bits.{bit_or, or_add_and, and_le_l, and_comm}
 use borrow.Author.Tests.{lt-ltb, le-ltb, ltb-true, eq-eqb, eqb-true}
 use Rattle.math_lists.specs.NumbersBelow.{all}
@@ -19,6 +20,10 @@ use Rattle.table_soundness.specs.Sound.{zero_from}
 
 abbrev pub zero_at : List ℕ → ℕ → ℕ → Bool
 zero_at l k i = ltb i k || eqb (get_or l i 0) 0
+
+-- what a loop over the entries from k on goes through
+pub rest-is : (l : List ℕ) (k : ℕ) → take (length l - k) (drop k l) ≡ drop k l
+rest-is l k = take_all (length l - k) (drop k l) (omega (arith, length-drop k l))
 
 -- before the first turn, in a turn, and at the end
 
@@ -90,8 +95,9 @@ module _ (l : List ℕ) where
 
   pub four-more :
       (k part i : ℕ) →
-      (all i (zero_four k part) && eqb (get_or l (k + i) 0) 0 && eqb (get_or l (k + part + i) 0) 0
-      && eqb (get_or l (k + part + part + i) 0) 0 && eqb (get_or l (k + part + part + part + i) 0) 0)
+      (all i (zero_four k part)
+      && (eqb (get_or l (k + i) 0) 0 && eqb (get_or l (k + part + i) 0) 0
+      && eqb (get_or l (k + part + part + i) 0) 0 && eqb (get_or l (k + part + part + part + i) 0) 0))
       ≡ all (i + 1) (zero_four k part)
   unfolding all
   four-more k part i =
@@ -100,7 +106,7 @@ module _ (l : List ℕ) where
       let y = eqb (get_or l (k + part + i) 0) 0 in
       let z = eqb (get_or l (k + part + part + i) 0) 0 in
       let w = eqb (get_or l (k + part + part + part + i) 0) 0 in
-      rw add-one (and_assoc (a && x && y) z w ∙ and_assoc (a && x) y (z && w) ∙ and_assoc a x (y && (z && w)))
+      rw add-one (ap (λ (b : Bool). a && b) (and_assoc (x && y) z w ∙ and_assoc x y (z && w)))
 
   abbrev EachOfFour : ℕ → ℕ → ℕ → Type 0
   EachOfFour k part i =
@@ -196,15 +202,15 @@ bits-more l k i bits m e =
 
 pub four-bits-more :
     (l : List ℕ) (k part i bits : ℕ) → eqb bits 0 ≡ all i (zero_four l k part) →
-    eqb (bit_or (bit_or (bit_or (bit_or bits (get_or l (k + i) 0)) (get_or l (k + part + i) 0))
-    (get_or l (k + part + part + i) 0)) (get_or l (k + part + part + part + i) 0)) 0
+    eqb (bit_or bits (bit_or (bit_or (bit_or (get_or l (k + i) 0) (get_or l (k + part + i) 0))
+    (get_or l (k + part + part + i) 0)) (get_or l (k + part + part + part + i) 0))) 0
     ≡ all (i + 1) (zero_four l k part)
 four-bits-more l k part i bits e =
     rw (
+      ← no-bit bits _,
       ← no-bit _ (get_or l (k + part + part + part + i) 0),
       ← no-bit _ (get_or l (k + part + part + i) 0),
       ← no-bit _ (get_or l (k + part + i) 0),
-      ← no-bit bits _,
       e,
     )
     (four-more l k part i)

@@ -1,7 +1,7 @@
 -- What the test of soundness gathers from the records rs: where each edit stands, how many Creates stand before each
 -- record, and how many Sets there are on it. Then soundness but for 16. No one need believe it: laws in proofs/ tie it
 -- to `Sound`. Assumes nothing.
-use Rattle.std.specs.Prelude.{◌≡◌, Bool, true, false, ◌&&◌, List, ℕ, ◌*◌, ◌<◌, eqb, get_or, length}
+use Rattle.std.specs.Prelude.{◌≡◌, Bool, true, ◌&&◌, Option, MatchOption, List, ℕ, ◌*◌, ◌<◌, eqb, get_or, length}
 use Rattle.math_lists.specs.NumbersBelow.{all}
 use Rattle.math_lists.specs.SortedLists.{filter}
 use Rattle.edit_record.specs.declared.Edit.{Edit}
@@ -69,11 +69,16 @@ Tallying rs n ps ts =
 
 -- ---- the pass over the first n records
 
+-- not all of the first n records pass 1 to 5, have room for so many edits of each site and places that are zero past
+-- them
+abbrev pub WrongAmong : ℕ → (ℕ → ℕ) → List ℕ → ℕ → Type 0
+WrongAmong sites room rs n = records_pass sites rs n ≡ true → Roomy room rs n → all n (rest_zero rs) ≡ true → ⊥
+
 -- not all records past the first n pass 1 to 5, have room for so many edits of each site and places that are zero past
 -- them
 abbrev pub WrongPast : ℕ → (ℕ → ℕ) → List ℕ → ℕ → Type 0
 WrongPast sites room rs n =
-    (m : ℕ) → n < m → records_pass sites rs m ≡ true → Roomy room rs m → all m (rest_zero rs) ≡ true → ⊥
+    (m : ℕ) → n < m → WrongAmong sites room rs m
 
 -- g is gathered from records that pass 1 to 5 and whose places are zero past them, with the numbers ns and the tallies
 -- ts
@@ -86,11 +91,10 @@ pub record GatheredFrom (sites : ℕ) (rs : List ℕ) (n : ℕ) (g : Tally) (ns 
   pub numbered : CreatesBefore rs n ns
   pub tallied : Tallied rs n ts
 
--- g is what the pass over the first n records gives, with the index ps
-pub record GatheredOver (sites : ℕ) (room : ℕ → ℕ) (rs : List ℕ) (n : ℕ) (g : Tally) (ps ns ts : List ℕ) : Type 0 where
-  pub right : g.right ≡ true → GatheredFrom sites rs n g ns ts
-  pub indexed : g.right ≡ true → Indexed rs n ps
-  pub wrong : g.right ≡ false → records_pass sites rs n ≡ true → Roomy room rs n → all n (rest_zero rs) ≡ true → ⊥
+-- r is what the pass over the first n records gives, with the index ps: none where one of them is wrong
+abbrev pub GatheredOver : ℕ → (ℕ → ℕ) → List ℕ → ℕ → Option Tally → List ℕ → List ℕ → List ℕ → Type 0
+GatheredOver sites room rs n r ps ns ts =
+    MatchOption r (WrongAmong sites room rs n) (λ g. GatheredFrom sites rs n g ns ts × Indexed rs n ps)
 
 -- ---- what is known of tables once their limits are tested and their records passed over
 

@@ -14,13 +14,6 @@ use super::unused::is_rest_zero;
 use edit_history::RECORDS;
 use edit_record::{AT_KIND, AT_TARGET, AT_TARGET_SEQ, CREATE, PLACE, SITES, Seq, Site};
 
-// How many times b holds.
-fn one_if(b: bool) -> u8
-    ensures { (result ≡ cond b 1 0) × (result ≤ 1) }
-{
-    if b { 1 } else { 0 }
-}
-
 // Whether record i is one to go on with: the walk over those before it does, and its place is zero past it.
 fn is_next_right(
     sites: u8,
@@ -62,14 +55,14 @@ fn tally_set(tallies: &mut [u8], recs: &[u8], i: usize, places: &[u16])
     let site = recs[at + AT_TARGET];
     let seq = edit_record::pair_at(recs, at + AT_TARGET_SEQ);
     let p = edit_walk::place_at(places, Site(site), Seq(seq)) as usize;
-    let more = one_if(edit_record::is_set_kind(kind));
+    let more = u8::from(edit_record::is_set_kind(kind));
     if p < RECORDS {
-        tallies[p] = tallies[p] + more;
+        tallies[p] += more;
     }
 }
 
 // Walks over the first n records, with room in the index for so many edits of each site, and gathers from each what it
-// gives; ends where one is wrong. A record goes into the index last, so that what was read of it still holds.
+// gives; none where one is wrong. A record goes into the index last, so that what was read of it still holds.
 pub fn gather(
     sites: u8,
     room: [u16; SITES],
@@ -78,7 +71,7 @@ pub fn gather(
     places: &mut [u16],
     earlier: &mut [u8],
     tallies: &mut [u8],
-) -> Tally
+) -> Option<Tally>
     requires { (sites ≤ most_sites)
         × (sum most_sites (λ s. get_or room s 0) ≤ most_records)
         × (n ≤ most_records)
@@ -93,28 +86,16 @@ pub fn gather(
     let mut held = [0u16; SITES];
     let mut sum: u32 = 0;
     let mut creates: u16 = 0;
-    let mut i: usize = 0;
-    while i < n {
+    for i in 0..n {
         if !is_next_right(sites, &room, &held, recs, places, i) {
-            return Tally {
-                right: false,
-                held,
-                sum,
-                creates,
-            };
+            return None;
         }
         sum = edit_sum::sum_more(sum, recs, i);
         tally_set(tallies, recs, i, places);
         let kind = recs[i * PLACE + AT_KIND];
         earlier[i] = creates as u8;
-        creates = creates + one_if(kind == CREATE) as u16;
+        creates += u16::from(kind == CREATE);
         edit_walk::put_next(recs, i, &mut held, places);
-        i += 1;
     }
-    Tally {
-        right: true,
-        held,
-        sum,
-        creates,
-    }
+    Some(Tally { held, sum, creates })
 }

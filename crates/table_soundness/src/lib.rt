@@ -22,11 +22,10 @@ use edit_walk::PLACES;
 use group_step::{GROUPS, OBJECTS};
 use table_drawing::{Counters, ENTRY};
 
-// What one pass over the records gathers: whether all are right, and then how many edits of each site they are, the sum
-// of their words and how many of them are Creates.
+// What one pass over the records gathers, where all of them are right: how many edits of each site they are, the sum of
+// their words and how many of them are Creates.
 #[derive(Clone, Copy)]
 pub struct Tally {
-    pub right: bool,
     pub held: [u16; SITES],
     pub sum: u32,
     pub creates: u16,
@@ -39,19 +38,6 @@ fn within_limits(c: Counters) -> bool
     table_drawing::sites_right(c.sites)
         & (c.records as usize <= RECORDS)
         & (c.objects as usize <= OBJECTS)
-}
-
-// Whether two lists of counts agree.
-fn counts_agree(given: [u16; SITES], counted: [u16; SITES]) -> bool
-    ensures { result ≡ all most_sites (λ s. eqb (get_or given s 0) (get_or counted s 0)) }
-{
-    let mut agree = true;
-    let mut s: usize = 0;
-    while s < SITES {
-        agree = agree & (given[s] == counted[s]);
-        s += 1;
-    }
-    agree
 }
 
 // Whether the index has room for so many edits of each site.
@@ -89,15 +75,12 @@ fn rest_sound(
     requires { PassedOver (tables_of c records.now objects.now groups.now) g earlier.now tallies.now }
     ensures { result ≡ sound_but_named (tables_of c records.now objects.now groups.now) }
 {
-    let given = c.held;
-    let held = g.held;
-    let kept = c.sum;
     let n = c.records as usize;
     let m = c.objects as usize;
-    let agree = counts_agree(given, held);
+    let agree = c.held == g.held;
     let each = objects::objects_sound(records, n, objects, groups, earlier, tallies, m);
     let zero = unused_zero(records, objects, groups, n, m);
-    agree & (kept == g.sum) & (m == g.creates as usize) & each & zero
+    agree & (c.sum == g.sum) & (m == g.creates as usize) & each & zero
 }
 
 // Whether tables of the right lengths and within their limits are sound but for 16; if they are, places is the index of
@@ -121,7 +104,7 @@ fn is_sound_within(
     let n = c.records as usize;
     let mut earlier = [0u8; RECORDS];
     let mut tallies = [0u8; RECORDS];
-    let g = gathering::gather(
+    let Some(g) = gathering::gather(
         c.sites,
         given,
         records,
@@ -129,10 +112,9 @@ fn is_sound_within(
         places,
         &mut earlier,
         &mut tallies,
-    );
-    if !g.right {
+    ) else {
         return false;
-    }
+    };
     rest_sound(c, g, &earlier, &tallies, records, objects, groups)
 }
 

@@ -42,14 +42,11 @@ fn row_sound(groups: &[u64], o: usize, k: u64, g: usize) -> bool
         return false;
     }
     let mut sound = true;
-    let mut i: usize = 0;
-    while i < g {
-        sound = sound & slot_sound(groups, o, k, g, i);
-        i += 1;
+    for i in 0..g {
+        sound &= slot_sound(groups, o, k, g, i);
     }
-    while i < GROUPS {
-        sound = sound & (groups[o * GROUPS + i] == 0);
-        i += 1;
+    for &unused in &groups[o * GROUPS + g..(o + 1) * GROUPS] {
+        sound &= unused == 0;
     }
     sound
 }
@@ -111,10 +108,8 @@ pub fn objects_sound(
     ensures { result ≡ all m (object_sound recs.now n objects.now groups.now) }
 {
     let mut sound = true;
-    let mut o: usize = 0;
-    while o < m {
-        sound = sound & object_sound(recs, n, objects, groups, numbers, tallies, o);
-        o += 1;
+    for o in 0..m {
+        sound &= object_sound(recs, n, objects, groups, numbers, tallies, o);
     }
     sound
 }

@@ -25,15 +25,11 @@ pub fn is_zero_from8(s: &[u8], k: usize) -> bool
     let third = second + part;
     let fourth = third + part;
     let mut bits: u8 = 0;
-    let mut i: usize = 0;
-    while i < part {
-        bits = bits | s[k + i] | s[second + i] | s[third + i] | s[fourth + i];
-        i += 1;
+    for i in 0..part {
+        bits |= s[k + i] | s[second + i] | s[third + i] | s[fourth + i];
     }
-    let mut j = fourth + part;
-    while j < s.len() {
-        bits = bits | s[j];
-        j += 1;
+    for &byte in &s[fourth + part..] {
+        bits |= byte;
     }
     bits == 0
 }
@@ -42,16 +38,18 @@ pub fn is_zero_from8(s: &[u8], k: usize) -> bool
 pub fn is_zero_from16(s: &[u16], k: usize) -> bool
     ensures { result ≡ zero_from s.now k }
 {
+    if s.len() <= k {
+        return true;
+    }
     let mut zero = true;
-    let mut i = k;
-    while i < s.len() {
-        zero = zero & (s[i] == 0);
-        i += 1;
+    for &number in &s[k..] {
+        zero &= number == 0;
     }
     zero
 }
 
-// Whether every group from k on is zero, by four parts as well.
+// Whether every group from k on is zero, by four parts as well. The three stand apart by the type of what they go over:
+// one over a trait of the three types would be longer than they are.
 pub fn is_zero_from64(s: &[u64], k: usize) -> bool
     ensures { result ≡ zero_from s.now k }
 {
@@ -63,15 +61,11 @@ pub fn is_zero_from64(s: &[u64], k: usize) -> bool
     let third = second + part;
     let fourth = third + part;
     let mut bits: u64 = 0;
-    let mut i: usize = 0;
-    while i < part {
-        bits = bits | s[k + i] | s[second + i] | s[third + i] | s[fourth + i];
-        i += 1;
+    for i in 0..part {
+        bits |= s[k + i] | s[second + i] | s[third + i] | s[fourth + i];
     }
-    let mut j = fourth + part;
-    while j < s.len() {
-        bits = bits | s[j];
-        j += 1;
+    for &group in &s[fourth + part..] {
+        bits |= group;
     }
     bits == 0
 }
@@ -83,10 +77,8 @@ fn is_zero_down8(s: &[u8], k: usize) -> bool
     ensures { result ≡ zero_from s.now k }
 {
     let mut bits: u8 = 0;
-    let mut i = s.len();
-    while k < i {
-        i -= 1;
-        bits = bits | s[i];
+    for i in (k..s.len()).rev() {
+        bits |= s[i];
     }
     bits == 0
 }

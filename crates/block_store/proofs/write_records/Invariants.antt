@@ -2,7 +2,7 @@
 -- copied into the part behind them. Assumes nothing.
 use mathlib.Core.Path.{◌≡◌}
 use mathlib.Core.List.{◌++◌}
-use Prim.Native.Nat.{◌+◌, ◌-◌, ◌≤◌}
+use Prim.Native.Nat.{◌≤◌}
 use lib.ListN.{length, drop}
 use Rattle.edit_form.specs.OldForm.{chained}
 use Rattle.edit_history.specs.EditsHeld.{bytes_at}
@@ -10,10 +10,6 @@ use Rattle.block_store.proofs.write_records.Given as goal
 
 abbrev pub invariant-loop-i : goal.invariant-loop-i
 invariant-loop-i l =
-    (l.i ≤ l.n)
-    × (l.end ≡ length (chained (bytes_at l.records) l.i))
+    (l.end ≡ length (chained (bytes_at l.records) l.i))
     × (l.end ≤ length l.initial.out)
     × (l.out ≡ chained (bytes_at l.records) l.i ++ drop l.end l.initial.out)
-
-abbrev pub decreases-loop-i : goal.decreases-loop-i
-decreases-loop-i l = l.n - l.i

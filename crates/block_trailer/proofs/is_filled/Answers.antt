@@ -1,7 +1,7 @@
 -- `block_trailer::is_filled` meets its contract: `at` is where record i starts, and a record that starts past the end
 -- has none behind it that starts at the end. Assumes nothing.
 use mathlib.Core.Path.{◌≡◌, refl, sym, ap, ◌∙◌}
-use Prim.Native.Nat.{ℕ, ◌-◌}
+use Prim.Native.Nat.{ℕ}
 use native.Mathlib.Numerals.{add-one}
 use native.Mathlib.Omega.{arith}
 use lib.ListN.{length}
@@ -11,46 +11,41 @@ use Rattle.edit_form.specs.OldForm.{start_of}
 use Rattle.edit_form.proofs.Stretches.{ends-before, next_start, few_bytes}
 use Rattle.block_trailer.proofs.is_filled.Goals as goal
 
-pub loop-i-init : goal.loop-i-init
+pub loop-init : goal.loop-init
 unfolding start_of
-loop-i-init c = (omega arith, refl)
+loop-init c = refl
 
 pub returns-then-stretch-at : goal.returns-then-stretch-at
 returns-then-stretch-at c =
-    let l = c.loop-i in
+    let l = c.loop in
     let a = c.args in
     let s = a.stretch.now in
-    let later = ends-before a.form s l.i a.n c.loop-i-test.true in
-    sym (ne_eqb (start_of a.form s a.n) (length s) (λ e. omega (arith, e, later, l.invariant.1, c.if-stretch-at.true)))
+    let later = ends-before a.form s l.counter a.n c.loop-test.true in
+    sym (ne_eqb (start_of a.form s a.n) (length s) (λ e. omega (arith, e, later, l.invariant, c.if-stretch-at.true)))
 
 pub overflow_add-at : goal.overflow_add-at
 overflow_add-at c =
-    let b = c in
-    let l = b.loop-i in
-    let a = b.args in
+    let l = c.loop in
+    let a = c.args in
     omega (
       arith,
-      few_bytes a.form a.stretch.now l.i l.at l.invariant.1
-          (λ k. omega (arith, b.shared_slice_known-1.given k))
+      few_bytes a.form a.stretch.now l.counter l.at l.invariant
+          (λ k. omega (arith, c.type_inv.stretch k))
           c.length_from-at.result
           c.length_from-at.ensures,
     )
 
-pub loop-i-preserved : goal.loop-i-preserved
-loop-i-preserved c =
-    let b = c in
-    let l = b.loop-i in
-    let a = b.args in (
-      omega arith,
-      rw (add-one l.i)
-          (next_start a.form a.stretch.now l.i l.at l.invariant.1 c.length_from-at.result
-          c.length_from-at.ensures),
-    )
+pub loop-preserved : goal.loop-preserved
+loop-preserved c =
+    let a = c.args in
+    let l = c.loop in
+    rw (add-one l.counter)
+    (next_start a.form a.stretch.now l.counter l.at l.invariant c.length_from-at.result c.length_from-at.ensures)
 
 pub returns : goal.returns
 returns c =
-    let l = c.loop-i in
+    let l = c.loop in
     let a = c.args in
     let s = a.stretch.now in
-    let k : l.i ≡ a.n = omega arith in
-    ap (λ (x : ℕ). eqb x (length s)) (l.invariant.1 ∙ ap (start_of a.form s) k)
+    let k : l.counter ≡ a.n = omega arith in
+    ap (λ (x : ℕ). eqb x (length s)) (l.invariant ∙ ap (start_of a.form s) k)

@@ -1,33 +1,24 @@
 -- `block_trailer::locate` meets its contract: the stretch ends where the trailer starts, or is empty at the file's
 -- start. Assumes nothing.
-use Rattle.block_trailer.proofs.LocatingOutcomes.{start-before-end, end-inside, stretch-is}
+use Rattle.block_trailer.proofs.LocatingOutcomes.{start-before-end, stretch-is, empty-is}
 use Rattle.block_trailer.proofs.locate.Goals as goal
 
 pub slice_bounds-result-count : goal.slice_bounds-result-count
 slice_bounds-result-count c =
-    let t = c in
-    let said = t.read_trailer-t.ensures in
-    let file = t.args.file.now in
-    start-before-end file said.0 said.1 c.stretch_end-end.ensures
+    let said = c.in-Ok.ensures in
+    start-before-end c.args.file.now said.0 said.1 c.trailer_at-end.ensures
 
 pub slice_bounds-result-start : goal.slice_bounds-result-start
 slice_bounds-result-start c =
-    let t = c in
-    let said = t.read_trailer-t.ensures in
-    let file = t.args.file.now in
-    start-before-end file said.0 said.1 c.stretch_end-end.ensures
+    let said = c.in-Ok.ensures in
+    start-before-end c.args.file.now said.0 said.1 c.trailer_at-end.ensures
 
-pub slice_bounds-result-end : goal.slice_bounds-result-end
-slice_bounds-result-end c =
-    let t = c in
-    let said = t.read_trailer-t.ensures in
-    let file = t.args.file.now in
-    end-inside file said.0 said.1 c.stretch_end-end.ensures
+pub returns-in-Ok : goal.returns-in-Ok
+returns-in-Ok c =
+    let said = c.in-Ok.ensures in
+    (stretch-is c.args.file.now said.0 said.1 c.trailer_at-end.ensures, rw said.1)
 
-pub returns : goal.returns
-returns c =
-    let e = c in
-    let t = e in
-    let said = t.read_trailer-t.ensures in
-    let file = t.args.file.now in
-    (stretch-is file said.0 said.1 e.stretch_end-end.ensures, rw said.1)
+pub returns-in-Err : goal.returns-in-Err
+returns-in-Err c =
+    let said = c.in-Err.ensures in
+    (empty-is c.args.file.now c.in-Err.field-0 said.0 said.1, rw (← said.1))

@@ -1,7 +1,7 @@
 -- `edit_fit::are_members_wrong` meets its contract: `found` is what both tests say of the first i members,
 -- and `last` the name of the one before. Assumes nothing.
 use mathlib.Core.Path.{◌≡◌}
-use Prim.Native.Nat.{◌≤◌, ◌<◌, ◌-◌}
+use Prim.Native.Nat.{◌<◌, ◌-◌}
 use lib.ListN.{get_or, drop}
 use Rattle.edit_record.specs.Layout.{most_members, members_at}
 use Rattle.edit_record.specs.RecordBytes.{first_fours}
@@ -11,9 +11,5 @@ use Rattle.edit_fit.proofs.are_members_wrong.Given as goal
 
 abbrev pub invariant-loop-i : goal.invariant-loop-i
 invariant-loop-i l =
-    (l.i ≤ l.k)
-    × (l.found ≡ is_wrong_among l.k (first_fours most_members l.k (drop members_at l.rec)) l.i)
+    (l.found ≡ is_wrong_among l.k (first_fours most_members l.k (drop members_at l.rec)) l.i)
     × (0 < l.i → l.last ≡ name_in (get_or (first_fours most_members l.k (drop members_at l.rec)) (l.i - 1) 0))
-
-abbrev pub decreases-loop-i : goal.decreases-loop-i
-decreases-loop-i l = l.k - l.i

@@ -2,7 +2,7 @@
 -- which those before n do not count. Assumes nothing.
 use mathlib.Core.Path.{◌≡◌}
 use mathlib.Core.List.{List}
-use Prim.Native.Nat.{ℕ, ◌≤◌, ◌<◌, ◌-◌}
+use Prim.Native.Nat.{ℕ, ◌≤◌, ◌<◌}
 use lib.ListN.{drop}
 use Rattle.math_lists.specs.NumbersBelow.{some}
 use Rattle.edit_record.specs.Layout.{most_sites, vector_at}
@@ -15,6 +15,3 @@ vector_in rec = counts most_sites (drop vector_at rec)
 
 abbrev pub invariant-loop-i : goal.invariant-loop-i
 invariant-loop-i l = (l.n ≤ l.i) × (most_sites < l.i → l.i ≤ l.n) × (l.found ≡ some l.i (is_past l.n (vector_in l.rec)))
-
-abbrev pub decreases-loop-i : goal.decreases-loop-i
-decreases-loop-i l = most_sites - l.i

@@ -1,7 +1,6 @@
 -- `edit_history::is_ahead_elsewhere` meets its contract: `found` is what the definition says of the first t entries.
 -- Assumes nothing.
 use mathlib.Core.Path.{◌≡◌}
-use Prim.Native.Nat.{◌-◌}
 use native.Mathlib.Numerals.{add-one}
 use native.Mathlib.Omega.{arith}
 use borrow.Author.Rules.{rules}
@@ -16,10 +15,10 @@ loop-t-init c = search rules
 
 pub loop-t-preserved : goal.loop-t-preserved
 unfolding some
-loop-t-preserved c = (omega arith, rw (add-one, c.loop-t.invariant.1))
+loop-t-preserved c = rw (add-one, c.loop-t.invariant)
 
 pub returns : goal.returns
 unfolding ahead_elsewhere
 returns c =
     let k : c.loop-t.t ≡ most_sites = omega arith in
-    rw k at c.loop-t.invariant.1
+    rw k at c.loop-t.invariant

@@ -2,16 +2,10 @@
 -- Assumes nothing.
 use mathlib.Core.Bool.{not, ◌&&◌}
 use mathlib.Core.Path.{◌≡◌}
-use Prim.Native.Nat.{◌≤◌, ◌-◌}
 use lib.ListN.{get_or}
 use lib.Dec.{eqb, ltb}
 use Rattle.math_lists.specs.NumbersBelow.{some}
-use Rattle.edit_record.specs.Layout.{most_sites}
 use Rattle.edit_history.proofs.is_ahead_elsewhere.Given as goal
 
 abbrev pub invariant-loop-t : goal.invariant-loop-t
-invariant-loop-t l =
-    (l.t ≤ most_sites) × (l.found ≡ some l.t (λ s. not (eqb s l.own) && ltb (get_or l.held s 0) (get_or l.v s 0)))
-
-abbrev pub decreases-loop-t : goal.decreases-loop-t
-decreases-loop-t l = most_sites - l.t
+invariant-loop-t l = l.found ≡ some l.t (λ s. not (eqb s l.own) && ltb (get_or l.held s 0) (get_or l.v s 0))

@@ -1,7 +1,6 @@
 -- `edit_history::is_larger_somewhere` meets its contract: `found` is what the definition says of the first s entries.
 -- Assumes nothing.
 use mathlib.Core.Path.{◌≡◌}
-use Prim.Native.Nat.{◌-◌}
 use native.Mathlib.Numerals.{add-one}
 use native.Mathlib.Omega.{arith}
 use borrow.Author.Rules.{rules}
@@ -16,10 +15,10 @@ loop-s-init c = search rules
 
 pub loop-s-preserved : goal.loop-s-preserved
 unfolding some
-loop-s-preserved c = (omega arith, rw (add-one, c.loop-s.invariant.1))
+loop-s-preserved c = rw (add-one, c.loop-s.invariant)
 
 pub returns : goal.returns
 unfolding larger_somewhere
 returns c =
     let k : c.loop-s.s ≡ most_sites = omega arith in
-    rw k at c.loop-s.invariant.1
+    rw k at c.loop-s.invariant

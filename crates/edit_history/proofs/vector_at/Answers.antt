@@ -20,4 +20,4 @@ returns-then-at-recs c =
     (take_all (length rs - at) (drop at rs) (simp length-drop (omega arith)))
 
 pub returns : goal.returns
-returns c = ap (λ (e : Edit). e.vector) c.decode_at-e.ensures
+returns c = ap (λ (e : Edit). e.vector) c.decode_at.ensures

@@ -1,31 +1,17 @@
 -- `edit_next::is_next_in` meets its contract: a site that has no entry has none that is larger by one. Assumes
 -- nothing.
-use mathlib.Core.Path.{◌≡◌, refl, sym, ◌∙◌}
+use mathlib.Core.Path.{◌≡◌, sym, ◌∙◌}
 use Prim.Native.Nat.{◌*◌, ◌+◌}
 use native.Mathlib.Omega.{arith}
 use lib.Dec.{eqb}
 use lib.ListN.{get_or}
 use borrow.Author.Tests.{eq-eqb}
-use Rattle.math_lists.proofs.Booleans.{clash, and-on}
+use Rattle.math_lists.proofs.Booleans.{and-on}
 use Rattle.edit_record.specs.Layout.{place_length, site_at}
 use Rattle.edit_history.specs.EditsHeld.{record_at}
 use Rattle.edit_history.proofs.FieldsInPlace.{site-in-place, entry-in-place}
 use Rattle.edit_walk.specs.WalkForms.{same_but, is_next}
 use Rattle.edit_next.proofs.is_next_in.Goals as goal
-
-pub returns-then-p-r : goal.returns-then-p-r
-returns-then-p-r c h = clash h refl
-
-pub overflow_cast-own : goal.overflow_cast-own
-overflow_cast-own c =
-    let z = c in
-    omega (arith, c.shared_slice_known-2-1.given (z.args.p * place_length + site_at))
-
-pub returns-then-own-ge-SITES : goal.returns-then-own-ge-SITES
-returns-then-own-ge-SITES c h = clash h refl
-
-pub returns-then-has-had : goal.returns-then-has-had
-returns-then-has-had c h = clash h refl
 
 pub returns : goal.returns
 unfolding is_next

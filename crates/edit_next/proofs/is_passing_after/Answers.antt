@@ -4,17 +4,12 @@ use Rattle.edit_record.specs.RecordBytes.{decode_of}
 use Rattle.edit_next.proofs.NextDecides.{next-tells}
 use Rattle.edit_next.proofs.is_passing_after.Goals as goal
 
-pub is_next_at-requires : goal.is_next_at-requires
-is_next_at-requires c =
-    let s = c in
-    (s.requires.0, s.requires.1, λ l. (c.likely_before-r.ensures l).0)
-
 pub returns-then-is_next_at : goal.returns-then-is_next_at
 returns-then-is_next_at c =
     let s = c in
     let a = s.args in
     let e = decode_of a.rec.now in
     let (before, grown) = c.is_next_at.ensures c.if-is_next_at.true in
-    let (_, next) = c.likely_before-r.ensures before in
-    next-tells a.sites s.requires.3 e c.likely_before-r.result before grown next
+    let (_, next) = c.in-Some.ensures in
+    next-tells a.sites s.requires.3 e c.in-Some.r before grown next
     c.is_fit_and_aimed.ensures

@@ -14,9 +14,8 @@ returns-then-rec-eq-SET c =
     let rest = from_place rs (a.p * place_length) in
     let x = c in
     let (before, grown) = x.is_next_in.ensures c.if-is_next_in.true in
-    let likely = x.likely_before-r in
-    let (_, next) = rw rest at (likely.ensures before) in
-    next-tells a.sites s.requires.3 (record_at rs a.p) likely.result before grown next
+    let (_, next) = rw rest at c.in-Some.ensures in
+    next-tells a.sites s.requires.3 (record_at rs a.p) c.in-Some.r before grown next
     (rw rest at c.is_set_fit_and_aimed.ensures)
 
 pub returns-then-is_next_in : goal.returns-then-is_next_in
@@ -27,7 +26,6 @@ returns-then-is_next_in c =
     let rest = from_place rs (a.p * place_length) in
     let x = c in
     let (before, grown) = x.is_next_in.ensures c.if-is_next_in.true in
-    let likely = x.likely_before-r in
-    let (_, next) = rw rest at (likely.ensures before) in
-    next-tells a.sites s.requires.3 (record_at rs a.p) likely.result before grown next
+    let (_, next) = rw rest at c.in-Some.ensures in
+    next-tells a.sites s.requires.3 (record_at rs a.p) c.in-Some.r before grown next
     (rw rest at c.is_fit_and_aimed.ensures)

@@ -1,7 +1,6 @@
 -- `edit_next::is_same_in` meets its contract: `same` is what the definition says of the first t entries. Assumes
 -- nothing.
 use mathlib.Core.Path.{◌≡◌, refl}
-use Prim.Native.Nat.{◌-◌}
 use native.Mathlib.Numerals.{add-one}
 use native.Mathlib.Omega.{arith}
 use Rattle.math_lists.specs.NumbersBelow.{all}
@@ -12,25 +11,24 @@ use Rattle.edit_next.proofs.is_same_in.Goals as goal
 
 pub loop-t-init : goal.loop-t-init
 unfolding all
-loop-t-init c = (omega arith, refl, refl, refl, refl)
+loop-t-init c = (refl, refl, refl, refl)
 
 pub loop-t-preserved : goal.loop-t-preserved
 unfolding all
 loop-t-preserved c =
     let l = c.loop-t in
     let a = c.args in (
-      omega arith,
+      l.invariant.0,
       l.invariant.1,
       l.invariant.2,
-      l.invariant.3,
       rw (
         add-one,
-        l.invariant.4,
-        l.invariant.1,
+        l.invariant.3,
+        l.invariant.0,
         c.pair_at-is.ensures,
         c.pair_at-was.ensures,
+        l.invariant.1,
         l.invariant.2,
-        l.invariant.3,
         entry-in-place a.recs.now a.r l.t (omega arith),
         entry-in-place a.recs.now a.p l.t (omega arith),
       ),
@@ -41,4 +39,4 @@ unfolding same_but
 returns c =
     let l = c.loop-t in
     let e : l.t ≡ most_sites = omega arith in
-    rw (l.invariant.4, e)
+    rw (l.invariant.3, e)

@@ -3,11 +3,11 @@
 use mathlib.Core.Path.{◌≡◌}
 use mathlib.Core.Bool.{Bool, ◌||◌}
 use mathlib.Core.List.{List}
-use Prim.Native.Nat.{ℕ, ◌≤◌, ◌-◌, ◌*◌}
+use Prim.Native.Nat.{ℕ, ◌*◌}
 use lib.Dec.{eqb}
 use lib.ListN.{get_or}
 use Rattle.math_lists.specs.NumbersBelow.{all}
-use Rattle.edit_record.specs.Layout.{most_sites, place_length}
+use Rattle.edit_record.specs.Layout.{place_length}
 use Rattle.edit_history.specs.EditsHeld.{record_at}
 use Rattle.edit_next.proofs.is_same_in.Given as goal
 
@@ -16,11 +16,7 @@ is_told rs r p s t = eqb t s || eqb (get_or (record_at rs r).vector t 0) (get_or
 
 abbrev pub invariant-loop-t : goal.invariant-loop-t
 invariant-loop-t l =
-    (l.t ≤ most_sites)
-    × (l.own ≡ l.s)
+    (l.own ≡ l.s)
     × (l.from ≡ l.r * place_length)
     × (l.to ≡ l.p * place_length)
     × (l.same ≡ all l.t (is_told l.recs l.r l.p l.s))
-
-abbrev pub decreases-loop-t : goal.decreases-loop-t
-decreases-loop-t l = most_sites - l.t

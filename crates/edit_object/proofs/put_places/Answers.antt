@@ -1,13 +1,10 @@
 -- `edit_object::put_places` meets its contract: the places of the Sets passed stand at the front, and there is room
 -- for one more as long as one is left. Assumes nothing.
-use mathlib.Core.Path.{◌≡◌, refl, sym, ap, subst, ◌∙◌}
-use mathlib.Core.List.{List, map}
-use Prim.Native.Nat.{ℕ, ◌-◌}
+use mathlib.Core.Path.{refl, sym, ap, ◌∙◌}
 use native.Mathlib.Omega.{arith}
 use borrow.Author.Rules.{rules}
-use lib.ListN.{length, take, length-set}
-use Rattle.edit_record.specs.declared.Edit.{Edit}
-use Rattle.edit_history.specs.EditsHeld.{record_at, edits_of, is_set_on, sets_on}
+use lib.ListN.{length, length-set}
+use Rattle.edit_history.specs.EditsHeld.{is_set_on, sets_on}
 use Rattle.edit_object.proofs.PlacesPassed.{place-more, no-place-more, one-counted, some_left, no-places}
 use Rattle.edit_object.proofs.put_places.Goals as goal
 use Rattle.edit_object.proofs.put_places.Goals.{then-is_set_at, else-is_set_at}
@@ -17,29 +14,11 @@ unfolding sets_on
 loop-i-init c =
     let a = c.args in
     let none = no-places a.recs.now (is_set_on a.s a.q) in
-    (search rules, refl, none, ap length none)
-
-pub offset_bounds-out-w : goal.offset_bounds-out-w
-unfolding sets_on
-offset_bounds-out-w c =
-    let l = c.loop-i in
-    let a = c.args in
-    let is = sym c.is_set_at.ensures ∙ c.if-is_set_at.true in
-    let room = some_left a.recs.now (is_set_on a.s a.q) l.i a.n (omega arith) is in
-    search rules
+    (refl, none, ap length none)
 
 pub bounds-out-w : goal.bounds-out-w
 unfolding sets_on
 bounds-out-w c =
-    let l = c.loop-i in
-    let a = c.args in
-    let is = sym c.is_set_at.ensures ∙ c.if-is_set_at.true in
-    let room = some_left a.recs.now (is_set_on a.s a.q) l.i a.n (omega arith) is in
-    search rules
-
-pub overflow_add-w : goal.overflow_add-w
-unfolding sets_on
-overflow_add-w c =
     let l = c.loop-i in
     let a = c.args in
     let is = sym c.is_set_at.ensures ∙ c.if-is_set_at.true in
@@ -58,27 +37,13 @@ loop-i-preserved c =
       | then-is_set_at v ↦ let is = e ∙ v.if-is_set_at.true in
           let room = some_left rs on l.i a.n (omega arith) is in
           rw (v.out-is, v.w-is) (
-            omega arith,
-            simp length-set l.invariant.1,
-            place-more rs on l.out l.w l.i (omega arith) is l.invariant.2,
+            simp length-set l.invariant.0,
+            place-more rs on l.out l.w l.i (omega arith) is l.invariant.1,
             omega (arith, one-counted rs on l.i is),
           )
       | else-is_set_at v ↦ rw (v.out-is, v.w-is, no-place-more rs on l.i (e ∙ v.if-is_set_at.false)) (
-        omega arith,
+        l.invariant.0,
         l.invariant.1,
         l.invariant.2,
-        l.invariant.3,
       )
     ]
-
-pub shape_of-out : goal.shape_of-out
-shape_of-out c = c.loop-i.invariant.1
-
-pub returns : goal.returns
-returns c =
-    let l = c.loop-i in
-    let a = c.args in
-    let sets : ℕ → List Edit = λ j. sets_on a.s a.q (edits_of a.recs.now j) in
-    let done : l.i ≡ a.n = omega arith in
-    subst (λ (j : ℕ). (map (record_at a.recs.now) (take l.w l.out) ≡ sets j) × (l.w ≡ length (sets j))) done
-    (l.invariant.2, l.invariant.3)

@@ -1,14 +1,10 @@
 -- `edit_record::vector_of` meets its contract: the first i entries written are the first i counts of the record.
 -- Assumes nothing.
 use mathlib.Core.Path.{◌≡◌}
-use Prim.Native.Nat.{◌≤◌, ◌-◌}
 use lib.ListN.{length, take, drop}
 use Rattle.edit_record.specs.RecordBytes.{counts}
 use Rattle.edit_record.specs.Layout.{most_sites, vector_at}
 use Rattle.edit_record.proofs.vector_of.Given as goal
 
 abbrev pub invariant-loop-i : goal.invariant-loop-i
-invariant-loop-i l = (l.i ≤ most_sites) × (length l.v ≡ most_sites) × (take l.i l.v ≡ counts l.i (drop vector_at l.rec))
-
-abbrev pub decreases-loop-i : goal.decreases-loop-i
-decreases-loop-i l = most_sites - l.i
+invariant-loop-i l = (length l.n-items ≡ most_sites) × (take l.i l.n-items ≡ counts l.i (drop vector_at l.rec))

@@ -1,7 +1,7 @@
 -- `edit_walk::count_sites` meets its contract: after i records the counts are theirs. A site without an entry is
 -- counted nowhere. Assumes nothing.
 use mathlib.Core.Path.{◌≡◌, sym, ◌∙◌}
-use Prim.Native.Nat.{◌+◌, ◌-◌}
+use Prim.Native.Nat.{◌+◌}
 use native.Mathlib.Numerals.{add-one}
 use native.Mathlib.Omega.{arith}
 use lib.ListN.{get_or, set, length-set}
@@ -16,7 +16,7 @@ use Rattle.edit_walk.proofs.count_sites.Goals.{then-site-lt-SITES, else-site-lt-
 
 pub loop-i-init : goal.loop-i-init
 unfolding edits_of
-loop-i-init c = (omega arith, search rules, counted_none)
+loop-i-init c = (search rules, counted_none)
 
 pub overflow_add-counts : goal.overflow_add-counts
 overflow_add-counts c =
@@ -24,7 +24,7 @@ overflow_add-counts c =
     let rs = c.args.recs.now in
     omega (
       arith,
-      counted-few l.counts (edits_of rs l.i) l.invariant.1 l.invariant.2 c.byte_at-site.result,
+      counted-few l.counts (edits_of rs l.i) l.invariant.0 l.invariant.1 c.byte_at-site.result,
       edits-length rs l.i,
     )
 
@@ -39,13 +39,7 @@ loop-i-preserved c =
       | then-site-lt-SITES w ↦ w.counts-is
       | else-site-lt-SITES w ↦ w.counts-is ∙ sym (set_out l.counts site more (omega arith))
     ] in (
-      omega arith,
-      rw e (simp length-set l.invariant.1),
+      rw e (simp length-set l.invariant.0),
       rw (add-one, e, c.byte_at-site.ensures, ← site-in-place rs l.i)
-          (unfold edits_of in counted-more l.counts (edits_of rs l.i) l.invariant.1 l.invariant.2 (record_at rs l.i)),
+          (unfold edits_of in counted-more l.counts (edits_of rs l.i) l.invariant.0 l.invariant.1 (record_at rs l.i)),
     )
-
-pub returns : goal.returns
-returns c =
-    let k : c.loop-i.i ≡ c.args.n = omega arith in
-    rw (← k) c.loop-i.invariant.2

@@ -2,11 +2,10 @@
 use mathlib.Core.Path.{◌≡◌}
 use mathlib.Core.Bool.{Bool, not, ◌&&◌, ◌||◌}
 use mathlib.Core.List.{List}
-use Prim.Native.Nat.{ℕ, ◌≤◌, ◌-◌}
+use Prim.Native.Nat.{ℕ}
 use lib.ListN.{get_or}
 use lib.Dec.{eqb}
 use Rattle.math_lists.specs.NumbersBelow.{some}
-use Rattle.edit_record.specs.Layout.{most_sites}
 use Rattle.edit_history.specs.Answers2to5.{larger_somewhere}
 use Rattle.edit_walk.specs.WalkForms.{seen_before, torn_by}
 use Rattle.edit_walk.proofs.is_torn_by_news.Given as goal
@@ -18,7 +17,4 @@ is_news recs places w seen was t =
 
 abbrev pub invariant-loop-t : goal.invariant-loop-t
 invariant-loop-t l =
-    (l.t ≤ most_sites) × (l.found ≡ (larger_somewhere l.was l.w || some l.t (is_news l.recs l.places l.w (seen_before l.w l.s) l.was)))
-
-abbrev pub decreases-loop-t : goal.decreases-loop-t
-decreases-loop-t l = most_sites - l.t
+    l.found ≡ (larger_somewhere l.was l.w || some l.t (is_news l.recs l.places l.w (seen_before l.w l.s) l.was))

@@ -51,33 +51,10 @@ module _ (s : (Lts.Start Tie.the-claims Reads.Pre Reads.Post)) where
   places-long : length s.args.places.now ≡ places_length
   places-long = let (sites, room, few, w, goes) = s.requires.2 in w.spaced.entries
 
-pub overflow_cast-own : goal.overflow_cast-own
-overflow_cast-own c = omega (arith, own-counts c.before.before.before.before.before)
-
-pub offset_bounds-places-own : goal.offset_bounds-places-own
-offset_bounds-places-own c = omega (arith, own-counts c.before.before.before.before.before)
-
-pub bounds-places-own : goal.bounds-places-own
-bounds-places-own c =
-    let s = c.before.before.before.before.before.before in
-    omega (arith, own-counts s, places-long s)
-
-pub overflow_cast-places-2 : goal.overflow_cast-places-2
-overflow_cast-places-2 c = omega (arith, slot-fits c.before.before.before.before.before.before.before)
-
-pub overflow_add-places : goal.overflow_add-places
-overflow_add-places c = omega (arith, slot-fits c.before.before.before.before.before.before.before, c.pair_at-seq.ensures)
-
-pub offset_bounds-places-start : goal.offset_bounds-places-start
-offset_bounds-places-start c = omega (arith, slot-fits c.before.before.before.before.before.before.before, c.pair_at-seq.ensures)
-
 pub bounds-places-start : goal.bounds-places-start
 bounds-places-start c =
     let s = c.before.before.before.before.before.before.before in
     omega (arith, slot-fits s, places-long s, c.pair_at-seq.ensures)
-
-pub offset_bounds-held-own : goal.offset_bounds-held-own
-offset_bounds-held-own c = omega (arith, own-counts c.before.before.before.before.before.before.before)
 
 pub bounds-held-own : goal.bounds-held-own
 bounds-held-own c =
@@ -86,9 +63,6 @@ bounds-held-own c =
 
 pub overflow_add-held : goal.overflow_add-held
 overflow_add-held c = omega (arith, few-counted c.before.before.before.before.before.before.before.before)
-
-pub offset_bounds-held-own-2 : goal.offset_bounds-held-own-2
-offset_bounds-held-own-2 c = omega (arith, own-counts c.before.before.before.before.before.before.before.before)
 
 pub bounds-held-own-2 : goal.bounds-held-own-2
 bounds-held-own-2 c =

@@ -2,7 +2,7 @@
 -- nothing.
 use mathlib.Core.Path.{◌≡◌}
 use mathlib.Core.List.{List}
-use Prim.Native.Nat.{ℕ, ◌+◌, ◌≤◌, ◌-◌}
+use Prim.Native.Nat.{ℕ, ◌+◌}
 use lib.ListN.{length, get_or}
 use Rattle.math_lists.specs.NumbersBelow.{sum}
 use Rattle.edit_record.specs.Layout.{most_sites}
@@ -15,10 +15,6 @@ room_of counts s = get_or counts s 0
 
 abbrev pub invariant-loop-s : goal.invariant-loop-s
 invariant-loop-s l =
-    (l.s ≤ most_sites)
-    × (length l.places ≡ places_length)
-    × (l.at ≡ most_sites + sum l.s (room_of l.counts))
-    × Started (room_of l.counts) l.places l.s
-
-abbrev pub decreases-loop-s : goal.decreases-loop-s
-decreases-loop-s l = most_sites - l.s
+    (length l.places ≡ places_length)
+    × (l.at ≡ most_sites + sum l.s (room_of l.n-items))
+    × Started (room_of l.n-items) l.places l.s

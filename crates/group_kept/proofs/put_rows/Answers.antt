@@ -2,7 +2,7 @@
 -- proper. Assumes nothing.
 use mathlib.Core.Path.{◌≡◌, refl, sym, ap, subst, ◌∙◌}
 use mathlib.Core.List.{List, [], ◌∷◌}
-use Prim.Native.Nat.{◌-◌, ◌<◌}
+use Prim.Native.Nat.{◌<◌}
 use native.Mathlib.Numerals.{add-one}
 use native.Mathlib.Omega.{arith}
 use lib.ListN.{length, get_or, drop}
@@ -20,7 +20,6 @@ use Rattle.group_kept.proofs.put_rows.Goals as goal
 pub loop-i-init : goal.loop-i-init
 loop-i-init c =
     let rows = c.args.rows.now in (
-      omega arith,
       refl,
       λ p. record { tell = no_rows rows (drop contexts_at rows); sees = none-sees (drop sees_at rows) },
     )
@@ -33,7 +32,7 @@ noted_at-t-requires c =
       omega (arith, s.requires.0, more),
       omega (arith, s.requires.1, more),
       omega (arith, s.requires.2, more),
-      l.invariant.1 ∙ s.requires.3,
+      l.invariant.0 ∙ s.requires.3,
       λ j m. s.requires.4 j (omega (arith, more)),
     )
 
@@ -42,7 +41,7 @@ put_down-requires c =
     let s = c in
     let l = c.loop-i in
     let more = c.loop-i-test.true in
-    (omega (arith, s.requires.0, more), l.invariant.1 ∙ s.requires.3, c.noted_at-t.ensures.0)
+    (omega (arith, s.requires.0, more), l.invariant.0 ∙ s.requires.3, c.noted_at-t.ensures.0)
 
 pub loop-i-preserved : goal.loop-i-preserved
 loop-i-preserved c =
@@ -56,11 +55,10 @@ loop-i-preserved c =
     let e = record_at rs (get_or ps l.i 0) in
     let there : l.i < length ps = omega (arith, more, s.requires.1) in
     let grown = ap (sets_in rs ps) (add-one l.i) ∙ sets_more rs ps l.i there in (
-      omega (arith, more),
-      put.auto.rows ∙ l.invariant.1,
+      put.auto.rows ∙ l.invariant.0,
       λ proper.
           let p = subst Proper grown proper in
-          let before = l.invariant.2 (first-proper ms (e ∷ []) p) in
+          let before = l.invariant.1 (first-proper ms (e ∷ []) p) in
           subst (λ (xs : List Edit). RowsKept xs put.new.rows) (sym grown)
           (put.ensures ms e (sets-length rs ps l.i (omega (arith, there))) before
           (c.noted_at-t.ensures.1 p before)),
@@ -73,5 +71,5 @@ returns c proper =
     let done : l.i ≡ a.k = omega arith in
     let kept : Proper (sets_in a.recs.now a.places.now a.k)
     → RowsKept (sets_in a.recs.now a.places.now a.k) l.rows
-    = rw done at l.invariant.2 in
+    = rw done at l.invariant.1 in
     kept proper

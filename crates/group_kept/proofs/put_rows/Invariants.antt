@@ -1,7 +1,6 @@
 -- `group_kept::put_rows` meets its contract: after i places, the rows of their Sets are put down, where these are
 -- proper. Assumes nothing.
 use mathlib.Core.Path.{◌≡◌}
-use Prim.Native.Nat.{◌-◌, ◌≤◌}
 use lib.ListN.{length}
 use Rattle.edit_causal.specs.ConflictForms.{Proper}
 use Rattle.group_sight.specs.SightForms.{sets_in}
@@ -10,9 +9,5 @@ use Rattle.group_kept.proofs.put_rows.Given as goal
 
 abbrev pub invariant-loop-i : goal.invariant-loop-i
 invariant-loop-i l =
-    (l.i ≤ l.k)
-    × (length l.rows ≡ length l.initial.rows)
+    (length l.rows ≡ length l.initial.rows)
     × (Proper (sets_in l.recs l.places l.i) → RowsKept (sets_in l.recs l.places l.i) l.rows)
-
-abbrev pub decreases-loop-i : goal.decreases-loop-i
-decreases-loop-i l = l.k - l.i

@@ -1,7 +1,7 @@
 -- `group_limited::are_named_with` meets its contract: 16 is given to none of the Sets passed, whose rows are put down.
 -- Assumes nothing.
 use mathlib.Core.Path.{◌≡◌, refl, sym, ◌∙◌}
-use Prim.Native.Nat.{◌-◌, ◌%◌, ◌≤◌, ◌<◌}
+use Prim.Native.Nat.{◌%◌, ◌≤◌, ◌<◌}
 use native.Mathlib.Omega.{arith}
 use lib.ListN.{length, get_or, length-set}
 use Rattle.math_lists.proofs.Booleans.{clash}
@@ -16,7 +16,6 @@ use Rattle.group_limited.proofs.are_named_with.Goals as goal
 pub loop-i-init : goal.loop-i-init
 loop-i-init c =
     let a = c.args in (
-      omega arith,
       refl,
       refl,
       refl,
@@ -31,7 +30,7 @@ sight_at-s-requires c =
       omega (arith, s.requires.0, more),
       omega (arith, s.requires.1, more),
       omega (arith, s.requires.2, more),
-      omega (arith, l.invariant.3, s.requires.5, more),
+      omega (arith, l.invariant.2, s.requires.5, more),
       λ j m. s.requires.6 j (omega (arith, more)),
     )
 
@@ -51,7 +50,7 @@ returns-then-is_nameless c law =
     let fits : a.k ≤ length ps = s.requires.1 in
     let e = record_at rs (get_or ps l.i 0) in
     let size = sets-length rs ps l.i (omega arith) in
-    let (tell, sees, before) = l.invariant.4 law in
+    let (tell, sees, before) = l.invariant.3 law in
     let seen = sight.ensures.1 sees (lawful-to rs ps a.k fits l.i more e refl law) in
     let its = own.ensures _ _ (omega (arith, size, s.requires.0)) tell seen in
     let told = named-where-told rs ps a.k fits l.i more q.result
@@ -71,8 +70,8 @@ put_told-requires c =
     let s = far in
     let more = back.loop-i-test.true in (
       omega (arith, s.requires.0, more),
-      omega (arith, l.invariant.1, s.requires.3, more),
-      omega (arith, l.invariant.2, s.requires.4, more),
+      omega (arith, l.invariant.0, s.requires.3, more),
+      omega (arith, l.invariant.1, s.requires.4, more),
       t.sight_at-s.ensures.0,
     )
 
@@ -82,7 +81,7 @@ bounds-sees-i c =
     let far = back in
     let l = far.loop-i in
     let s = far in
-    omega (arith, l.invariant.3, s.requires.5, far.loop-i-test.true)
+    omega (arith, l.invariant.2, s.requires.5, far.loop-i-test.true)
 
 pub loop-i-preserved : goal.loop-i-preserved
 loop-i-preserved c =
@@ -101,12 +100,11 @@ loop-i-preserved c =
     let fits : a.k ≤ length ps = s.requires.1 in
     let e = record_at rs (get_or ps l.i 0) in
     let size = sets-length rs ps l.i (omega arith) in (
-      omega (arith, more),
-      p.auto.plain ∙ l.invariant.1,
-      p.auto.ctx ∙ l.invariant.2,
-      length-set l.sees (l.i % most_recent) sight.result.seen ∙ l.invariant.3,
+      p.auto.plain ∙ l.invariant.0,
+      p.auto.ctx ∙ l.invariant.1,
+      length-set l.sees (l.i % most_recent) sight.result.seen ∙ l.invariant.2,
       λ law.
-          let (tell, sees, before) = l.invariant.4 law in
+          let (tell, sees, before) = l.invariant.3 law in
           let seen = sight.ensures.1 sees (lawful-to rs ps a.k fits l.i more e refl law) in
           let its = own.ensures _ _ (omega (arith, size, s.requires.0)) tell seen in
           let free = sym
@@ -117,7 +115,7 @@ loop-i-preserved c =
             rows_more rs ps l.i (omega arith) sight.result.plain own.result l.plain l.ctx p.new.plain
                 p.new.ctx tell seen.plain context p.ensures,
             sees_more rs ps l.i (omega arith) l.sees sight.result.seen sees seen.seen
-                (omega (arith, l.invariant.3, s.requires.5)),
+                (omega (arith, l.invariant.2, s.requires.5)),
             passed-one-more rs ps l.i free before,
           ),
     )
@@ -126,7 +124,7 @@ pub returns : goal.returns
 returns c law =
     let l = c.loop-i in
     let a = c.args in
-    let (tell, sees, before) = l.invariant.4 law in
+    let (tell, sees, before) = l.invariant.3 law in
     let k : l.i ≡ a.k = omega arith in
     record {
       named = sym (in-turn-on a.recs.now a.places.now a.k (omega arith) (λ j m. before j (omega arith)));

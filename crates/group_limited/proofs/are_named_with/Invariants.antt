@@ -2,7 +2,7 @@
 -- Assumes nothing.
 use mathlib.Core.Path.{◌≡◌}
 use mathlib.Core.Bool.{false}
-use Prim.Native.Nat.{ℕ, ◌-◌, ◌≤◌, ◌<◌}
+use Prim.Native.Nat.{ℕ, ◌<◌}
 use lib.ListN.{length}
 use Rattle.math_contexts.specs.Box.{Lawful}
 use Rattle.edit_causal.specs.Conflict.{box_on}
@@ -13,14 +13,7 @@ use Rattle.group_limited.proofs.are_named_with.Given as goal
 
 abbrev pub invariant-loop-i : goal.invariant-loop-i
 invariant-loop-i l =
-    (l.i ≤ l.k)
-    × (length l.plain ≡ length l.initial.plain)
+    (length l.plain ≡ length l.initial.plain)
     × (length l.ctx ≡ length l.initial.ctx)
     × (length l.sees ≡ length l.initial.sees)
-    × (Lawful (box_on (sets_in l.recs l.places l.k)) l.k →
-    RowsTell (sets_in l.recs l.places l.i) l.plain l.ctx
-    × SeesTell (sets_in l.recs l.places l.i) l.sees
-    × ((j : ℕ) → j < l.i → nameless l.recs l.places j ≡ false))
-
-abbrev pub decreases-loop-i : goal.decreases-loop-i
-decreases-loop-i l = l.k - l.i
+    × (Lawful (box_on (sets_in l.recs l.places l.k)) l.k → RowsTell (sets_in l.recs l.places l.i) l.plain l.ctx × SeesTell (sets_in l.recs l.places l.i) l.sees × ((j : ℕ) → j < l.i → nameless l.recs l.places j ≡ false))

@@ -33,13 +33,6 @@ bounds-plain-j c =
     let (b, few) = first-left c.loop-left-test.true l.invariant.0 s.requires.2 s.ranges.row.fits in
     omega (arith, l.invariant.1)
 
-pub offset_bounds-plain-j-in-loop-left : goal.offset_bounds-plain-j-in-loop-left
-offset_bounds-plain-j-in-loop-left c =
-    let l = c.loop-left in
-    let s = c in
-    let (b, few) = first-left c.loop-left-test.true l.invariant.0 s.requires.2 s.ranges.row.fits in
-    record { fits = omega arith }
-
 pub bounds-plain-j-in-loop-left : goal.bounds-plain-j-in-loop-left
 bounds-plain-j-in-loop-left c =
     let l = c.loop-left in

@@ -31,14 +31,12 @@ returns-then-kind_at-ne-CREATE c chained law =
 
 pub is_any_limited-limited-requires : goal.is_any_limited-limited-requires
 is_any_limited-limited-requires c =
-    let back = c in
     let g = c.gather_sets-k in
-    let s = back in
-    omega (arith, g.ensures.0, g.auto.out, s.requires.3)
+    omega (arith, g.ensures.0, g.auto.out)
 
-pub returns-then-not-limited-rows : goal.returns-then-not-limited-rows
+pub returns-then-not-limited-asked : goal.returns-then-not-limited-asked
 unfolding is_named_at
-returns-then-not-limited-rows c chained law =
+returns-then-not-limited-asked c chained law =
     let g = c.gather_sets-k in
     let y = c in
     let s = y in
@@ -51,22 +49,20 @@ returns-then-not-limited-rows c chained law =
     let same = gathered rs a.p a.n g.result a.chain.now g.new.out s.requires.1 create chained
     (s.requires.2 e.site e.seq) g.ensures.1 in
     let i = c.is_any_limited-limited in
-    let (none, plainly) = neither i.result a.rows (not-true (i.result || a.rows) c.if-not-limited-rows.true-raw) in (
+    let (none, plainly) = neither i.result a.asked (not-true (i.result || a.asked) c.if-not-limited-asked.true-raw) in (
       rw create (sym (plain-in-turn ms (sym (ap (any is_limited) same) ∙ sym i.ensures ∙ none))),
       λ asked. clash asked plainly,
     )
 
 pub are_named-requires : goal.are_named-requires
 are_named-requires c =
-    let y = c in
-    let g = y.gather_sets-k in
-    let s = y in (
+    let g = c.gather_sets-k in (
       g.ensures.0,
-      omega (arith, g.ensures.0, g.auto.out, s.requires.3),
-      omega (arith, g.ensures.0, s.requires.7),
-      omega (arith, g.ensures.0, s.requires.4),
-      omega (arith, g.ensures.0, s.requires.5),
-      omega (arith, g.ensures.0, s.requires.6),
+      omega (arith, g.ensures.0, g.auto.out),
+      omega (arith, g.ensures.0),
+      omega (arith, g.ensures.0),
+      omega (arith, g.ensures.0),
+      omega arith,
     )
 
 pub returns : goal.returns
@@ -89,7 +85,7 @@ returns c chained law =
     (s.requires.2 e.site e.seq) g.ensures.1 in
     let size : length ms ≡ g.result
     = ap length (sym same)
-    ∙ sets-length rs g.new.out g.result (omega (arith, g.ensures.0, g.auto.out, s.requires.3)) in
+    ∙ sets-length rs g.new.out g.result (omega (arith, g.ensures.0, g.auto.out)) in
     let lawful = subst (λ (m : List Edit). Lawful (box_on m) g.result) (sym same)
     (subst (Lawful (box_on ms)) size (law e.site e.seq)) in
     let by = named.ensures.1 lawful in (

@@ -1,7 +1,7 @@
 -- `group_sight::listed_among` meets its contract: after i members, those of them are told. Assumes nothing.
 use mathlib.Core.Path.{◌≡◌, refl, sym, ap, ap₂, ◌∙◌}
 use mathlib.Core.List.{List, map}
-use Prim.Native.Nat.{ℕ, ◌-◌, ◌<◌}
+use Prim.Native.Nat.{ℕ, ◌<◌}
 use native.Mathlib.Numerals.{add-one}
 use native.Mathlib.Omega.{arith}
 use lib.Bits.{bit_or}
@@ -20,7 +20,7 @@ pub loop-i-init : goal.loop-i-init
 unfolding any
 loop-i-init c =
     let a = c.args in
-    (omega arith, none-listed a.names.now a.k, refl)
+    (none-listed a.names.now a.k, refl)
 
 pub member_of-requires : goal.member_of-requires
 member_of-requires c =
@@ -43,9 +43,8 @@ loop-i-preserved c =
     let its : c.marks_of_name-m.result ≡ marks_of_name ns a.k (name_in (get_or ms l.i 0)) =
     c.marks_of_name-m.ensures
     ∙ ap (marks_of_name ns a.k) (c.name_in.ensures ∙ ap name_in c.member_of.ensures) in (
-      omega (arith, c.loop-i-test.true),
-      ap₂ bit_or l.invariant.1 its ∙ listed_more ns ms a.k l.i fits,
-      rw (l.invariant.2, its)
+      ap₂ bit_or l.invariant.0 its ∙ listed_more ns ms a.k l.i fits,
+      rw (l.invariant.1, its)
           (sym (rw (add-one l.i) (any-more name_in 0 ms l.i fits (is_unseen ns a.k a.seen)))),
     )
 
@@ -64,6 +63,6 @@ returns c =
     ap (λ (j : ℕ). take j e.members) done
     ∙ n.ensures.1 e.members (members-length a.rec.now)
     ∙ ap (λ (j : ℕ). take j e.members) count in (
-      l.invariant.1 ∙ ap (λ (xs : List ℕ). mask a.k (λ j. elem (get_or ns j 0) (map name_in xs))) all,
-      l.invariant.2 ∙ ap (λ (xs : List ℕ). any (is_unseen ns a.k a.seen) (map name_in xs)) all,
+      l.invariant.0 ∙ ap (λ (xs : List ℕ). mask a.k (λ j. elem (get_or ns j 0) (map name_in xs))) all,
+      l.invariant.1 ∙ ap (λ (xs : List ℕ). any (is_unseen ns a.k a.seen) (map name_in xs)) all,
     )

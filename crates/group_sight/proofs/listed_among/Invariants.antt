@@ -1,7 +1,6 @@
 -- `group_sight::listed_among` meets its contract: after i members, those of them are told. Assumes nothing.
 use mathlib.Core.Path.{◌≡◌}
 use mathlib.Core.List.{map}
-use Prim.Native.Nat.{◌-◌, ◌≤◌}
 use lib.ListN.{get_or, take}
 use Rattle.math_lists.specs.NumbersBelow.{mask}
 use Rattle.math_lists.specs.SortedLists.{any, elem}
@@ -12,9 +11,5 @@ use Rattle.group_sight.proofs.listed_among.Given as goal
 
 abbrev pub invariant-loop-i : goal.invariant-loop-i
 invariant-loop-i l =
-    (l.i ≤ l.n)
-    × (l.named ≡ mask l.k (λ j. elem (get_or l.names j 0) (map name_in (take l.i (decode_of l.rec).members))))
+    (l.named ≡ mask l.k (λ j. elem (get_or l.names j 0) (map name_in (take l.i (decode_of l.rec).members))))
     × (l.strange ≡ any (is_unseen l.names l.k l.seen) (map name_in (take l.i (decode_of l.rec).members)))
-
-abbrev pub decreases-loop-i : goal.decreases-loop-i
-decreases-loop-i l = l.n - l.i

@@ -1,39 +1,34 @@
--- `group_sight::marks_one_by_one` meets its contract: after i names, those of them are marked. Assumes
--- nothing.
-use mathlib.Core.Path.{◌≡◌, refl, sym}
-use Prim.Native.Nat.{◌-◌}
-use native.Mathlib.Numerals.{add-one}
-use native.Mathlib.Omega.{arith}
+-- `group_sight::marks_one_by_one` meets its contract: after i names, those of them are marked. Assumes nothing.
+use Rattle.std.proofs.Common.{◌≡◌, sym, refl, ◌<◌, get_or, add-one, arith}
+use Rattle.std.proofs.lemmas.List.{length-take-le, get_or-take}
 use lib.Dec.{eqb}
-use lib.ListN.{get_or}
-use Rattle.math_lists.specs.NumbersBelow.{mask, sum}
+use Rattle.math_lists.specs.NumbersBelow.{sum, mask}
 use Rattle.math_lists.proofs.NumbersBelow.{mask-more, mask_below}
 use Rattle.group_sight.proofs.marks_one_by_one.Goals as goal
 
 pub loop-i-init : goal.loop-i-init
 unfolding mask sum
-loop-i-init c = (omega arith, refl)
+loop-i-init c = refl
 
 pub marked_if-m-requires : goal.marked_if-m-requires
 marked_if-m-requires c =
-    let s = c in
+    let a = c.args in
     let l = c.loop-i in (
-      rw l.invariant.1 (mask_below l.i (λ j. eqb (get_or s.args.names.now j 0) s.args.x)),
-      λ y. omega (arith, s.requires.0),
+      rw l.invariant (mask_below l.i (λ j. eqb (get_or a.names.now j 0) a.x)),
+      λ y. omega (arith, c.requires.0, length-take-le a.k a.names.now c.requires.1),
     )
 
 pub loop-i-preserved : goal.loop-i-preserved
 loop-i-preserved c =
     let a = c.args in
-    let l = c.loop-i in (
-      omega arith,
-      rw (c.marked_if-m.ensures, l.invariant.1, add-one l.i)
-          (sym (mask-more l.i (λ j. eqb (get_or a.names.now j 0) a.x))),
-    )
+    let l = c.loop-i in
+    let ns = a.names.now in
+    let more : l.i < a.k = omega (arith, length-take-le a.k ns c.requires.1) in
+    rw (c.marked_if-m.ensures, get_or-take a.k ns l.i 0 more, l.invariant, add-one l.i)
+    (sym (mask-more l.i (λ j. eqb (get_or ns j 0) a.x)))
 
 pub returns : goal.returns
 returns c =
-    let l = c.loop-i in
     let a = c.args in
-    let done : l.i ≡ a.k = omega arith in
-    rw (← done) l.invariant.1
+    let done : c.loop-i.i ≡ a.k = omega (arith, length-take-le a.k a.names.now c.requires.1) in
+    rw (← done) c.loop-i.invariant

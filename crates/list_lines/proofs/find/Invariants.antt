@@ -1,6 +1,5 @@
 -- `list_lines::find` meets its contract: objects are passed until the line is one of an object's own. Assumes
 -- nothing.
-use Prim.Native.Nat.{◌-◌, ◌≤◌}
 use lib.ListN.{take}
 use lib.Seq.{slice}
 use Rattle.table_drawing.specs.Tables.{tables_of}
@@ -10,9 +9,4 @@ use Rattle.list_lines.proofs.find.Given as goal
 
 abbrev pub invariant-loop-i : goal.invariant-loop-i
 invariant-loop-i l =
-    (l.i ≤ l.c.objects)
-    × LeftOf (lines_for (tables_of l.c l.records l.objects l.groups)) (take l.c.objects l.order) l.k
-    (slice l.i l.c.objects l.order) l.left
-
-abbrev pub decreases-loop-i : goal.decreases-loop-i
-decreases-loop-i l = l.c.objects - l.i
+    LeftOf (lines_for (tables_of l.fn.c l.records l.objects l.groups)) (take l.fn.c.objects l.order) l.k (slice l.i l.fn.c.objects l.order) l.left

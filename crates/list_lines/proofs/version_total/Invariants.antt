@@ -1,12 +1,9 @@
 -- `list_lines::version_total` meets its contract: what is added up so far, which stays small. Assumes nothing.
 use mathlib.Core.Path.{◌≡◌}
-use Prim.Native.Nat.{◌-◌, ◌*◌, ◌≤◌}
+use Prim.Native.Nat.{◌*◌, ◌≤◌}
 use Rattle.math_lists.specs.NumbersBelow.{sum}
 use Rattle.table_drawing.specs.Tables.{groups_at}
 use Rattle.list_lines.proofs.version_total.Given as goal
 
 abbrev pub invariant-loop-o : goal.invariant-loop-o
-invariant-loop-o l = (l.o ≤ l.m) × (l.total ≤ l.o * 65536) × (l.total ≡ sum l.o (groups_at l.objects))
-
-abbrev pub decreases-loop-o : goal.decreases-loop-o
-decreases-loop-o l = l.m - l.o
+invariant-loop-o l = (l.total ≤ l.o * 65536) × (l.total ≡ sum l.o (groups_at l.objects))

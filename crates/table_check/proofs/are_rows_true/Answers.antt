@@ -1,6 +1,5 @@
 -- `table_check::are_rows_true` meets its contract. Assumes nothing.
 use mathlib.Core.Path.{◌≡◌, refl}
-use Prim.Native.Nat.{◌-◌}
 use native.Mathlib.Numerals.{add-one}
 use native.Mathlib.Omega.{arith}
 use Rattle.math_lists.specs.NumbersBelow.{all}
@@ -24,7 +23,7 @@ chain_sets-requires c =
 
 pub loop-o-init : goal.loop-o-init
 unfolding all
-loop-o-init c = (omega arith, refl)
+loop-o-init c = (refl)
 
 pub is_row_true-right-requires : goal.is_row_true-right-requires
 is_row_true-right-requires c =
@@ -33,7 +32,7 @@ is_row_true-right-requires c =
 
 pub loop-o-preserved : goal.loop-o-preserved
 unfolding all
-loop-o-preserved c = (omega arith, rw (add-one, c.loop-o.invariant.1, c.is_row_true-right.ensures))
+loop-o-preserved c = (rw (add-one, c.loop-o.invariant, c.is_row_true-right.ensures))
 
 pub returns : goal.returns
 unfolding rows_stand
@@ -41,4 +40,4 @@ returns c =
     let l = c.loop-o in
     let s = c in
     let k : l.o ≡ s.args.c.objects = omega arith in
-    rw (← k) l.invariant.1
+    rw (← k) l.invariant

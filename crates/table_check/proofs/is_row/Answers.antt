@@ -1,21 +1,25 @@
--- `table_check::is_row` meets its contract: the part that is lent is the groups in use. Assumes nothing.
-use mathlib.Core.Path.{sym, ap, ◌∙◌}
-use mathlib.Core.List.{List}
-use Prim.Native.Nat.{ℕ}
-use lib.ListN.{take}
-use lib.Seq.{length-take-le}
+-- `table_check::is_row` meets its contract: the library's test of two rows is that of their places. Assumes nothing.
+use Rattle.std.proofs.Common.{◌≡◌, ◌∙◌, ap, subst, Bool, true, List, ℕ, take}
+use Rattle.std.proofs.lemmas.Bool.Decides.{Decides-eqb}
+use Rattle.std.proofs.lemmas.Slice.Eq.{slice_eq-Decides}
+use lib.Dec.{eqb}
+use lib.Pointwise.{pointwise}
 use Rattle.math_lists.specs.NumbersBelow.{same_list}
+use Rattle.math_lists.proofs.Booleans.{same_test}
+use Rattle.math_lists.proofs.ByPlaces.{list-equal, same_self}
 use Rattle.table_check.proofs.RowWorkedOut.{part-is}
 use Rattle.table_check.proofs.is_row.Goals as goal
 
-pub slice_bounds-is_same-end-2 : goal.slice_bounds-is_same-end-2
-slice_bounds-is_same-end-2 c =
-    let s = c in
-    sym (length-take-le s.args.r s.args.gs.now s.requires.2)
+rows-same : (xs ys : List ℕ) (r : Bool) → r ≡ pointwise eqb xs ys → r ≡ same_list xs ys
+rows-same xs ys r h =
+    let (same, agree) = slice_eq-Decides Decides-eqb xs ys r h in
+    same_test r (same_list xs ys)
+    (λ t. subst (λ (l : List ℕ). same_list xs l ≡ true) (same t) (same_self xs))
+    (λ t. agree (list-equal xs ys t))
 
 pub returns : goal.returns
 returns c =
-    let s = c in
-    let a = s.args in
-    c.is_same.ensures
-    ∙ ap (λ (l : List ℕ). same_list l (take a.r a.gs.now)) (part-is a.groups.now a.o a.g s.requires.1)
+    let a = c.args in
+    let made = take a.r a.gs.now in
+    rows-same _ made _ c.eq.ensures
+    ∙ ap (λ (l : List ℕ). same_list l made) (part-is a.groups.now a.o a.g c.requires.1)

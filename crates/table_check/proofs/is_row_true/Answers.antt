@@ -19,8 +19,8 @@ gather_sets-requires c =
     let t = tables_of a.c a.records.now a.objects.now a.groups.now in
     few-sets t (but-at t s.requires.0) a.o s.requires.1 p.result k.result p.ensures k.ensures
 
-pub work_out-r-requires : goal.work_out-r-requires
-work_out-r-requires c =
+pub work_out-requires : goal.work_out-requires
+work_out-requires c =
     let b = c in
     let s = b in
     let a = s.args in
@@ -40,8 +40,8 @@ work_out-r-requires c =
       places-told t sound a.o s.requires.1 p.result k.result p.ensures k.ensures _ room e,
     )
 
-pub returns-then-r-gt-GROUPS : goal.returns-then-r-gt-GROUPS
-returns-then-r-gt-GROUPS c =
+pub returns-in_default : goal.returns-in_default
+returns-in_default c =
     let b = c in
     let s = b in
     let a = s.args in
@@ -54,9 +54,7 @@ returns-then-r-gt-GROUPS c =
     let few = few-sets t sound a.o s.requires.1 p.result k.result p.ensures k.ensures in
     let g = b.gather_sets in
     let room : k.result ≤ length g.new.members = omega (arith, g.auto.members) in
-    let w = c.work_out-r in
-    too_many t sound a.o s.requires.1 p.result k.result p.ensures k.ensures _ _ w.result room e
-    w.ensures c.if-r-gt-GROUPS.true
+    too_many t sound a.o s.requires.1 p.result k.result p.ensures k.ensures _ room e c.in_default.ensures
 
 pub is_row-requires : goal.is_row-requires
 is_row-requires c =
@@ -69,7 +67,7 @@ is_row-requires c =
     let sound = but-at t s.requires.0 in (
       row-fits-in t sound a.o s.requires.1 p.result k.result p.ensures k.ensures,
       rw b.at16-g.ensures (sound.object a.o s.requires.1).row.few,
-      omega (arith, c.work_out-r.auto.gs),
+      omega (arith, c.work_out.auto.gs, c.in-Some.ensures.0),
     )
 
 pub returns : goal.returns
@@ -86,6 +84,6 @@ returns c =
     let few = few-sets t sound a.o s.requires.1 p.result k.result p.ensures k.ensures in
     let g = b.gather_sets in
     let room : k.result ≤ length g.new.members = omega (arith, g.auto.members) in
-    let w = c.work_out-r in
-    row-decides t sound a.o s.requires.1 p.result k.result p.ensures k.ensures _ _ w.result room e
-    w.ensures c.is_row.result (omega arith) (rw b.at16-g.ensures at c.is_row.ensures)
+    let (_, turn, front) = c.in-Some.ensures in
+    row-decides t sound a.o s.requires.1 p.result k.result p.ensures k.ensures _ room e _ _ c.is_row.result turn front
+    (rw b.at16-g.ensures at c.is_row.ensures)

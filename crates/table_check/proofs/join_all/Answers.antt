@@ -1,36 +1,33 @@
 -- `table_check::join_all` meets its contract: those passed have the members of m, and the rest is as it was. Assumes
 -- nothing.
-use mathlib.Core.Path.{refl}
-use Prim.Native.Nat.{ℕ, ◌-◌}
-use native.Mathlib.Omega.{arith}
+use Rattle.std.proofs.Common.{◌≡◌, ◌∙◌, ℕ, map, take, drop, length, arith}
+use Rattle.std.proofs.lemmas.List.{length-take-le, take-append-le, drop_all}
 use lib.Bits.{bit_or}
-use lib.ListN.{length-set}
-use Rattle.group_step.proofs.LoopTurns.{made_more, made_all}
-use Rattle.table_check.proofs.JoinedLater.{joined-front}
+use lib.ListN.{length-append, length-drop}
+use lib.Seq.{take_all}
+use mathlib.Core.List.{append-nil}
+use Rattle.table_check.specs.CheckForms.{joined_with}
+use Rattle.group_step.proofs.LoopTurns.{made_more}
 use Rattle.table_check.proofs.join_all.Goals as goal
 
-pub loop-i-init : goal.loop-i-init
-loop-i-init c = (omega arith, refl, refl)
-
-pub loop-i-preserved : goal.loop-i-preserved
-loop-i-preserved c =
-    let l = c.loop-i in
-    let a = c.args in (
-      omega arith,
-      simp length-set l.invariant.1,
-      made_more (λ (g : ℕ). bit_or g a.m) a.gs.now l.gs l.i l.invariant.2 (omega arith),
-    )
-
-pub shape_of-gs : goal.shape_of-gs
-shape_of-gs c = c.loop-i.invariant.1
+pub loop-g-preserved : goal.loop-g-preserved
+loop-g-preserved c =
+    let a = c.args in
+    let l = c.loop-g in
+    made_more (λ (g : ℕ). bit_or g a.m) (take a.n a.gs.now) l.g-items l.g-index l.invariant c.loop-g-test.true
 
 pub returns : goal.returns
+unfolding joined_with
 returns c =
-    let l = c.loop-i in
-    let s = c in
-    let a = s.args in (
-      l.invariant.1,
-      joined-front a.m a.n a.gs.now l.gs s.requires
-          (made_all (λ (g : ℕ). bit_or g a.m) a.gs.now l.gs l.i l.invariant.2 a.n (omega arith)
-          (omega arith)),
+    let a = c.args in
+    let l = c.loop-g in
+    let front = take a.n a.gs.now in
+    let size = length-take-le a.n a.gs.now c.requires in
+    let full : length l.g-items ≡ a.n = omega (arith, size) in
+    let made : l.g-items ≡ map (λ (g : ℕ). bit_or g a.m) front
+    = l.invariant ∙ rw (take_all l.g-index front (omega arith), drop_all l.g-index front (omega arith)) (append-nil _) in (
+      simp (length-append, length-drop) (omega (arith, full, c.requires)),
+      take-append-le a.n l.g-items (drop a.n a.gs.now) (omega (arith, full))
+          ∙ take_all a.n l.g-items (omega (arith, full))
+          ∙ made,
     )

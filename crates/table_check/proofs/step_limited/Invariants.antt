@@ -2,7 +2,7 @@
 -- down. Assumes nothing.
 use mathlib.Core.Path.{◌≡◌}
 use mathlib.Core.Bool.{false}
-use Prim.Native.Nat.{ℕ, ◌-◌, ◌≤◌, ◌<◌}
+use Prim.Native.Nat.{ℕ, ◌≤◌, ◌<◌}
 use lib.ListN.{length, take}
 use Rattle.group_step.specs.GroupRows.{most_groups}
 use Rattle.group_limited.specs.LimitedForms.{RowsTell}
@@ -13,16 +13,10 @@ use Rattle.table_check.proofs.step_limited.Given as goal
 
 abbrev pub invariant-loop-i : goal.invariant-loop-i
 invariant-loop-i l =
-    (l.i ≤ l.k)
-    × (length l.gs ≡ most_groups)
+    (length l.gs ≡ most_groups)
     × (l.n ≤ most_groups)
     × (take l.n l.gs ≡ groups_in l.recs l.places l.i)
-    × (length l.plain ≡ length l.initial.plain)
-    × (length l.ctx ≡ length l.initial.ctx)
-    × (length l.sees ≡ length l.initial.sees)
-    × RowsTell (sets_in l.recs l.places l.i) l.plain l.ctx
-    × SeesTell (sets_in l.recs l.places l.i) l.sees
+    × (l.rows.names ≡ l.initial.rows.names)
+    × RowsTell (sets_in l.recs l.places l.i) l.rows.plain l.rows.contexts
+    × SeesTell (sets_in l.recs l.places l.i) l.rows.sees
     × ((j : ℕ) → j < l.i → nameless l.recs l.places j ≡ false)
-
-abbrev pub decreases-loop-i : goal.decreases-loop-i
-decreases-loop-i l = l.k - l.i

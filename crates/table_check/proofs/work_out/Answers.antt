@@ -1,11 +1,18 @@
 -- `table_check::work_out` meets its contract: the row starts with the empty group, in either way. Assumes nothing.
-use mathlib.Core.Path.{sym, ◌∙◌}
+use Rattle.std.proofs.Common.{Option, Some, None, List, ℕ, sym, ◌∙◌}
 use native.Mathlib.Omega.{arith}
 use lib.ListN.{length-set}
 use lib.Seq.{take-suc-set}
+use Rattle.table_check.specs.CheckForms.{groups_in, ProperInTurn, WorkedOut, WorkedThrough}
 use Rattle.table_check.proofs.SetsInTurn.{none-limited-turn}
-use borrow.Author.Rules.{rules}
 use Rattle.table_check.proofs.work_out.Goals as goal
+
+-- where 16 can be given to none
+worked-through :
+    (rs ms : List ℕ) (k : ℕ) (gs : List ℕ) (r : Option ℕ) → ProperInTurn rs ms k →
+    WorkedOut (groups_in rs ms k) gs r → WorkedThrough rs ms k gs r
+worked-through rs ms k gs None turn many = λ t. many
+worked-through rs ms k gs (Some n) turn (few, front) = (few, turn, front)
 
 pub step_plainly-requires : goal.step_plainly-requires
 step_plainly-requires c =
@@ -35,7 +42,7 @@ returns-then-not-is_any_limited c =
     let a = s.args in
     let none = sym limited.ensures ∙ r.if-not-is_any_limited.true in
     let turn = none-limited-turn a.recs.now a.places.now a.k s.requires.0 s.requires.3 none in
-    record { few = λ h. (turn, r.step_plainly.ensures.few h); many = λ h w. r.step_plainly.ensures.many h }
+    worked-through a.recs.now a.places.now a.k _ _ turn r.step_plainly.ensures
 
 pub step_limited-requires : goal.step_limited-requires
 step_limited-requires c =
@@ -43,13 +50,9 @@ step_limited-requires c =
     let s = back in (
       simp length-set s.requires.2,
       take-suc-set s.args.gs.now 0 0 (omega (arith, s.requires.2)),
-      search rules,
-      search rules,
-      search rules,
       s.requires.0,
       s.requires.1,
       s.requires.3,
-      search rules,
       c.put_names.ensures,
     )
 

@@ -19,13 +19,8 @@ returns-then-not-sites_right c =
 
 pub returns : goal.returns
 returns c =
-    let g = c in
-    let o = g in
-    let r = o in
-    let k = r in
-    let h = k in
-    let a = h.args in
+    let a = c.args in
     opened (tables_of a.c a.records.now a.objects.now a.groups.now) a.n
-    (sym h.lengths_right.ensures ∙ h.if-not-lengths_right.false)
-    (sym k.sites_right.ensures ∙ k.if-not-sites_right.false)
-    r.clear_records.ensures o.clear_objects.ensures g.clear_groups.ensures
+    (sym c.lengths_right.ensures ∙ c.if-not-lengths_right.false)
+    (sym c.sites_right.ensures ∙ c.if-not-sites_right.false)
+    (c.fill.ensures.after (λ _ e. e)) (c.fill-2.ensures.after (λ _ e. e)) (c.fill-3.ensures.after (λ _ e. e))

@@ -16,7 +16,7 @@ returns-then-not-is_sound_but_named c =
     let t = tables_of a.c a.records.now a.objects.now a.groups.now in
     let s = c.is_sound_but_named in
     unsound-prepared (sound t)
-    (sym (but-off t s.result s.ensures.0 (c.if-not-is_sound_but_named.true))) _ _ _ _ _ _ refl
+    (sym (but-off t s.result s.ensures.0 c.if-not-is_sound_but_named.true)) _ _ _ _ _
 
 pub prepare_held-requires : goal.prepare_held-requires
 prepare_held-requires c =

@@ -17,7 +17,7 @@ returns-then-not-is_create_in c =
     none-prepared a.recs.now a.c.records a.s a.q a.long _ _
     (sym (held-there a.recs.now a.c.records a.index.now ix a.s a.q _ x.place_at-p.ensures)
     ∙ sym i.ensures ∙ c.if-not-is_create_in.true)
-    (c.refusal.ensures
+    (c.decided.ensures.0
     ∙ ap (λ (b : Bool). refusal_of b a.long false 0)
     (c.are_all_named-named.ensures a.c.sites h.few-sites h.pass ix))
 
@@ -62,4 +62,4 @@ returns c =
     (sym (held-there a.recs.now a.c.records a.index.now s.requires.1 a.s a.q _ p.ensures)
     ∙ there)
     p.result (sets-there a.recs.now a.c.records a.s a.q p.result there)
-    masked.result masked.ensures put.ensures.1 c.refusal-2.ensures
+    masked.result put.result masked.ensures put.ensures.1 c.decided-2.ensures.0 c.decided-2.ensures.1

@@ -14,13 +14,11 @@ use Rattle.table_engine.specs.Enumeration.{most_decided}
 use Rattle.table_engine.specs.EngineForms.{MasksTell}
 use Rattle.table_engine.proofs.BoxPrepared.{few-of, told_of}
 use borrow.Author.Rules.{rules}
-use Rattle.table_engine.proofs.put_masks.Lts
-use Rattle.table_engine.proofs.put_masks.Tie
-use Rattle.table_engine.proofs.put_masks.Reads
 use Rattle.table_engine.proofs.put_masks.Goals as goal
+use Rattle.table_engine.proofs.put_masks.Goals.{After-are_all_named-named}
 
 -- what `put_plainly` asks, where no Set is limited and they are few enough
-asked : (y : (Lts.After-are_all_named Tie.the-claims Reads.Pre Reads.Post)) →
+asked : (y : After-are_all_named-named) →
     let a = y.args in
     let sets = sets_in a.recs.now a.members.now a.k in
     a.k ≤ most_decided →
@@ -49,7 +47,7 @@ is_any_limited-limited-requires c =
     search (rules, few)
 
 pub put_plainly-requires : goal.put_plainly-requires
-put_plainly-requires c = asked c.before.before.before (omega arith)
+put_plainly-requires c = asked (goal.at.put_plainly-requires c).After-are_all_named-named (omega arith)
 
 pub returns-then-k-eq-DECIDED : goal.returns-then-k-eq-DECIDED
 returns-then-k-eq-DECIDED c =
@@ -65,7 +63,7 @@ returns-then-k-eq-DECIDED c =
     }
 
 pub put_plainly-requires-then-k-lt-DECIDED : goal.put_plainly-requires-then-k-lt-DECIDED
-put_plainly-requires-then-k-lt-DECIDED c = asked c.before.before.before.before (omega arith)
+put_plainly-requires-then-k-lt-DECIDED c = asked (goal.at.put_plainly-requires-then-k-lt-DECIDED c).After-are_all_named-named (omega arith)
 
 pub returns-then-k-lt-DECIDED : goal.returns-then-k-lt-DECIDED
 returns-then-k-lt-DECIDED c =

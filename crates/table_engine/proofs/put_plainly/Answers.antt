@@ -17,7 +17,6 @@ use Rattle.table_engine.proofs.put_plainly.Goals as goal
 pub loop-i-init : goal.loop-i-init
 loop-i-init c =
     let a = c.args in (
-      omega arith,
       refl,
       λ i l. absurd (omega arith),
       refl,
@@ -32,9 +31,9 @@ mark_set-row-requires c =
     let a = s.args in (
       omega (arith, s.requires.1),
       omega (arith, s.requires.0),
-      omega (arith, l.invariant.3),
-      omega (arith, l.invariant.4, s.requires.1),
-      l.invariant.5,
+      omega (arith, l.invariant.2),
+      omega (arith, l.invariant.3, s.requires.1),
+      l.invariant.4,
       λ j m. tells-in-places a.recs.now a.places.now a.k s.requires.0 s.requires.4 l.i j (omega arith) m,
     )
 
@@ -44,7 +43,7 @@ put_row-requires c =
     let s = c in
     let a = s.args in (
       omega (arith, s.requires.1),
-      omega (arith, l.invariant.1, s.requires.2),
+      omega (arith, l.invariant.0, s.requires.2),
       rw c.mark_set-row.ensures.0
           (row_small a.recs.now a.places.now a.k s.requires.0 s.requires.3 l.i (omega arith)),
     )
@@ -56,12 +55,11 @@ loop-i-preserved c =
     let a = s.args in
     let t = c.mark_set-row in
     let p = c.put_row in (
-      omega arith,
-      p.auto.plain ∙ l.invariant.1,
+      p.auto.plain ∙ l.invariant.0,
       masked-more a.recs.now a.places.now a.k s.requires.0 s.requires.3 l.i (omega arith) _
-          t.ensures.0 l.masks p.new.plain l.invariant.2 p.ensures.0 p.ensures.1,
-      t.auto.sets ∙ l.invariant.3,
-      t.auto.tolds ∙ l.invariant.4,
+          t.ensures.0 l.masks p.new.plain l.invariant.1 p.ensures.0 p.ensures.1,
+      t.auto.sets ∙ l.invariant.2,
+      t.auto.tolds ∙ l.invariant.3,
       t.ensures.1,
     )
 
@@ -73,4 +71,4 @@ returns c i l =
     let ps = a.places.now in
     let done : c.loop-i.i ≡ length (sets_in rs ps a.k) =
     sym (sets-length rs ps a.k s.requires.0 ∙ omega arith) in
-    c.loop-i.invariant.2 i (omega arith) ∙ ap (λ (n : ℕ). mask n (conflicts_in (sets_in rs ps a.k) i)) done
+    c.loop-i.invariant.1 i (omega arith) ∙ ap (λ (n : ℕ). mask n (conflicts_in (sets_in rs ps a.k) i)) done

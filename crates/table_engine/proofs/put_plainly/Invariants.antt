@@ -1,7 +1,6 @@
 -- `table_engine::put_plainly` meets its contract: after i places their Sets have their masks, and stand among those of
 -- their keys. Assumes nothing.
 use mathlib.Core.Path.{◌≡◌}
-use Prim.Native.Nat.{◌-◌, ◌≤◌}
 use lib.ListN.{length}
 use Rattle.edit_record.specs.Layout.{keys}
 use Rattle.group_sight.specs.SightForms.{sets_in}
@@ -12,12 +11,8 @@ use Rattle.table_engine.proofs.put_plainly.Given as goal
 
 abbrev pub invariant-loop-i : goal.invariant-loop-i
 invariant-loop-i l =
-    (l.i ≤ l.k)
-    × (length l.masks ≡ length l.initial.masks)
+    (length l.masks ≡ length l.initial.masks)
     × MaskedFirst l.i (sets_in l.recs l.places l.k) l.masks
     × (length l.sets ≡ keys)
     × (length l.tolds ≡ most_decided)
     × MaskedTo l.recs l.places l.i l.sets l.tolds
-
-abbrev pub decreases-loop-i : goal.decreases-loop-i
-decreases-loop-i l = l.k - l.i

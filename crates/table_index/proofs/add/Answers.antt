@@ -19,13 +19,11 @@ use Rattle.table_index.specs.IndexForms.{number_at, is_on}
 use Rattle.table_index.proofs.OneRecordMore.{spot-low, starts-kept, number-low, number_more, create-added}
 use Rattle.table_index.proofs.OneRecordMore.{place-added, target_at, room, low, key-low, set-added}
 use borrow.Author.Rules.{rules}
-use Rattle.table_index.proofs.add.Lts
-use Rattle.table_index.proofs.add.Tie
-use Rattle.table_index.proofs.add.Reads
 use Rattle.table_index.proofs.add.Goals as goal
+use Rattle.table_index.proofs.add.Goals.{Start}
 
 -- the index has room for the record
-room_of : (s : (Lts.Start Tie.the-claims Reads.Pre Reads.Post)) → Spaced (count_in s.args.recs.now (suc s.args.p)) s.args.places.now
+room_of : (s : Start) → Spaced (count_in s.args.recs.now (suc s.args.p)) s.args.ix.now.places
 room_of s = rw add-one at s.requires.3
 
 -- the record in place p is a Set, by the test of its kind
@@ -36,21 +34,21 @@ set_is :
 set_is rs p r is kind on = rw kind at (sym is ∙ not-false r on)
 
 -- what the index has of the Create in place r, the target of a Set
-record Aim (s : (Lts.Start Tie.the-claims Reads.Pre Reads.Post)) (r : ℕ) : Type 0 where
+record Aim (s : Start) (r : ℕ) : Type 0 where
   before : r < s.args.p
   create : is_create (record_at s.args.recs.now r) ≡ true
   on : is_on s.args.recs.now r s.args.p ≡ true
-  number : get_or s.args.numbers.now r 0 ≡ number_at s.args.recs.now r
+  number : get_or s.args.ix.now.numbers r 0 ≡ number_at s.args.recs.now r
   few : number_at s.args.recs.now r < most_objects
-  left : get_or s.args.counts.now (number_at s.args.recs.now r) 0 < most_sets
+  left : get_or s.args.ix.now.counts (number_at s.args.recs.now r) 0 < most_sets
 
-abbrev with-place : (Lts.Start Tie.the-claims Reads.Pre Reads.Post) → List ℕ
+abbrev with-place : Start → List ℕ
 with-place s =
     let e = record_at s.args.recs.now s.args.p in
-    set s.args.places.now (slot_of s.args.places.now e.site.0 e.seq.0) s.args.p
+    set s.args.ix.now.places (slot_of s.args.ix.now.places e.site.0 e.seq.0) s.args.p
 
 aim :
-    (s : (Lts.Start Tie.the-claims Reads.Pre Reads.Post)) → is_set (record_at s.args.recs.now s.args.p) ≡ true → (r : ℕ) →
+    (s : Start) → is_set (record_at s.args.recs.now s.args.p) ≡ true → (r : ℕ) →
     (let e = record_at s.args.recs.now s.args.p in r ≡ place_of (with-place s) e.tsite.0 e.tseq.0) →
     Aim s r
 aim s is r there =
@@ -60,7 +58,7 @@ aim s is r there =
     let x = s.requires.1 in
     let y = room_of s in
     let (q, m, create, on, at)
-    = target_at d rs h a.p l a.places.now a.numbers.now a.counts.now a.chains.now x y is in
+    = target_at d rs h a.p l a.ix.now.places a.ix.now.numbers a.ix.now.counts a.ix.now.chains x y is in
     let e : r ≡ q = there ∙ at in
     subst (Aim s) (sym e)
     (record {
@@ -68,9 +66,9 @@ aim s is r there =
       create = create;
       on = on;
       number = x.numbered q m create;
-      few = low d rs h a.p l a.places.now a.numbers.now a.counts.now a.chains.now x y q m create
+      few = low d rs h a.p l a.ix.now.places a.ix.now.numbers a.ix.now.counts a.ix.now.chains x y q m create
           on;
-      left = room d rs h a.p l a.places.now a.numbers.now a.counts.now a.chains.now x y q m
+      left = room d rs h a.p l a.ix.now.places a.ix.now.numbers a.ix.now.counts a.ix.now.chains x y q m
           create on;
     })
 
@@ -80,32 +78,32 @@ spot-at-requires c =
     let (d, h, l) = s.requires.0 in
     omega (arith, h.few-records, l)
 
-pub offset_bounds-places-at : goal.offset_bounds-places-at
-offset_bounds-places-at c =
+pub offset_bounds-ix-at : goal.offset_bounds-ix-at
+offset_bounds-ix-at c =
     let s = c in
     let a = s.args in
     let (d, h, l) = s.requires.0 in
     let x = s.requires.1 in
-    let y = room_of c.before.before.before.before.before.before.before in
+    let y = room_of (goal.at.offset_bounds-ix-at c).Start in
     let low : c.spot-at.result < places_length
     = rw c.spot-at.ensures
-    (spot-low d a.recs.now h a.p l a.places.now a.numbers.now a.counts.now a.chains.now
+    (spot-low d a.recs.now h a.p l a.ix.now.places a.ix.now.numbers a.ix.now.counts a.ix.now.chains
     x y) in
     search (rules, low)
 
-pub bounds-places-at : goal.bounds-places-at
-bounds-places-at c =
+pub bounds-ix-at : goal.bounds-ix-at
+bounds-ix-at c =
     let s = c in
     let a = s.args in
     let (d, h, l) = s.requires.0 in
     let x = s.requires.1 in
-    let y = room_of c.before.before.before.before.before.before.before in
-    rw (c.spot-at.ensures, x.places-long)
-    (spot-low d a.recs.now h a.p l a.places.now a.numbers.now a.counts.now a.chains.now
+    let y = room_of (goal.at.bounds-ix-at c).Start in
+    rw c.spot-at.ensures
+    (spot-low d a.recs.now h a.p l a.ix.now.places a.ix.now.numbers a.ix.now.counts a.ix.now.chains
     x y)
 
-pub overflow_cast-numbers : goal.overflow_cast-numbers
-overflow_cast-numbers c =
+pub overflow_cast-ix-then-kind-eq-CREATE : goal.overflow_cast-ix-then-kind-eq-CREATE
+overflow_cast-ix-then-kind-eq-CREATE c =
     let s = c in
     let a = s.args in
     let (d, h, l) = s.requires.0 in
@@ -129,12 +127,12 @@ returns-then-kind-eq-CREATE c =
     let more : number_at rs (suc a.p) ≡ number_at rs a.p + 1
     = number_more d rs h a.p l ∙ ap (λ (b : Bool). number_at rs a.p + cond b 1 0) is in (
       rw (add-one a.p, c.spot-at.ensures, s.requires.2)
-          (create-added d rs h a.p l a.places.now a.numbers.now a.counts.now a.chains.now
-          s.requires.1 (room_of c.before.before.before.before.before.before.before.before.before) is),
+          (create-added d rs h a.p l a.ix.now.places a.ix.now.numbers a.ix.now.counts a.ix.now.chains
+          s.requires.1 (room_of (goal.at.returns-then-kind-eq-CREATE c).Start) is),
       rw (add-one a.p) (omega (arith, more, s.requires.2)),
       rw c.spot-at.ensures
-          (starts-kept d rs h a.p l a.places.now a.numbers.now a.counts.now a.chains.now
-          s.requires.1 (room_of c.before.before.before.before.before.before.before.before.before)),
+          (starts-kept d rs h a.p l a.ix.now.places a.ix.now.numbers a.ix.now.counts a.ix.now.chains
+          s.requires.1 (room_of (goal.at.returns-then-kind-eq-CREATE c).Start)),
     )
 
 pub returns-then-not-is_set_kind : goal.returns-then-not-is_set_kind
@@ -151,16 +149,16 @@ returns-then-not-is_set_kind c =
     let more : number_at rs (suc a.p) ≡ number_at rs a.p + 0
     = number_more d rs h a.p l ∙ ap (λ (b : Bool). number_at rs a.p + cond b 1 0) none in (
       rw (add-one a.p, c.spot-at.ensures)
-          (place-added d rs h a.p l a.places.now a.numbers.now a.counts.now a.chains.now
-          s.requires.1 (room_of c.before.before.before.before.before.before.before.before.before.before.before) none other),
+          (place-added d rs h a.p l a.ix.now.places a.ix.now.numbers a.ix.now.counts a.ix.now.chains
+          s.requires.1 (room_of (goal.at.returns-then-not-is_set_kind c).Start) none other),
       rw (add-one a.p) (omega (arith, more, s.requires.2)),
       rw c.spot-at.ensures
-          (starts-kept d rs h a.p l a.places.now a.numbers.now a.counts.now a.chains.now
-          s.requires.1 (room_of c.before.before.before.before.before.before.before.before.before.before.before)),
+          (starts-kept d rs h a.p l a.ix.now.places a.ix.now.numbers a.ix.now.counts a.ix.now.chains
+          s.requires.1 (room_of (goal.at.returns-then-not-is_set_kind c).Start)),
     )
 
-pub bounds-numbers-q : goal.bounds-numbers-q
-bounds-numbers-q c =
+pub bounds-ix-q : goal.bounds-ix-q
+bounds-ix-q c =
     let c4 = c in
     let c6 = c4 in
     let c7 = c6 in
@@ -169,7 +167,7 @@ bounds-numbers-q c =
     let f = c.target_place-q in
     let is = set_is s.args.recs.now s.args.p c4.is_set_kind.result c4.is_set_kind.ensures
     c6.kind_at-kind.ensures c.if-not-is_set_kind.false-raw in
-    let t = aim c.before.before.before.before.before.before.before.before.before.before.before.before.before is f.result (rw c7.spot-at.ensures at f.ensures) in
+    let t = aim (goal.at.bounds-ix-q c).Start is f.result (rw c7.spot-at.ensures at f.ensures) in
     omega (arith, s.requires.1.numbers-long, t, h.few-records, l)
 
 pub overflow_cast-o-2 : goal.overflow_cast-o-2
@@ -184,8 +182,8 @@ overflow_cast-o-2 c =
     let f = c5.target_place-q in
     let is = set_is rs a.p c8.is_set_kind.result c8.is_set_kind.ensures c10.kind_at-kind.ensures
     c5.if-not-is_set_kind.false-raw in
-    let t = aim c.before.before.before.before.before.before.before.before.before.before.before.before.before.before is f.result (rw c11.spot-at.ensures at f.ensures) in
-    let low : get_or a.numbers.now f.result 0 < most_objects = rw t.number t.few in
+    let t = aim (goal.at.overflow_cast-o-2 c).Start is f.result (rw c11.spot-at.ensures at f.ensures) in
+    let low : get_or a.ix.now.numbers f.result 0 < most_objects = rw t.number t.few in
     search (rules, low)
 
 pub add_set-requires : goal.add_set-requires
@@ -202,15 +200,12 @@ add_set-requires c =
     let f = c5.target_place-q in
     let is = set_is rs a.p c8.is_set_kind.result c8.is_set_kind.ensures c10.kind_at-kind.ensures
     c5.if-not-is_set_kind.false-raw in
-    let t = aim c.before.before.before.before.before.before.before.before.before.before.before.before.before.before.before.before.before is f.result (rw c11.spot-at.ensures at f.ensures) in
-    let key = key-low d rs h a.p l a.places.now a.numbers.now a.counts.now a.chains.now x
-    (room_of c.before.before.before.before.before.before.before.before.before.before.before.before.before.before.before.before.before) f.result t.before t.create t.on in (
+    let t = aim (goal.at.add_set-requires c).Start is f.result (rw c11.spot-at.ensures at f.ensures) in
+    let key = key-low d rs h a.p l a.ix.now.places a.ix.now.numbers a.ix.now.counts a.ix.now.chains x
+    (room_of (goal.at.add_set-requires c).Start) f.result t.before t.create t.on in (
       omega (arith, h.few-records, l),
       rw t.number t.few,
       rw (c.byte_at-key.ensures, ← key-in-place rs a.p) key,
-      x.numbers-long,
-      x.counts-long,
-      x.chained.chains-long,
       rw t.number t.left,
     )
 
@@ -232,17 +227,17 @@ returns c =
     = ne_eqb (record_at rs a.p).kind create_kind (λ y. c15.if-kind-eq-CREATE.false (c17.kind_at-kind.ensures ∙ y)) in
     let is = set_is rs a.p c15.is_set_kind.result c15.is_set_kind.ensures c17.kind_at-kind.ensures
     c12.if-not-is_set_kind.false-raw in
-    let t = aim c.before.before.before.before.before.before.before.before.before.before.before.before.before.before.before.before.before.before.before.before.before.before.before.before is f.result (rw c18.spot-at.ensures at f.ensures) in
+    let t = aim (goal.at.returns c).Start is f.result (rw c18.spot-at.ensures at f.ensures) in
     let key : c10.byte_at-key.result ≡ (record_at rs a.p).key
     = c10.byte_at-key.ensures ∙ sym (key-in-place rs a.p) in
     let added = c6.add_set.ensures in
     let more : number_at rs (suc a.p) ≡ number_at rs a.p + 0
     = number_more d rs h a.p l ∙ ap (λ (b : Bool). number_at rs a.p + cond b 1 0) none in (
-      rw (add-one a.p, added.0, added.1, added.2, t.number, key, c17.kind_at-kind.ensures, c18.spot-at.ensures)
-          (set-added d rs h a.p l a.places.now a.numbers.now a.counts.now a.chains.now x
-          (room_of c.before.before.before.before.before.before.before.before.before.before.before.before.before.before.before.before.before.before.before.before.before.before.before.before) f.result t.before t.create t.on),
+      rw (add-one a.p, added.0, added.1, added.2, added.3, t.number, key, c17.kind_at-kind.ensures, c18.spot-at.ensures)
+          (set-added d rs h a.p l a.ix.now.places a.ix.now.numbers a.ix.now.counts a.ix.now.chains x
+          (room_of (goal.at.returns c).Start) f.result t.before t.create t.on),
       rw (add-one a.p) (omega (arith, more, s.requires.2)),
-      rw c18.spot-at.ensures
-          (starts-kept d rs h a.p l a.places.now a.numbers.now a.counts.now a.chains.now x
-          (room_of c.before.before.before.before.before.before.before.before.before.before.before.before.before.before.before.before.before.before.before.before.before.before.before.before)),
+      rw (added.0, c18.spot-at.ensures)
+          (starts-kept d rs h a.p l a.ix.now.places a.ix.now.numbers a.ix.now.counts a.ix.now.chains x
+          (room_of (goal.at.returns c).Start)),
     )

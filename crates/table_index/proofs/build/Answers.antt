@@ -1,31 +1,24 @@
 -- `table_index::build` meets its contract: after i records, the index is that of the first i. Assumes nothing.
-use mathlib.Core.Path.{◌≡◌, refl, sym, ◌∙◌}
-use Prim.Native.Nat.{◌+◌, ◌-◌}
+use mathlib.Core.Path.{◌≡◌}
+use Prim.Native.Nat.{◌+◌}
 use native.Mathlib.Omega.{arith}
 use Rattle.edit_walk.specs.WalkForms.{count_in}
 use Rattle.edit_walk.proofs.RoomInIndex.{spaced-before, spaced-same}
 use Rattle.table_index.proofs.OneRecordMore.{index-starts, none-numbered}
-use Rattle.table_index.proofs.build.Lts
-use Rattle.table_index.proofs.build.Tie
-use Rattle.table_index.proofs.build.Reads
 use Rattle.table_index.proofs.build.Goals as goal
-
-abbrev start-of : (Lts.At-loop Tie.the-claims Reads.Pre Reads.Post goal.the-invariant-loop-i goal.the-decreases-loop-i) → (Lts.Start Tie.the-claims Reads.Pre Reads.Post goal.the-invariant-loop-i goal.the-decreases-loop-i)
-start-of at = at.before.before.before.before.before.before.before.before.before.before
 
 pub start_places-requires : goal.start_places-requires
 start_places-requires c =
     let s = c in
     let (d, h, e) = s.requires.0 in
-    (omega (arith, h.few-records, e), s.requires.1)
+    omega (arith, h.few-records, e)
 
 pub loop-i-init : goal.loop-i-init
 loop-i-init c =
     let s = c in
     let spaced = c.start_places.ensures in (
-      omega arith,
-      rw (s.requires.3, s.requires.4)
-          (index-starts s.args.recs.now _ s.args.numbers.now spaced.entries s.requires.2),
+      rw (s.requires.1, s.requires.2)
+          (index-starts s.args.recs.now _ s.args.ix.now.numbers spaced.entries (omega arith)),
       none-numbered s.args.recs.now,
       spaced,
     )
@@ -34,12 +27,12 @@ pub add-m-requires : goal.add-m-requires
 add-m-requires c =
     let at = c in
     let l = at.loop-i in
-    let s = start-of c.before.before.before.before.before.before in
+    let s = c in
     let (d, h, e) = s.requires.0 in (
       (d, h, omega (arith, e)),
+      l.invariant.0,
       l.invariant.1,
-      l.invariant.2,
-      spaced-before s.args.recs.now l.places (l.i + 1) s.args.n (omega arith) l.invariant.3,
+      spaced-before s.args.recs.now l.ix.places (l.i + 1) s.args.n (omega arith) l.invariant.2,
     )
 
 pub loop-i-preserved : goal.loop-i-preserved
@@ -47,35 +40,14 @@ loop-i-preserved c =
     let s8 = c in
     let m = s8.add-m.ensures in
     let at = s8 in
-    let s = start-of c.before.before.before.before.before.before.before.before.before.before.before.before.before.before.before in (
-      omega arith,
+    let s = c in (
       m.0,
       m.1,
-      spaced-same (count_in s.args.recs.now s.args.n) _ _ m.2 m.0.places-long at.loop-i.invariant.3,
+      spaced-same (count_in s.args.recs.now s.args.n) _ _ m.2 m.0.places-long at.loop-i.invariant.2,
     )
-
-pub shape_of-places : goal.shape_of-places
-shape_of-places c =
-    let s = start-of c.before.before in
-    c.loop-i.invariant.1.places-long ∙ sym s.requires.1
-
-pub shape_of-numbers : goal.shape_of-numbers
-shape_of-numbers c =
-    let s = start-of c.before.before in
-    c.loop-i.invariant.1.numbers-long ∙ sym s.requires.2
-
-pub shape_of-counts : goal.shape_of-counts
-shape_of-counts c =
-    let s = start-of c.before.before in
-    c.loop-i.invariant.1.counts-long ∙ sym (rw s.requires.3 refl)
-
-pub shape_of-chains : goal.shape_of-chains
-shape_of-chains c =
-    let s = start-of c.before.before in
-    c.loop-i.invariant.1.chained.chains-long ∙ sym (rw s.requires.4 refl)
 
 pub returns : goal.returns
 returns c =
-    let s = start-of c.before.before in
+    let s = c in
     let k : c.loop-i.i ≡ s.args.n = omega arith in
-    rw (← k) c.loop-i.invariant.1
+    rw (← k) c.loop-i.invariant.0

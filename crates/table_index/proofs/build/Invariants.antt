@@ -1,13 +1,11 @@
 -- `table_index::build` meets its contract: after i records, the index is that of the first i. Assumes nothing.
 use mathlib.Core.Path.{◌≡◌}
-use Prim.Native.Nat.{◌≤◌, ◌-◌}
 use Rattle.edit_walk.specs.WalkForms.{Spaced, count_in}
 use Rattle.table_index.specs.IndexForms.{number_at, IndexOf}
 use Rattle.table_index.proofs.build.Given as goal
 
 abbrev pub invariant-loop-i : goal.invariant-loop-i
 invariant-loop-i l =
-    (l.i ≤ l.n) × IndexOf l.recs l.i l.places l.numbers l.counts l.chains × (l.m ≡ number_at l.recs l.i) × Spaced (count_in l.recs l.n) l.places
-
-abbrev pub decreases-loop-i : goal.decreases-loop-i
-decreases-loop-i l = l.n - l.i
+    IndexOf l.recs l.i l.ix.places l.ix.numbers l.ix.counts l.ix.chains
+    × (l.m ≡ number_at l.recs l.i)
+    × Spaced (count_in l.recs l.n) l.ix.places

@@ -2,8 +2,7 @@
 use mathlib.Core.Path.{◌≡◌, sym, ◌∙◌}
 use mathlib.Core.Bool.{false}
 use borrow.Author.Tests.{not-true, not-false}
-use Rattle.math_lists.proofs.Booleans.{clash}
-use Rattle.edit_history.specs.SurveyForms.{survey_of}
+use Rattle.std.proofs.lemmas.Option.{none-some, same_Some}
 use Rattle.table_index.proofs.survey.Goals as goal
 
 pub aim_of-a-requires : goal.aim_of-a-requires
@@ -15,14 +14,10 @@ pub returns-then-not-a : goal.returns-then-not-a
 returns-then-not-a c =
     let a = c.aim_of-a in
     let off : a.result.held ≡ false = not-true a.result.held c.if-not-a.true in
-    record {
-      torn = c.none_found.ensures.0 ∙ a.ensures.0;
-      found = c.none_found.ensures.1 ∙ sym off ∙ a.ensures.1;
-      whole = λ y. clash y c.none_found.ensures.1;
-    }
+    record { torn = a.ensures.0; found = sym off ∙ a.ensures.1; whole = λ h y. absurd (none-some h y) }
 
-pub survey_held-requires : goal.survey_held-requires
-survey_held-requires c =
+pub survey_held-held-requires : goal.survey_held-held-requires
+survey_held-held-requires c =
     let a = c.aim_of-a in
     let z = c in
     let s = z in (
@@ -35,7 +30,10 @@ survey_held-requires c =
     )
 
 pub returns : goal.returns
-unfolding survey_of
 returns c =
-    let v = c.survey_held.ensures c.aim_of-a.ensures.0 in
-    record { torn = rw v; found = rw v; whole = λ y. v }
+    let a = c.aim_of-a in
+    record {
+      torn = a.ensures.0;
+      found = sym (not-false a.result.held c.if-not-a.false) ∙ a.ensures.1;
+      whole = λ h y. sym (same_Some _ h y) ∙ c.survey_held-held.ensures;
+    }

@@ -16,9 +16,8 @@ pub make_ready-requires : goal.make_ready-requires
 make_ready-requires c =
     let s = c in
     let a = s.args in
-    let sv = s.requires.1 in
-    let (sets, _) = surveyed-sets (edits_of a.recs.now a.n) (decode_of a.rec.now) a.v sv s.requires.2 in
-    (s.requires.0, sym sv.found ∙ s.requires.2, sets, s.requires.3)
+    let (sets, _) = surveyed-sets (edits_of a.recs.now a.n) (decode_of a.rec.now) a.h s.requires.2 in
+    (s.requires.0, s.requires.1, sets, s.requires.3)
 
 pub judge-j-requires : goal.judge-j-requires
 judge-j-requires c =
@@ -26,18 +25,18 @@ judge-j-requires c =
     let a = s.args in
     let e = decode_of a.rec.now in
     let es = edits_of a.recs.now a.n in
-    let (sets, plain) = surveyed-sets es e a.v s.requires.1 s.requires.2 in
+    let (sets, plain) = surveyed-sets es e a.h s.requires.2 in
     let m = c.make_ready in (
       rw (sets, ← s.requires.0.all) (s.requires.0.holds.few-sets e.tsite e.tseq),
-      omega (arith, m.auto.names, s.requires.3.names-long),
-      m.auto.rows ∙ s.requires.3.rows_long,
+      omega arith,
+      omega arith,
       rw (sets, plain) (marked-below e (sets_on e.tsite e.tseq es)),
     )
 
 pub put_box-requires : goal.put_box-requires
 put_box-requires c =
     let s = c in
-    c.judge-j.auto.names ∙ c.make_ready.auto.names ∙ s.requires.3.names-long
+    omega arith
 
 pub returns : goal.returns
 returns c =
@@ -46,17 +45,15 @@ returns c =
     let e = decode_of a.rec.now in
     let es = edits_of a.recs.now a.n in
     let ms = sets_on e.tsite e.tseq es in
-    let (sets, plain) = surveyed-sets es e a.v s.requires.1 s.requires.2 in
+    let (sets, plain) = surveyed-sets es e a.h s.requires.2 in
     let ready = c.make_ready in
     let j = c.judge-j in
     let (judged, put) = j.ensures ms (sym sets) ready.ensures.names ready.ensures.told plain in
-    let ln = j.auto.names ∙ ready.auto.names ∙ s.requires.3.names-long in
-    let lr = j.auto.rows ∙ ready.auto.rows ∙ s.requires.3.rows_long in
     let after : length ms < most_sets → TellOf (ms ++ (e ∷ [])) j.new.names j.new.rows
     = λ few. let (names, told) = put (rw sets few) in record { names = names; told = told } in
     let count = rw (c.byte_at.ensures, sets) at c.told_after-told.ensures in (
       record { nameless = λ asked. judged.nameless; conflicts = λ found. judged.conflicts },
       subst (λ (ns : List ℕ). KeptFor (es ++ (e ∷ [])) ns j.new.rows)
           (sym (c.put_box.ensures ∙ ap (boxed j.new.names e) count))
-          (kept-with es e j.new.names j.new.rows ln lr after _ refl),
+          (kept-with es e j.new.names j.new.rows (omega arith) (omega arith) after _ refl),
     )

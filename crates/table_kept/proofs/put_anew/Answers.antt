@@ -8,13 +8,11 @@ use Rattle.edit_history.specs.EditsHeld.{record_at}
 use Rattle.group_step.specs.GroupRows.{most_sets}
 use Rattle.group_sight.proofs.NamesOfSets.{names-there}
 use Rattle.table_kept.specs.BoxForms.{TellOf}
-use Rattle.table_kept.proofs.put_anew.Lts
-use Rattle.table_kept.proofs.put_anew.Tie
-use Rattle.table_kept.proofs.put_anew.Reads
 use Rattle.table_kept.proofs.put_anew.Goals as goal
+use Rattle.table_kept.proofs.put_anew.Goals.{Start}
 
 -- there is room for the places of all Sets
-few : (s : (Lts.Start Tie.the-claims Reads.Pre Reads.Post)) → s.args.k ≤ most_sets
+few : (s : Start) → s.args.k ≤ most_sets
 few s = rw s.requires.1 s.requires.0.narrow
 
 pub put_chains-requires : goal.put_chains-requires
@@ -25,16 +23,16 @@ put_chains-requires c =
 pub put_names-requires : goal.put_names-requires
 put_names-requires c =
     let s = c in
-    (omega (arith, few c.before.before.before.before.before.before.before.before.before.before.before, s.requires.2), omega (arith, few c.before.before.before.before.before.before.before.before.before.before.before))
+    (omega (arith, few (goal.at.put_names-requires c).Start), omega (arith, few (goal.at.put_names-requires c).Start))
 
 pub put_rows-requires : goal.put_rows-requires
 put_rows-requires c =
     let s = c in
     let m = c.put_names in (
-      few c.before.before.before.before.before.before.before.before.before.before.before.before.before.before.before.before,
-      omega (arith, few c.before.before.before.before.before.before.before.before.before.before.before.before.before.before.before.before),
-      omega (arith, few c.before.before.before.before.before.before.before.before.before.before.before.before.before.before.before.before, m.auto.names, s.requires.2),
-      s.requires.3,
+      few (goal.at.put_rows-requires c).Start,
+      omega (arith, few (goal.at.put_rows-requires c).Start),
+      omega (arith, few (goal.at.put_rows-requires c).Start, m.auto.names),
+      omega arith,
       m.ensures,
     )
 
@@ -48,6 +46,6 @@ returns c =
     let those = ap (map (record_at rs)) (rw (← s.requires.1) at p.ensures) in
     subst (λ (ms : List Edit). TellOf ms m.new.names c.put_rows.new.rows) those
     (record {
-      names = names-there rs p.new.out a.k (omega (arith, few c.before.before.before.before.before.before.before.before.before.before.before.before.before.before.before.before.before.before.before, p.auto.out)) m.new.names m.ensures;
+      names = names-there rs p.new.out a.k (omega (arith, few (goal.at.returns c).Start, p.auto.out)) m.new.names m.ensures;
       told = c.put_rows.ensures;
     })

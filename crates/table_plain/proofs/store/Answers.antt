@@ -23,13 +23,15 @@ returns-then-kind-eq-SET c =
     let e = decode_of k.args.rec.now in
     let is = k.if-kind-eq-SET.true in
     let set = eq-eqb e.kind set_kind is in
-    let other : is_create e ≡ false = rw is refl in
-    record {
-      of-set = λ y. w.store_set.ensures;
-      no-set = λ y. clash set y;
-      of-create = λ y. clash y other;
-      of_layer = λ y z. clash set z;
-    }
+    let other : is_create e ≡ false = rw is refl in (
+      record {
+        of-set = λ y. w.store_set.ensures.0;
+        no-set = λ y. clash set y;
+        of-create = λ y. clash y other;
+        of_layer = λ y z. clash set z;
+      },
+      w.store_set.ensures.1,
+    )
 
 pub put_create-requires : goal.put_create-requires
 put_create-requires c =
@@ -44,20 +46,24 @@ returns-then-kind-eq-CREATE c =
     let w = c in
     let k = w in
     let e = decode_of k.args.rec.now in
-    let create = eq-eqb e.kind create_kind k.if-kind-eq-CREATE.true in
-    record {
-      of-set = λ y. clash y (ne_eqb e.kind set_kind k.if-kind-eq-SET.false);
-      no-set = λ y. (refl, refl, refl, refl);
-      of-create = λ y. w.put_create.ensures;
-      of_layer = λ y z. clash create y;
-    }
+    let create = eq-eqb e.kind create_kind k.if-kind-eq-CREATE.true in (
+      record {
+        of-set = λ y. clash y (ne_eqb e.kind set_kind k.if-kind-eq-SET.false);
+        no-set = λ y. (refl, refl, refl, refl);
+        of-create = λ y. w.put_create.ensures;
+        of_layer = λ y z. clash create y;
+      },
+      refl,
+    )
 
 pub returns-else-kind-eq-CREATE : goal.returns-else-kind-eq-CREATE
 returns-else-kind-eq-CREATE c =
-    let e = decode_of c.args.rec.now in
-    record {
-      of-set = λ y. clash y (ne_eqb e.kind set_kind c.if-kind-eq-SET.false);
-      no-set = λ y. (refl, refl, refl, refl);
-      of-create = λ y. clash y (ne_eqb e.kind create_kind c.if-kind-eq-CREATE.false);
-      of_layer = λ y z. (refl, refl);
-    }
+    let e = decode_of c.args.rec.now in (
+      record {
+        of-set = λ y. clash y (ne_eqb e.kind set_kind c.if-kind-eq-SET.false);
+        no-set = λ y. (refl, refl, refl, refl);
+        of-create = λ y. clash y (ne_eqb e.kind create_kind c.if-kind-eq-CREATE.false);
+        of_layer = λ y z. (refl, refl);
+      },
+      refl,
+    )

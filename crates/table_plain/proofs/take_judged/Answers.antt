@@ -6,18 +6,7 @@ use Rattle.edit_sum.specs.WordSum.{wrapped}
 use Rattle.table_plain.proofs.JudgedGoes.{judged-there, judged-steps, judged-put, judged-crowded}
 use Rattle.table_plain.proofs.JudgedGoes.{judged-enters, judged-left}
 use borrow.Author.Rules.{rules}
-use Rattle.table_plain.proofs.take_judged.Lts
-use Rattle.table_plain.proofs.take_judged.Tie
-use Rattle.table_plain.proofs.take_judged.Reads
 use Rattle.table_plain.proofs.take_judged.Goals as goal
-
-abbrev start-of : (Lts.After-store_set Tie.the-claims Reads.Pre Reads.Post) → (Lts.Start Tie.the-claims Reads.Pre Reads.Post)
-start-of c =
-    let c7 = c in
-    c.before.before.before.before.before.before.before.before.before.before.before.before.before.before.before.before.before
-
-none_more : (n : ℕ) → n + 0 ≡ n
-none_more n = omega arith
 
 more-none : (n : ℕ) → n ≡ n + 0
 more-none n = omega arith
@@ -27,7 +16,7 @@ bounds-rec-0 c =
     let s = c in
     let a = s.args in
     let there = judged-there a.sites a.n a.m a.sum a.held.now a.records.now a.objects.now a.groups.now
-    a.places.now a.numbers.now a.counts.now a.chains.now a.rec.now s.requires.0 a.a s.requires.1 in
+    a.ix.now.places a.ix.now.numbers a.ix.now.counts a.ix.now.chains a.rec.now s.requires.0 a.a s.requires.1 in
     search (rules, there)
 
 pub bounds-rec-37 : goal.bounds-rec-37
@@ -35,7 +24,7 @@ bounds-rec-37 c =
     let s = c in
     let a = s.args in
     let there = judged-there a.sites a.n a.m a.sum a.held.now a.records.now a.objects.now a.groups.now
-    a.places.now a.numbers.now a.counts.now a.chains.now a.rec.now s.requires.0 a.a s.requires.1 in
+    a.ix.now.places a.ix.now.numbers a.ix.now.counts a.ix.now.chains a.rec.now s.requires.0 a.a s.requires.1 in
     search (rules, there)
 
 pub store_set-requires : goal.store_set-requires
@@ -44,52 +33,53 @@ store_set-requires c =
     let a = s.args in (
       s.requires.0.few,
       judged-steps a.sites a.n a.m a.sum a.held.now a.records.now a.objects.now a.groups.now
-          a.places.now a.numbers.now a.counts.now a.chains.now a.rec.now s.requires.0 a.a s.requires.1,
+          a.ix.now.places a.ix.now.numbers a.ix.now.counts a.ix.now.chains a.rec.now s.requires.0 a.a s.requires.1,
     )
 
 pub returns-then-not-store_set : goal.returns-then-not-store_set
 returns-then-not-store_set c =
     let w = c in
-    let s = start-of c.before.before.before.before.before.before.before.before.before.before.before.before.before in
+    let s = c in
     let a = s.args in
-    let x = c.not_taken.ensures in
-    rw (x.0, x.1, x.2, none_more a.n)
+    rw w.store_set.ensures.1
     (judged-crowded a.sites a.n a.m a.sum a.held.now a.records.now a.objects.now a.groups.now
-    a.places.now a.numbers.now a.counts.now a.chains.now a.rec.now s.requires.0 a.a s.requires.1 _ _ _ _ _
-    (rw (c.if-not-store_set.true) at w.store_set.ensures))
+    a.ix.now.places a.ix.now.numbers a.ix.now.counts a.ix.now.chains a.rec.now s.requires.0 a.a s.requires.1 _ _ _ _ _
+    (rw (c.if-not-store_set.true) at w.store_set.ensures.0))
 
 pub enter-requires : goal.enter-requires
 enter-requires c =
     let w = c in
-    let s = start-of c.before.before.before.before.before.before.before.before.before.before.before.before.before.before in
+    let s = c in
     let a = s.args in (
       judged-there a.sites a.n a.m a.sum a.held.now a.records.now a.objects.now a.groups.now
-          a.places.now a.numbers.now a.counts.now a.chains.now a.rec.now s.requires.0 a.a s.requires.1,
-      judged-enters a.sites a.n a.m a.sum a.held.now a.records.now a.objects.now a.groups.now
-          a.places.now a.numbers.now a.counts.now a.chains.now a.rec.now s.requires.0 a.a s.requires.1 _ _ _ _ _
-          (rw (c.if-not-store_set.false) at w.store_set.ensures),
+          a.ix.now.places a.ix.now.numbers a.ix.now.counts a.ix.now.chains a.rec.now s.requires.0 a.a s.requires.1,
+      rw w.store_set.ensures.1
+          (judged-enters a.sites a.n a.m a.sum a.held.now a.records.now a.objects.now a.groups.now
+          a.ix.now.places a.ix.now.numbers a.ix.now.counts a.ix.now.chains a.rec.now s.requires.0 a.a s.requires.1 _ _ _ _ _
+          (rw (c.if-not-store_set.false) at w.store_set.ensures.0)),
     )
 
 pub put_record-requires : goal.put_record-requires
 put_record-requires c =
-    let s = start-of c.before.before.before.before.before.before.before.before.before.before.before.before.before.before.before.before.before.before.before.before in
+    let s = c in
     let a = s.args in
     judged-put a.sites a.n a.m a.sum a.held.now a.records.now a.objects.now a.groups.now
-    a.places.now a.numbers.now a.counts.now a.chains.now a.rec.now s.requires.0 a.a s.requires.1
+    a.ix.now.places a.ix.now.numbers a.ix.now.counts a.ix.now.chains a.rec.now s.requires.0 a.a s.requires.1
 
 pub sum_record-requires : goal.sum_record-requires
 sum_record-requires c =
-    let s = start-of c.before.before.before.before.before.before.before.before.before.before.before.before.before.before.before.before.before.before.before.before.before.before.before in
+    let s = c in
     omega (arith, s.requires.0.whole)
 
 pub returns : goal.returns
 returns c =
     let w = c in
-    let s = start-of c.before.before.before.before.before.before.before.before.before.before.before.before.before.before.before.before.before.before.before.before.before.before.before.before.before in
+    let s = c in
     let a = s.args in
     let n = c.enter.ensures in
+    let at = rw w.store_set.ensures.1 at n.1 in
     judged-left a.sites a.n a.m a.sum a.held.now a.records.now a.objects.now a.groups.now
-    a.places.now a.numbers.now a.counts.now a.chains.now a.rec.now s.requires.0 a.a s.requires.1 _ _ _ _ _
-    (rw (c.if-not-store_set.false) at w.store_set.ensures) _ _ _ _ _ n.0
-    c.put_record.ensures n.1 (more-none a.m)
-    (c.added.ensures ∙ ap (λ (k : ℕ). wrapped (a.sum + k)) c.sum_record.ensures)
+    a.ix.now.places a.ix.now.numbers a.ix.now.counts a.ix.now.chains a.rec.now s.requires.0 a.a s.requires.1 _ _ _ _ _
+    (rw (c.if-not-store_set.false) at w.store_set.ensures.0) _ _ _ _ _ n.0
+    c.put_record.ensures at (more-none a.m)
+    (c.added-after.ensures ∙ ap (λ (k : ℕ). wrapped (a.sum + k)) c.sum_record.ensures)

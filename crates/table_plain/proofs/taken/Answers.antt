@@ -7,16 +7,14 @@ use Rattle.edit_record.specs.Layout.{create_kind}
 use Rattle.edit_record.specs.RecordBytes.{decode_of}
 use Rattle.edit_sum.specs.WordSum.{wrapped, record_words, sum_of}
 use borrow.Author.Rules.{rules}
-use Rattle.table_plain.proofs.taken.Lts
-use Rattle.table_plain.proofs.taken.Tie
-use Rattle.table_plain.proofs.taken.Reads
 use Rattle.table_plain.proofs.taken.Goals as goal
+use Rattle.table_plain.proofs.taken.Goals.{After-added-after}
 
 none_more : (n : ℕ) → n + 0 ≡ n
 none_more n = omega arith
 
 sum-of :
-    (c : (Lts.After-added Tie.the-claims Reads.Pre Reads.Post)) →
+    (c : After-added-after) →
     (let a = c.args in
     c.added-after.result ≡ wrapped (a.sum + sum_of (record_words a.rec.now) a.rec.now))
 sum-of c =
@@ -38,10 +36,10 @@ pub returns-then-rec-eq-CREATE : goal.returns-then-rec-eq-CREATE
 returns-then-rec-eq-CREATE c =
     let a = c.args in
     let create = eq-eqb (decode_of a.rec.now).kind create_kind c.if-rec-eq-CREATE.true in
-    (refl, rw create refl, sum-of c.before.before.before)
+    (rw create refl, sum-of (goal.at.returns-then-rec-eq-CREATE c).After-added-after)
 
 pub returns : goal.returns
 returns c =
     let a = c.args in
     let other = ne_eqb (decode_of a.rec.now).kind create_kind c.if-rec-eq-CREATE.false in
-    (refl, rw (other, none_more a.m) refl, sum-of c.before.before.before)
+    (rw (other, none_more a.m) refl, sum-of (goal.at.returns c).After-added-after)

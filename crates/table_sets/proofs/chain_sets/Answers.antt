@@ -25,61 +25,60 @@ before rs n i ch l h =
     let e : i ≡ (i - 1) + 1 = omega arith in
     subst (λ (j : ℕ). LinkedFrom rs n j ch) e h
 
-pub loop-i-init : goal.loop-i-init
-loop-i-init c =
+pub loop-q-init : goal.loop-q-init
+loop-q-init c =
     let a = c.args in
-    (omega arith, refl, linked-none a.recs.now a.n a.chain.now)
+    (refl, linked-none a.recs.now a.n a.chain.now)
 
 pub link-requires : goal.link-requires
 link-requires c =
     let b = c in
-    let l = b.loop-i in
+    let l = b.loop-q in
     let s = b in
     let a = s.args in
-    let q = l.i - 1 in
+    let q = l.q - 1 in
     let kind = told a.recs.now q _ _ b.kind_at-kind.ensures b.is_set_kind.ensures
     ∙ c.if-is_set_kind.true in
     let less = aim-before a.recs.now a.places.now a.n s.requires.2 s.requires.3 q (omega arith) kind in (
-      omega (arith, c.target_place-p.ensures, less, l.invariant.1, s.requires.1),
-      omega (arith, l.invariant.1, s.requires.1),
+      omega (arith, c.target_place-p.ensures, less, l.invariant.0, s.requires.1),
+      omega (arith, l.invariant.0, s.requires.1),
       omega (arith, s.requires.0),
     )
 
-pub loop-i-preserved-then-is_set_kind : goal.loop-i-preserved-then-is_set_kind
-loop-i-preserved-then-is_set_kind c =
+pub loop-q-preserved-then-is_set_kind : goal.loop-q-preserved-then-is_set_kind
+loop-q-preserved-then-is_set_kind c =
     let b = c in
-    let l = b.loop-i in
+    let l = b.loop-q in
     let s = b in
     let a = s.args in
-    let q = l.i - 1 in
+    let q = l.q - 1 in
     let rs = a.recs.now in
     let kind = told rs q _ _ b.kind_at-kind.ensures b.is_set_kind.ensures
     ∙ c.if-is_set_kind.true in
     let k = c.link in
     let next = linked rs a.places.now a.n s.requires.2 s.requires.3 q (omega arith) kind l.chain
-    (omega (arith, l.invariant.1, s.requires.1)) (before rs a.n l.i l.chain (omega arith) l.invariant.2) in
+    (omega (arith, l.invariant.0, s.requires.1)) (before rs a.n l.q l.chain (omega arith) l.invariant.1) in
     let made = k.ensures
     ∙ ap (λ (p : ℕ). put l.chain p q) c.target_place-p.ensures in
-    (omega arith, k.auto.chain ∙ l.invariant.1, subst (LinkedFrom rs a.n q) (sym made) next)
+    (k.auto.chain ∙ l.invariant.0, subst (LinkedFrom rs a.n q) (sym made) next)
 
-pub loop-i-preserved : goal.loop-i-preserved
-loop-i-preserved c =
+pub loop-q-preserved : goal.loop-q-preserved
+loop-q-preserved c =
     let a = c.args in
-    let l = c.loop-i in
-    let q = l.i - 1 in
+    let l = c.loop-q in
+    let q = l.q - 1 in
     let rs = a.recs.now in
     let kind = told rs q _ _ c.kind_at-kind.ensures c.is_set_kind.ensures ∙ c.if-is_set_kind.false in (
-      omega arith,
-      l.invariant.1,
+      l.invariant.0,
       not-linked rs a.n q l.chain (omega arith) kind
-          (before rs a.n l.i l.chain (omega arith) l.invariant.2),
+          (before rs a.n l.q l.chain (omega arith) l.invariant.1),
     )
 
 pub shape_of-chain : goal.shape_of-chain
-shape_of-chain c = c.loop-i.invariant.1
+shape_of-chain c = c.loop-q.invariant.0
 
 pub returns : goal.returns
 returns c =
     let a = c.args in
-    let l = c.loop-i in
-    linked-all a.recs.now a.n l.i l.chain (omega arith) l.invariant.2
+    let l = c.loop-q in
+    linked-all a.recs.now a.n l.q l.chain (omega arith) l.invariant.1

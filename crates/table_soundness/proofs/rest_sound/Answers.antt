@@ -1,6 +1,7 @@
 -- `table_soundness::rest_sound` meets its contract. Assumes nothing.
+use borrow.Author.Rules.{rules}
 use Rattle.table_drawing.specs.Tables.{tables_of}
-use Rattle.table_soundness.proofs.SoundTests.{few, group-room, rest-is}
+use Rattle.table_soundness.proofs.SoundTests.{counts-agree, few, group-room, rest-is}
 use Rattle.table_soundness.proofs.rest_sound.Goals as goal
 
 pub objects_sound-each-requires : goal.objects_sound-each-requires
@@ -27,6 +28,6 @@ returns c =
       c.objects_sound-each.ensures,
       s.requires.gathered.made,
       s.requires.gathered.sum,
-      c.counts_agree-agree.ensures,
+      counts-agree t.counters.held a.g.held (search rules) (search rules) _ c.eq-agree.ensures,
     )
     (rest-is t _ _ _ s.requires)

@@ -1,7 +1,6 @@
 -- `edit_next::whole::is_as_counted` meets its contract: `same` is what the definition says of the first t entries.
 -- Assumes nothing.
 use mathlib.Core.Path.{◌≡◌, refl}
-use Prim.Native.Nat.{◌-◌}
 use native.Mathlib.Numerals.{add-one}
 use native.Mathlib.Omega.{arith}
 use Rattle.math_lists.specs.NumbersBelow.{all}
@@ -12,19 +11,18 @@ use Rattle.edit_next.proofs.whole.is_as_counted.Goals as goal
 
 pub loop-t-init : goal.loop-t-init
 unfolding all
-loop-t-init c = (omega arith, refl, refl)
+loop-t-init c = (refl, refl)
 
 pub loop-t-preserved : goal.loop-t-preserved
 unfolding all
 loop-t-preserved c =
     let l = c.loop-t in
     let a = c.args in (
-      omega arith,
-      l.invariant.1,
+      l.invariant.0,
       rw (
         add-one,
-        l.invariant.2,
         l.invariant.1,
+        l.invariant.0,
         c.pair_at-is.ensures,
         entry-in-record a.rec.now l.t (omega arith),
       ),
@@ -35,4 +33,4 @@ unfolding same_but
 returns c =
     let l = c.loop-t in
     let e : l.t ≡ most_sites = omega arith in
-    rw (l.invariant.2, e)
+    rw (l.invariant.1, e)

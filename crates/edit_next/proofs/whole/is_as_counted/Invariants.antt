@@ -3,11 +3,10 @@
 use mathlib.Core.Path.{◌≡◌}
 use mathlib.Core.Bool.{Bool, ◌||◌}
 use mathlib.Core.List.{List}
-use Prim.Native.Nat.{ℕ, ◌≤◌, ◌-◌}
+use Prim.Native.Nat.{ℕ}
 use lib.Dec.{eqb}
 use lib.ListN.{get_or}
 use Rattle.math_lists.specs.NumbersBelow.{all}
-use Rattle.edit_record.specs.Layout.{most_sites}
 use Rattle.edit_record.specs.RecordBytes.{decode_of}
 use Rattle.edit_next.proofs.whole.is_as_counted.Given as goal
 
@@ -15,7 +14,4 @@ abbrev pub is_told : List ℕ → List ℕ → ℕ → ℕ → Bool
 is_told held rec s t = eqb t s || eqb (get_or held t 0) (get_or (decode_of rec).vector t 0)
 
 abbrev pub invariant-loop-t : goal.invariant-loop-t
-invariant-loop-t l = (l.t ≤ most_sites) × (l.own ≡ l.s) × (l.same ≡ all l.t (is_told l.held l.rec l.s))
-
-abbrev pub decreases-loop-t : goal.decreases-loop-t
-decreases-loop-t l = most_sites - l.t
+invariant-loop-t l = (l.own ≡ l.s) × (l.same ≡ all l.t (is_told l.held l.rec l.s))

@@ -15,7 +15,7 @@ use Rattle.edit_record.proofs.writing.with_list.Goals as goal
 
 pub loop-i-init : goal.loop-i-init
 unfolding four_bytes
-loop-i-init c = (omega arith, search rules, sym (append-nil (take members_at c.with_four-out.result)))
+loop-i-init c = (search rules, sym (append-nil (take members_at c.with_four-out.result)))
 
 pub loop-i-preserved : goal.loop-i-preserved
 loop-i-preserved c =
@@ -24,9 +24,8 @@ loop-i-preserved c =
     let first = take members_at c.with_four-out.result in
     let e : members_at + 4 * (l.i + 1) ≡ members_at + 4 * l.i + 4 = omega arith in
     let k : l.i < length a.members = omega arith in (
-      omega arith,
       search rules,
-      rw (e, c.with_four-next.ensures, l.invariant.2, one-four-more first a.members l.i k, add-one),
+      rw (e, c.with_four-next.ensures, l.invariant.1, one-four-more first a.members l.i k, add-one),
     )
 
 pub returns : goal.returns
@@ -36,6 +35,6 @@ returns c =
     let a = c.args in
     let k : l.i ≡ most_members = omega arith in
     sym (take_all place_length l.out (omega arith))
-    ∙ (rw k at l.invariant.2)
+    ∙ (rw k at l.invariant.1)
     ∙ ap (λ (v : List ℕ). take members_at w.result ++ four_bytes v) (take_all most_members a.members (omega arith))
     ∙ rw w.ensures (count-first (take record_length a.bytes) a.members a.count)

@@ -2,17 +2,13 @@
 -- Assumes nothing.
 use mathlib.Core.Path.{◌≡◌}
 use mathlib.Core.List.{◌++◌}
-use Prim.Native.Nat.{◌+◌, ◌*◌, ◌≤◌, ◌-◌}
+use Prim.Native.Nat.{◌+◌, ◌*◌}
 use lib.ListN.{length, take}
-use Rattle.edit_record.specs.Layout.{members_at, most_members, place_length}
+use Rattle.edit_record.specs.Layout.{members_at, place_length}
 use Rattle.edit_record.specs.RecordBytes.{four_bytes}
 use Rattle.edit_record.proofs.writing.with_list.Given as goal
 
 abbrev pub invariant-loop-i : goal.invariant-loop-i
 invariant-loop-i l =
-    (l.i ≤ most_members)
-    × (length l.out ≡ place_length)
-    × (take (members_at + 4 * l.i) l.out ≡ take members_at l.initial.out ++ four_bytes (take l.i l.members))
-
-abbrev pub decreases-loop-i : goal.decreases-loop-i
-decreases-loop-i l = most_members - l.i
+    (length l.out ≡ place_length)
+    × (take (members_at + 4 * l.i) l.out ≡ take members_at l.initial.out ++ four_bytes (take l.i l.m-items))

@@ -1,34 +1,18 @@
--- `group_apart::covered::is_part_of_any` meets its contract: x is part of none of the numbers passed, so those left
--- decide. Assumes nothing.
-use mathlib.Core.Path.{refl, sym, ◌∙◌}
-use native.Mathlib.Omega.{arith}
-use borrow.Author.Rules.{rules}
+-- `group_apart::covered::is_part_of_any` meets its contract: the library's search asks as `any` does. Assumes nothing.
+use Rattle.std.proofs.Common.{◌≡◌, ◌∙◌, rules, tests}
+use Rattle.std.specs.List.{list_any, between}
+use Rattle.std.proofs.lemmas.Iterator.{YieldsList-from_slice}
+use Rattle.std.proofs.lemmas.Iterator.Search.{any_from_yields_List}
+use Rattle.std.proofs.lemmas.Slice.{between_is}
 use Rattle.group_step.specs.StepForms.{part_of}
-use Rattle.group_step.proofs.LoopTurns.{found, not_yet, none_found}
+use Rattle.group_step.proofs.Chains.{any_is}
 use Rattle.group_apart.proofs.covered.is_part_of_any.Goals as goal
-
-pub loop-j-init : goal.loop-j-init
-loop-j-init c = (search rules, refl)
-
-pub offset_bounds-s-j : goal.offset_bounds-s-j
-offset_bounds-s-j c = omega arith
-
-pub returns-then-is_part : goal.returns-then-is_part
-returns-then-is_part c =
-    let l = c.loop-j in
-    let a = c.args in
-    let e = sym c.is_part.ensures ∙ c.if-is_part.true in
-    found (part_of a.x) _ a.s.now l.j a.n l.invariant.1 (omega arith) (omega arith) e
-
-pub loop-j-preserved : goal.loop-j-preserved
-loop-j-preserved c =
-    let l = c.loop-j in
-    let a = c.args in
-    let e = sym c.is_part.ensures ∙ c.if-is_part.false in
-    (omega arith, not_yet (part_of a.x) _ a.s.now l.j a.n l.invariant.1 (omega arith) (omega arith) e)
 
 pub returns : goal.returns
 returns c =
-    let l = c.loop-j in
     let a = c.args in
-    none_found (part_of a.x) _ a.s.now l.j a.n l.invariant.1 (omega arith) (omega arith)
+    let left = between a.t a.n a.s.now in
+    let e : c.any.result ≡ list_any (part_of a.x) left
+    = any_from_yields_List (part_of a.x) _ _ c.any.result c.any.ensures.ran
+    (YieldsList-from_slice left cc) (λ x b q k. search (rules, tests)) in
+    e ∙ rw (between_is a.s.now a.t a.n) (any_is (part_of a.x) _)

@@ -7,7 +7,7 @@ use Prim.Native.Nat.{ℕ, ◌+◌}
 use native.Mathlib.Omega.{arith}
 use borrow.Author.Rules.{rules}
 use lib.ListN.{get_or, take, set, length-set}
-use lib.Seq.{slice, slice_empty, drop-set-lt}
+use lib.Seq.{slice, slice_empty, drop-set-lt, get_or-take, length-take-le}
 use Rattle.math_lists.specs.SortedLists.{filter}
 use Rattle.math_maximal.specs.Step.{compatible, candidate}
 use Rattle.group_step.specs.StepForms.{conflicting, staying, wholes}
@@ -17,12 +17,12 @@ use Rattle.group_apart.proofs.PutApart.{apart-all}
 use Rattle.group_apart.proofs.covered.put_apart.Goals as goal
 use Rattle.group_apart.proofs.covered.put_apart.Goals.{then-is_compatible, else-is_compatible}
 
-pub loop-i-init : goal.loop-i-init
+pub loop-g-init : goal.loop-g-init
 unfolding staying wholes
-loop-i-init c =
+loop-g-init c =
     let a = c.args in
+    let all = length-take-le a.n a.gs.now (omega arith) in
     let ys = map (candidate a.m a.k) (filter (compatible a.m) (take a.n a.gs.now)) in (
-      search rules,
       search rules,
       search rules,
       refl,
@@ -33,78 +33,79 @@ loop-i-init c =
       refl,
     )
 
-pub offset_bounds-gs-i : goal.offset_bounds-gs-i
-offset_bounds-gs-i c = omega arith
-
 pub bounds-out-w : goal.bounds-out-w
 bounds-out-w c =
-    let l = c.loop-i in
+    let l = c.loop-g in
+    let i = l.g-index in
     let a = c.args in
-    let d = ap not (sym c.is_compatible.ensures ∙ c.if-is_compatible.true) in
+    let all = length-take-le a.n a.gs.now (omega arith) in
+    let same = get_or-take a.n a.gs.now i 0 (omega arith) in
+    let d = ap not (ap (compatible a.m) (sym same) ∙ sym c.is_compatible.ensures ∙ c.if-is_compatible.true) in
     omega (
       arith,
-      l.invariant.4,
-      place-behind (conflicting a.m) a.gs.now a.t l.a l.w l.i a.n
-          l.invariant.5 l.invariant.3 (omega arith) (omega arith) d,
+      l.invariant.3,
+      place-behind (conflicting a.m) a.gs.now a.t l.a l.w i a.n
+          l.invariant.4 l.invariant.2 (omega arith) (omega arith) d,
     )
 
-pub loop-i-preserved : goal.loop-i-preserved
-loop-i-preserved c =
-    let l = c.loop-i in
+pub loop-g-preserved : goal.loop-g-preserved
+loop-g-preserved c =
+    let l = c.loop-g in
+    let i = l.g-index in
     let a = c.args in
+    let all = length-take-le a.n a.gs.now (omega arith) in
     let s = a.gs.now in
     let p = conflicting a.m in
     let q = compatible a.m in
     let f = candidate a.m a.k in
-    let g = get_or s l.i 0 in
-    let ys = map f (filter q (slice (l.i + 1) a.n s)) in
-    let is = sym c.is_compatible.ensures in
+    let g = get_or s i 0 in
+    let ys = map f (filter q (slice (i + 1) a.n s)) in
+    let same = get_or-take a.n s i 0 (omega arith) in
+    let is = ap q (sym same) ∙ sym c.is_compatible.ensures in
     elim c.if-is_compatible.branch [
       | then-is_compatible v ↦
           let e = is ∙ v.if-is_compatible.true in
           let d = ap not e in
           let x = v.candidate_of in
-          let room = place-behind p s a.t l.a l.w l.i a.n l.invariant.5 l.invariant.3 (omega arith) (omega arith)
+          let room = place-behind p s a.t l.a l.w i a.n l.invariant.4 l.invariant.2 (omega arith) (omega arith)
           d in
           rw (v.out-is, v.a-is, v.w-is) (
             omega arith,
-            omega arith,
             omega (arith, room),
             omega arith,
-            simp length-set l.invariant.4,
-            not-counted p a.t s l.a l.i a.n l.invariant.5 (omega arith) (omega arith) d,
-            front_same p _ s l.out l.a l.i a.n l.invariant.6 (omega arith) (omega arith) d l.w x.result
+            simp length-set l.invariant.3,
+            not-counted p a.t s l.a i a.n l.invariant.4 (omega arith) (omega arith) d,
+            front_same p _ s l.out l.a i a.n l.invariant.5 (omega arith) (omega arith) d l.w x.result
                 (omega arith),
-            behind_more q f _ s l.out a.t l.w l.i a.n l.invariant.7 (omega arith) (omega arith) (omega arith)
+            behind_more q f _ s l.out a.t l.w i a.n l.invariant.6 (omega arith) (omega arith) (omega arith)
                 (omega (arith, room)) e
-                ∙ ap (λ (y : ℕ). slice a.t (l.w + 1) (set l.out l.w y) ++ ys) (sym x.ensures),
-            drop-set-lt a.n l.out l.w x.result room ∙ l.invariant.8,
+                ∙ ap (λ (y : ℕ). slice a.t (l.w + 1) (set l.out l.w y) ++ ys)
+                (sym (x.ensures ∙ ap f same)),
+            drop-set-lt a.n l.out l.w x.result room ∙ l.invariant.7,
           )
       | else-is_compatible v ↦
           let e = is ∙ v.if-is_compatible.false in
           let d = ap not e in
-          let more = counted p a.t s l.a l.i a.n l.invariant.5 (omega arith) (omega arith) d in
-          rw (v.out-is, v.a-is, v.w-is) (
+          let more = counted p a.t s l.a i a.n l.invariant.4 (omega arith) (omega arith) d in
+          rw (v.out-is, v.a-is, v.w-is, same) (
             omega arith,
             omega arith,
             omega arith,
-            omega arith,
-            simp length-set l.invariant.4,
+            simp length-set l.invariant.3,
             more,
-            front-more p _ s l.out l.a l.i a.n l.invariant.6 (omega arith) (omega arith) (omega arith) d,
-            behind-same q f _ s l.out a.t l.w l.i a.n l.invariant.7 (omega arith) (omega arith) e l.a g
+            front-more p _ s l.out l.a i a.n l.invariant.5 (omega arith) (omega arith) (omega arith) d,
+            behind-same q f _ s l.out a.t l.w i a.n l.invariant.6 (omega arith) (omega arith) e l.a g
                 (omega (arith, more)) (omega (arith, more)),
-            drop-set-lt a.n l.out l.a g (omega arith) ∙ l.invariant.8,
+            drop-set-lt a.n l.out l.a g (omega arith) ∙ l.invariant.7,
           )
     ]
 
-pub shape_of-out : goal.shape_of-out
-shape_of-out c = c.loop-i.invariant.4
-
 pub returns : goal.returns
 returns c =
-    let l = c.loop-i in
+    let l = c.loop-g in
+    let i = l.g-index in
     let a = c.args in
+    let all = length-take-le a.n a.gs.now (omega arith) in
     apart-all (conflicting a.m) (compatible a.m) (candidate a.m a.k) a.gs.now l.out a.t l.a
-    l.w l.i a.n (omega arith) (omega arith) _ _ _ l.invariant.1 l.invariant.3 l.invariant.5 l.invariant.6 l.invariant.7
-    l.invariant.8
+    l.w i a.n (omega arith) (omega arith) _ _ _ l.invariant.0 l.invariant.2 l.invariant.4 l.invariant.5 l.invariant.6
+    l.invariant.7

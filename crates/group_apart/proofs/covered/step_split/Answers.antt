@@ -33,11 +33,10 @@ returns c =
     = ap₂ (all_covered a.m a.k) (sym second) (sym first)
     ∙ sym r.ensures
     ∙ c.if-not-are_covered.false in
-    let y = c.copy_in in
-    subst (Left a.gs.now a.n y.new.d)
+    let y = c.copy_from_slice in
+    subst (Left a.gs.now a.n y.new.self)
     (covered-step a.m a.k before c.requires.3 c.requires.4 c.requires.5 covered) (
       sym (length-append st wh ∙ all),
-      y.ensures
-          ∙ apart-row st wh _ out a.t a.n p.ensures c.requires.7 all a.gs.now (omega arith)
-          c.requires.0 refl,
+      y.ensures.after
+          ∙ apart-row st wh _ out a.t a.n p.ensures c.requires.7 all a.gs.now (omega arith) refl,
     )

@@ -3,34 +3,21 @@
 use mathlib.Core.Path.{refl, ap, ◌∙◌}
 use Prim.Native.Nat.{ℕ}
 use native.Mathlib.Omega.{arith}
-use borrow.Author.Rules.{rules}
 use lib.Bits.{bit_or}
-use lib.ListN.{get_or, set, length-set}
+use lib.ListN.{get_or, set, take}
 use Rattle.group_step.specs.StepForms.{gaining, gained}
-use Rattle.group_step.proofs.LoopTurns.{made_more, made_all}
+use Rattle.group_step.proofs.LoopTurns.{made_more}
 use Rattle.group_apart.proofs.gaining.put_bit.Goals as goal
 
-pub loop-i-init : goal.loop-i-init
+pub loop-g-init : goal.loop-g-init
 unfolding gained
-loop-i-init c = (search rules, refl, refl)
+loop-g-init c = refl
 
-pub loop-i-preserved : goal.loop-i-preserved
+pub loop-g-preserved : goal.loop-g-preserved
 unfolding gained
-loop-i-preserved c =
-    let l = c.loop-i in
-    let a = c.args in (
-      omega arith,
-      simp length-set l.invariant.1,
-      ap (λ (b : ℕ). set l.gs l.i (bit_or (get_or l.gs l.i 0) b)) c.only-b.ensures
-          ∙ made_more (gaining a.k) a.gs.now l.gs l.i l.invariant.2 (omega arith),
-    )
-
-pub shape_of-gs : goal.shape_of-gs
-shape_of-gs c = c.loop-i.invariant.1
-
-pub returns : goal.returns
-unfolding gained
-returns c =
-    let l = c.loop-i in
+loop-g-preserved c =
+    let l = c.loop-g in
     let a = c.args in
-    made_all (gaining a.k) a.gs.now l.gs l.i l.invariant.2 a.n (omega arith) (omega arith)
+    let i = l.g-index in
+    ap (λ (b : ℕ). set l.g-items i (bit_or (get_or l.g-items i 0) b)) c.only-b.ensures
+    ∙ made_more (gaining a.k) (take a.n a.gs.now) l.g-items i l.invariant (omega arith)

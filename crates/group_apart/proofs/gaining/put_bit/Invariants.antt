@@ -2,16 +2,9 @@
 -- Assumes nothing.
 use mathlib.Core.Path.{◌≡◌}
 use mathlib.Core.List.{◌++◌}
-use Prim.Native.Nat.{◌-◌, ◌≤◌}
-use lib.ListN.{length, take, drop}
+use lib.ListN.{take, drop}
 use Rattle.group_step.specs.StepForms.{gained}
 use Rattle.group_apart.proofs.gaining.put_bit.Given as goal
 
-abbrev pub invariant-loop-i : goal.invariant-loop-i
-invariant-loop-i l =
-    (l.i ≤ l.n)
-    × (length l.gs ≡ length l.initial.gs)
-    × (l.gs ≡ gained l.k (take l.i l.initial.gs) ++ drop l.i l.initial.gs)
-
-abbrev pub decreases-loop-i : goal.decreases-loop-i
-decreases-loop-i l = l.n - l.i
+abbrev pub invariant-loop-g : goal.invariant-loop-g
+invariant-loop-g l = l.g-items ≡ gained l.k (take l.g-index l.initial.g-items) ++ drop l.g-index l.initial.g-items

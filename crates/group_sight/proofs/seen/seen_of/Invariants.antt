@@ -2,7 +2,7 @@
 -- Assumes nothing.
 use mathlib.Core.Path.{◌≡◌}
 use mathlib.Core.List.{List, [], ◌∷◌, ◌++◌}
-use Prim.Native.Nat.{suc, ◌-◌, ◌^◌, ◌<◌}
+use Prim.Native.Nat.{suc, ◌^◌, ◌<◌}
 use lib.ListN.{length}
 use Rattle.math_contexts.specs.Box.{Lawful}
 use Rattle.edit_record.specs.declared.Edit.{Edit}

@@ -6,18 +6,18 @@ use native.Mathlib.Omega.{arith}
 use Rattle.list_version.specs.VersionForms.{is_in}
 use Rattle.list_line.proofs.alone.put_lone_name.Goals as goal
 
-pub returns-then-not-is_member : goal.returns-then-not-is_member
-returns-then-not-is_member c =
+pub returns-then-not-has : goal.returns-then-not-has
+returns-then-not-has c =
     let s = c in
     let out : is_in s.args.g s.args.x ≡ false
-    = sym c.is_member.ensures ∙ c.if-not-is_member.true in
+    = sym c.has.ensures ∙ c.if-not-has.true in
     (rw out (sym (append-nil _)), omega arith)
 
 pub returns : goal.returns
 returns c =
     let a = c.args in
     let in-it : is_in a.g a.x ≡ true
-    = sym c.is_member.ensures
-    ∙ c.if-not-is_member.false in
+    = sym c.has.ensures
+    ∙ c.if-not-has.false in
     let put = c.form_name in
     (put.ensures.0 ∙ rw in-it, put.ensures.1)

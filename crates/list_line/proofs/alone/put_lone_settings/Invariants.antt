@@ -2,19 +2,14 @@
 -- bytes. Assumes nothing.
 use mathlib.Core.Path.{◌≡◌}
 use mathlib.Core.List.{◌++◌}
-use Prim.Native.Nat.{◌+◌, ◌-◌, ◌*◌, ◌≤◌}
+use Prim.Native.Nat.{◌+◌, ◌*◌, ◌≤◌}
 use lib.ListN.{length, take}
-use Rattle.edit_record.specs.Layout.{keys}
 use Rattle.list_text.specs.Pieces.{equated_length}
 use Rattle.list_line.specs.LineForms.{settings_by}
 use Rattle.list_line.proofs.alone.put_lone_settings.Given as goal
 
 abbrev pub invariant-loop-k : goal.invariant-loop-k
 invariant-loop-k l =
-    (l.k ≤ keys)
-    × (l.w ≤ l.n + l.k * (1 + equated_length))
+    (l.w ≤ l.n + l.k * (1 + equated_length))
     × (length l.out ≡ length l.initial.out)
     × (take l.w l.out ≡ take l.n l.initial.out ++ settings_by (take l.t l.stamps) l.g l.k)
-
-abbrev pub decreases-loop-k : goal.decreases-loop-k
-decreases-loop-k l = keys - l.k

@@ -10,7 +10,7 @@ build-requires c =
     let start = c in
     let a = start.args in
     let t = tables_of a.c a.records.now a.objects.now a.groups.now in
-    ((a.c, holds t start.requires, refl), refl, refl, refl, refl)
+    ((a.c, holds t start.requires, refl), c.none-ix.ensures.0, c.none-ix.ensures.1)
 
 pub put_list_by-requires : goal.put_list_by-requires
 put_list_by-requires c =

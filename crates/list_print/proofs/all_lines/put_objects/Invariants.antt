@@ -2,29 +2,18 @@
 -- it. Assumes nothing.
 use mathlib.Core.Path.{◌≡◌}
 use mathlib.Core.List.{map}
-use Prim.Native.Nat.{◌-◌, ◌*◌, ◌≤◌}
+use Prim.Native.Nat.{◌*◌}
 use lib.ListN.{length, take}
-use Rattle.group_step.specs.GroupRows.{most_sets, most_groups}
+use Rattle.group_step.specs.GroupRows.{most_groups}
 use Rattle.table_drawing.specs.Tables.{tables_of}
 use Rattle.list_line.specs.Line.{line_length}
 use Rattle.list_lines.specs.List.{lines_for}
 use Rattle.list_print.specs.Printing.{joined}
 use Rattle.list_print.specs.PrintForms.{Behind}
-use Rattle.list_line.specs.LineForms.{Kept}
 use Rattle.list_print.proofs.all_lines.put_objects.Given as goal
 
 abbrev pub invariant-loop-i : goal.invariant-loop-i
 invariant-loop-i l =
-    (l.i ≤ l.m)
-    × (length l.out ≡ length l.initial.out)
+    (length l.out ≡ length l.initial.out)
     × (length l.line ≡ length l.initial.line)
-    × (length l.disputes ≡ most_sets)
-    × (length l.stamps ≡ most_sets)
-    × (length l.versions ≡ most_groups)
-    × Kept l.texts l.lens l.told
-    × Behind l.initial.out l.n (joined (map (λ o. joined (lines_for (tables_of l.c l.records l.objects l.groups) o)) (take l.i l.order)))
-    (l.i * (most_groups * line_length)) l.out l.w
-
-abbrev pub decreases-loop-i : goal.decreases-loop-i
-decreases-loop-i l =
-    l.m - l.i
+    × Behind l.initial.out l.n (joined (map (λ o. joined (lines_for (tables_of l.c l.records l.objects l.groups) o)) (take l.i l.order))) (l.i * (most_groups * line_length)) l.out l.w

@@ -30,14 +30,14 @@ bounds-stamps-i c =
     let low = (found.loop-left.invariant.0 found.highest-i.result found.highest-i.ensures.1).0 in
     omega (arith, low, found.requires.0)
 
-pub is_member-requires : goal.is_member-requires
-is_member-requires c =
+pub has-requires : goal.has-requires
+has-requires c =
     let found = c in
     let low = (found.loop-left.invariant.0 found.highest-i.result found.highest-i.ensures.1).0 in
     omega (arith, low, found.requires.1)
 
-pub returns-then-is_member : goal.returns-then-is_member
-returns-then-is_member c =
+pub returns-then-has : goal.returns-then-has
+returns-then-has c =
     let found = c in
     let start = found in
     let a = start.args in
@@ -46,9 +46,9 @@ returns-then-is_member c =
     let ss = a.stamps.now in
     let by = a.keyed.now in
     let top = found.highest-i.ensures in
-    c.larger-found.ensures
+    c.max-found.ensures
     ∙ ends ss by a.peaks a.t a.g a.k p.2 p.4 l.left found.highest-i.result l.found l.invariant.0
-    top.1 l.invariant.1 top.0 (sym c.is_member.ensures ∙ c.if-is_member.true)
+    top.1 l.invariant.1 top.0 (sym c.has.ensures ∙ c.if-has.true)
     ∙ most-is ss by a.peaks a.t a.g a.k p.2 p.4 p.0
 
 pub only-requires : goal.only-requires
@@ -74,7 +74,7 @@ loop-left-preserved c =
     let by = a.keyed.now in
     let i = found.highest-i.result in
     let b = found.highest-i.ensures.1 in
-    rw (c.without-left.ensures, c.only.ensures, c.larger-found.ensures) (
+    rw (c.without-left.ensures, c.only.ensures, c.max-found.ensures) (
       part-on ss by a.peaks a.t a.g a.k p.2 p.4 l.left i l.found l.invariant.0 b l.invariant.1,
       goes_on ss by a.peaks a.t a.g a.k p.2 p.4 l.left i l.found l.invariant.0 b l.invariant.1,
     )

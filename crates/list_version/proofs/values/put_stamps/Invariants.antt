@@ -1,7 +1,7 @@
 -- `list_version::values::put_stamps` meets its contract: the stamps of the Sets passed stand at the front, and it is
 -- noted which keys they have. Assumes nothing.
 use mathlib.Core.Path.{◌≡◌}
-use Prim.Native.Nat.{ℕ, ◌-◌, ◌≤◌, ◌<◌}
+use Prim.Native.Nat.{ℕ, ◌<◌}
 use lib.ListN.{length}
 use Rattle.edit_record.specs.Layout.{keys}
 use Rattle.list_version.specs.VersionForms.{KeyedTo}
@@ -10,12 +10,8 @@ use Rattle.list_version.proofs.values.put_stamps.Given as goal
 
 abbrev pub invariant-loop-i : goal.invariant-loop-i
 invariant-loop-i l =
-    (l.i ≤ l.t)
-    × (length l.out ≡ length l.initial.out)
+    (length l.out ≡ length l.initial.out)
     × (length l.keyed ≡ length l.initial.keyed)
     × (length l.tops ≡ keys)
     × ((j : ℕ) → j < l.i → StampedAt l.recs l.places l.out j)
     × KeyedTo l.out l.keyed l.tops l.peaks l.i
-
-abbrev pub decreases-loop-i : goal.decreases-loop-i
-decreases-loop-i l = l.t - l.i

@@ -1,7 +1,7 @@
 -- `list_version::values::sum_of` meets its contract: the total is the sum of the first 2 * i entries, each below
 -- 65,536. Assumes nothing.
 use mathlib.Core.Path.{◌≡◌}
-use Prim.Native.Nat.{ℕ, ◌*◌, ◌-◌, ◌<◌}
+use Prim.Native.Nat.{ℕ, ◌*◌, ◌<◌}
 use native.Mathlib.Omega.{arith}
 use lib.ListN.{get_or}
 use Rattle.math_lists.specs.NumbersBelow.{sum}

@@ -2,7 +2,7 @@
 use mathlib.Core.Path.{◌≡◌, sym, ap, ◌∙◌}
 use mathlib.Core.Bool.{Bool, true, false, cond}
 use mathlib.Core.List.{List}
-use Prim.Native.Nat.{ℕ, suc, ◌+◌, ◌-◌, ◌≤◌}
+use Prim.Native.Nat.{ℕ, suc, ◌+◌, ◌≤◌}
 use native.Mathlib.Numerals.{add-one}
 use native.Mathlib.Omega.{arith}
 use borrow.Author.Tests.{eq-eqb, ne_eqb}
@@ -24,7 +24,7 @@ at_most true e l = omega arith
 at_most false e l = omega arith
 
 pub loop-i-init : goal.loop-i-init
-loop-i-init c = (omega arith, omega arith, none-numbered c.args.recs.now)
+loop-i-init c = (omega arith, none-numbered c.args.recs.now)
 
 pub loop-i-preserved : goal.loop-i-preserved
 loop-i-preserved c =
@@ -40,13 +40,12 @@ loop-i-preserved c =
           ∙ ap (λ (b : Bool). l.count + cond b 1 0)
           (sym (ne_eqb (record_at rs l.i).kind create_kind (λ y. w.if-kind_at-eq-CREATE.false (k.ensures ∙ y))))
     ] in (
-      omega arith,
-      at_most (is_create (record_at rs l.i)) e l.invariant.1,
-      rw (add-one, e, l.invariant.2) (sym (one_more_lem
+      at_most (is_create (record_at rs l.i)) e l.invariant.0,
+      rw (add-one, e, l.invariant.1) (sym (one_more_lem
           rs l.i)),
     )
 
 pub returns : goal.returns
 returns c =
     let k : c.loop-i.i ≡ c.args.p = omega arith in
-    rw (← k) c.loop-i.invariant.2
+    rw (← k) c.loop-i.invariant.1

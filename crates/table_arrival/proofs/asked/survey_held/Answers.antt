@@ -46,7 +46,7 @@ mates_on-m-requires c =
     )
 
 pub returns : goal.returns
-returns c torn =
+returns c =
     let s = c in
     let a = s.args in
     let (h, _, ix, _, held) = s.requires in
@@ -56,8 +56,8 @@ returns c torn =
     let z = c in
     let seq = ap (λ (q : ℕ). sets_on e.tsite (record { 0 = q }) es) z.pair_at-q.ensures in
     let m = c.mates_on-m.ensures in
-    survey-found a.c rs h a.places.now ix e held a.torn c.mates_on-m.result.limited
-    z.creates_before-object.result c.mates_on-m.result.sets c.mates_on-m.result.plain torn
+    survey-found a.c rs h a.places.now ix e held c.mates_on-m.result.limited
+    z.creates_before-object.result c.mates_on-m.result.sets c.mates_on-m.result.plain
     (z.creates_before-object.ensures ∙ ap (number_at rs) (placed c.before.before.before.before))
     (m.sets ∙ ap length seq)
     (m.plain ∙ ap (plain_marks e) seq)

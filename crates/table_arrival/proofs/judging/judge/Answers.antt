@@ -1,71 +1,56 @@
 -- `table_arrival::judging::judge` meets its contract. Assumes nothing.
-use mathlib.Core.Path.{◌≡◌, refl, sym, ap, ◌∙◌}
-use mathlib.Core.Bool.{Bool, true, false, not, ◌&&◌, ◌||◌}
-use Prim.Native.Nat.{ℕ}
-use lib.Dec.{eqb}
+use mathlib.Core.Path.{◌≡◌, ◌∙◌}
+use mathlib.Core.Bool.{true, false}
+use borrow.Author.Tests.{ne_eqb}
 use Rattle.edit_record.specs.Layout.{limited_kind}
 use Rattle.edit_record.specs.RecordBytes.{decode_of}
 use Rattle.edit_record.specs.Answer1.{is_limited}
 use Rattle.edit_history.specs.EditsHeld.{edits_of}
-use Rattle.table_arrival.proofs.JudgedPlainly.{judged-plainly}
-use Rattle.table_arrival.proofs.JudgedByRows.{target-held, sets-counted, where_found}
+use Rattle.table_arrival.proofs.JudgedPlainly.{judged-plainly, judged-of-none, tested-plainly}
+use Rattle.table_arrival.proofs.JudgedByRows.{target-held, sets-counted}
 use Rattle.table_arrival.proofs.judging.judge.Goals as goal
 
--- neither of the two tests holds
-neither-asked : (f a b : Bool) → (f && a) ≡ false → (f && b) ≡ false → not (f && (a || b)) ≡ true
-neither-asked false a b g h = refl
-neither-asked true a b g h = rw (g, h)
+pub returns-in_default : goal.returns-in_default
+returns-in_default c =
+    let a = c.args in
+    let e = decode_of a.rec.now in
+    let j = c.judge_plainly in
+    rw c.in_default.is
+    (tested-plainly false a.recs.now a.c.records e 0 j.result j.ensures.0 j.ensures.1
+    (judged-of-none (edits_of a.recs.now a.c.records) e 0))
 
 pub judge_by_rows-requires : goal.judge_by_rows-requires
 judge_by_rows-requires c =
-    let s = c in
-    let a = s.args in
+    let a = c.args in
     let es = edits_of a.recs.now a.c.records in
     let e = decode_of a.rec.now in (
-      s.requires.0,
-      s.requires.1,
-      s.requires.2,
-      target-held es e a.v s.requires.3 _ c.if-v-limited.true,
-      sets-counted es e a.v s.requires.3 _ c.if-v-limited.true,
+      c.requires.0,
+      c.requires.1,
+      c.requires.2,
+      target-held es e a.v c.requires.3 c.in-Some.h c.in-Some.is,
+      sets-counted es e a.v c.requires.3 c.in-Some.h c.in-Some.is,
     )
 
-pub returns-then-v-limited : goal.returns-then-v-limited
-returns-then-v-limited c = where_found _ _ _ _ c.judge_by_rows.result c.judge_by_rows.ensures
-
-pub judge_by_rows-requires-then-v : goal.judge_by_rows-requires-then-v
-judge_by_rows-requires-then-v c =
-    let s = c in
-    let a = s.args in
+pub judge_by_rows-requires-then-h : goal.judge_by_rows-requires-then-h
+judge_by_rows-requires-then-h c =
+    let a = c.args in
     let es = edits_of a.recs.now a.c.records in
     let e = decode_of a.rec.now in (
-      s.requires.0,
-      s.requires.1,
-      s.requires.2,
-      target-held es e a.v s.requires.3 _ c.if-v.true,
-      sets-counted es e a.v s.requires.3 _ c.if-v.true,
+      c.requires.0,
+      c.requires.1,
+      c.requires.2,
+      target-held es e a.v c.requires.3 c.in-Some.h c.in-Some.is,
+      sets-counted es e a.v c.requires.3 c.in-Some.h c.in-Some.is,
     )
-
-pub returns-then-v : goal.returns-then-v
-returns-then-v c = where_found _ _ _ _ c.judge_by_rows-then-v.result c.judge_by_rows-then-v.ensures
-
-pub are_all_named-named-requires : goal.are_all_named-named-requires
-are_all_named-named-requires c =
-    let h = c.requires.0 in
-    (h.few-records, h.few-sets)
 
 pub returns : goal.returns
 returns c =
-    let s = c in
-    let a = s.args in
-    let h = s.requires.0 in
+    let a = c.args in
     let e = decode_of a.rec.now in
-    let kind = c.byte_at-limited in
-    let first : (a.v.found && is_limited e) ≡ false
-    = ap (λ (x : ℕ). a.v.found && eqb x limited_kind) (sym kind.ensures)
-    ∙ c.if-v-limited.false in
-    record {
-      named = c.are_all_named-named.ensures a.c.sites h.few-sites h.pass s.requires.1;
-      judged = λ on.
-          judged-plainly (edits_of a.recs.now a.c.records) e a.v s.requires.3
-          (neither-asked a.v.found (is_limited e) a.v.limited first c.if-v.false);
-    }
+    let h = c.in-Some.h in
+    let j = c.judge_plainly-2 in
+    let own : is_limited e ≡ false
+    = ne_eqb e.kind limited_kind (λ y. c.if-limited.false (c.byte_at-limited.ensures ∙ y)) in
+    rw c.in-Some.is
+    (tested-plainly true a.recs.now a.c.records e h.plain j.result j.ensures.0 j.ensures.1
+    (judged-plainly (edits_of a.recs.now a.c.records) e h (c.requires.3.whole h c.in-Some.is) own c.if-h.false))

@@ -22,13 +22,11 @@ use Rattle.table_index.specs.IndexForms.{number_at, is_on, places_on, head_at, l
 use Rattle.table_index.proofs.ChainsOfSets.{latest-low, Down, marks-down, marks-none}
 use Rattle.table_index.proofs.PlacesOfSets.{places-added, places-grow, places-length}
 use Rattle.table_index.proofs.ArrivingSet.{in-turn, conflict-unseen}
-use Rattle.table_index.proofs.chain.marks_along.Lts
-use Rattle.table_index.proofs.chain.marks_along.Tie
-use Rattle.table_index.proofs.chain.marks_along.Reads
 use Rattle.table_index.proofs.chain.marks_along.Goals as goal
+use Rattle.table_index.proofs.chain.marks_along.Goals.{Start}
 
 -- one link of the chain: the Set in place p of it, and what is marked before it
-record Link (s : (Lts.Start Tie.the-claims Reads.Pre Reads.Post goal.the-invariant-loop-p goal.the-decreases-loop-p)) (m p : ℕ) : Type 0 where
+record Link (s : Start) (m p : ℕ) : Type 0 where
   down : Down s.args.recs.now s.args.q (decode_of s.args.rec.now) m p
   low : p < s.args.n
   rank : get_or s.args.numbers.now p 0 ≡ length (places_on s.args.recs.now p s.args.q)
@@ -43,7 +41,7 @@ record Link (s : (Lts.Start Tie.the-claims Reads.Pre Reads.Post goal.the-invaria
       ≡ do_conflict (record_at s.args.recs.now p) (decode_of s.args.rec.now)
 
 link :
-    (s : (Lts.Start Tie.the-claims Reads.Pre Reads.Post goal.the-invariant-loop-p goal.the-decreases-loop-p)) (m p : ℕ) → m ≤ s.args.n →
+    (s : Start) (m p : ℕ) → m ≤ s.args.n →
     p ≡ latest_on s.args.recs.now s.args.q (decode_of s.args.rec.now).key m → 0 < p → Link s m p
 link s m p few is some =
     let a = s.args in
@@ -80,7 +78,7 @@ link s m p few is some =
 
 -- the test of a Set, by the calls of one turn
 tested :
-    (s : (Lts.Start Tie.the-claims Reads.Pre Reads.Post goal.the-invariant-loop-p goal.the-decreases-loop-p)) (m p : ℕ) (t : Link s m p) (x : ℕ) (b : Bool) →
+    (s : Start) (m p : ℕ) (t : Link s m p) (x : ℕ) (b : Bool) →
     x ≡ shown_value (decode_of s.args.rec.now).key (decode_of s.args.rec.now).value →
     b ≡ unseen_other (record_at s.args.recs.now p) (decode_of s.args.rec.now) x →
     b ≡ do_conflict (record_at s.args.recs.now p) (decode_of s.args.rec.now)
@@ -113,7 +111,7 @@ is_unseen_at-b-requires c =
     let s = c in
     let (m, few, is, marks) = l.invariant in
     let (d, h, all, arriving) = s.requires.0 in
-    let t = link c.before.before.before.before.before.before.before.before.before.before.before.before m l.p few is (omega arith) in
+    let t = link (goal.at.is_unseen_at-b-requires c).Start m l.p few is (omega arith) in
     (omega (arith, t.low, h.few-records, all), s.requires.1, s.requires.5)
 
 pub marked_with-marks-requires : goal.marked_with-marks-requires
@@ -124,12 +122,12 @@ marked_with-marks-requires c =
     let a = s.args in
     let e = decode_of a.rec.now in
     let (m, few, is, marks) = l.invariant in
-    let t = link c.before.before.before.before.before.before.before.before.before.before.before.before.before.before m l.p few is (omega arith) in
+    let t = link (goal.at.marked_with-marks-requires c).Start m l.p few is (omega arith) in
     let rank = c.byte_at-k.ensures ∙ t.rank in
     let shown = c3.shown-x.ensures
     ∙ ap₂ shown_value c3.byte_at-key.ensures
     c3.value_of.ensures in
-    let b = tested c.before.before.before.before.before.before.before.before.before.before.before.before.before.before m l.p t _ c.is_unseen_at-b.result shown c.is_unseen_at-b.ensures in
+    let b = tested (goal.at.marked_with-marks-requires c).Start m l.p t _ c.is_unseen_at-b.result shown c.is_unseen_at-b.ensures in
     let sum : l.marks + cond c.is_unseen_at-b.result (2 ^ c.byte_at-k.result) 0 < 2 ^ 64
     = subst (λ (v : Bool). l.marks + cond v (2 ^ c.byte_at-k.result) 0 < 2 ^ 64) (sym b)
     (subst
@@ -144,7 +142,7 @@ overflow_add-p c =
     let s = c4 in
     let (m, few, is, marks) = l.invariant in
     let (d, h, all, arriving) = s.requires.0 in
-    let t = link c.before.before.before.before.before.before.before.before.before.before.before.before.before.before.before m l.p few is (omega arith) in
+    let t = link (goal.at.overflow_add-p c).Start m l.p few is (omega arith) in
     search (rules, t.low, h.few-records, all)
 
 pub loop-p-smaller : goal.loop-p-smaller
@@ -153,7 +151,7 @@ loop-p-smaller c =
     let l = c5.loop-p in
     let s = c5 in
     let (m, few, is, marks) = l.invariant in
-    let t = link c.before.before.before.before.before.before.before.before.before.before.before.before.before.before.before.before m l.p few is (omega arith) in
+    let t = link (goal.at.loop-p-smaller c).Start m l.p few is (omega arith) in
     let back = c.byte_at-p-in-loop-p.ensures ∙ t.next in
     let low = latest-low s.args.recs.now s.args.q (decode_of s.args.rec.now).key l.p (omega arith) in
     omega (arith, back, low)
@@ -166,13 +164,13 @@ loop-p-preserved c =
     let a = s.args in
     let e = decode_of a.rec.now in
     let (m, few, is, marks) = l.invariant in
-    let t = link c.before.before.before.before.before.before.before.before.before.before.before.before.before.before.before.before m l.p few is (omega arith) in
+    let t = link (goal.at.loop-p-preserved c).Start m l.p few is (omega arith) in
     let rank = c.byte_at-k.ensures ∙ t.rank in
     let shown = c5.shown-x.ensures
     ∙ ap₂ shown_value c5.byte_at-key.ensures
     c5.value_of.ensures in
     let u = c.is_unseen_at-b in
-    let b = tested c.before.before.before.before.before.before.before.before.before.before.before.before.before.before.before.before m l.p t _ u.result shown u.ensures in
+    let b = tested (goal.at.loop-p-preserved c).Start m l.p t _ u.result shown u.ensures in
     let added : c.marked_with-marks.result
     ≡ l.marks + cond (do_conflict (record_at a.recs.now l.p) e)
     (2 ^ length (places_on a.recs.now l.p a.q)) 0

@@ -2,7 +2,6 @@
 use mathlib.Core.Path.{◌≡◌, sym, refl, ◌∙◌}
 use mathlib.Core.Bool.{true}
 use Rattle.math_lists.proofs.Booleans.{clash}
-use Rattle.edit_record.specs.declared.Edit.{Edit}
 use Rattle.edit_record.specs.RecordBytes.{decode_of}
 use Rattle.edit_record.specs.Answer1.{is_set}
 use Rattle.edit_record.proofs.WellFormed.{set-not-create}
@@ -11,50 +10,44 @@ use Rattle.edit_history.specs.Answers2to5.{passes}
 use Rattle.edit_walk.proofs.NewsDecide.{news-decide}
 use Rattle.table_index.specs.IndexForms.{counters_of}
 use Rattle.table_index.proofs.LookByIndex.{turn-of, target-of, create-room-of}
-use Rattle.table_index.proofs.plain.look.Lts
-use Rattle.table_index.proofs.plain.look.Tie
-use Rattle.table_index.proofs.plain.look.Reads
+use Rattle.std.proofs.Common.{Option, Some, None, IfSome}
+use Rattle.table_index.specs.declared.Looked.{Looked}
 use Rattle.table_index.proofs.plain.look.Goals as goal
-
-abbrev start-of : (Lts.After-is_passing_with Tie.the-claims Reads.Pre Reads.Post) → (Lts.Start Tie.the-claims Reads.Pre Reads.Post)
-start-of c =
-    let c2 = c in
-    c.before.before.before.before.before.before.before.before.before.before
-
-abbrev e-of : (Lts.Start Tie.the-claims Reads.Pre Reads.Post) → Edit
-e-of s = decode_of s.args.rec.now
+use Rattle.table_index.proofs.plain.look.Goals.{After-is_passing_with}
 
 -- the edit passes
 passed :
-    (c : (Lts.After-is_passing_with Tie.the-claims Reads.Pre Reads.Post)) → c.is_passing_with.result ≡ true →
-    (let s = start-of c in passes s.args.sites (edits_of s.args.recs.now s.args.n) (e-of c.before.before.before.before.before.before.before.before.before.before) ≡ true)
+    (c : After-is_passing_with) → c.is_passing_with.result ≡ true →
+    (let s = c in passes s.args.sites (edits_of s.args.recs.now s.args.n) (decode_of c.args.rec.now) ≡ true)
 passed c ok =
-    let s = start-of c in
+    let s = c in
     let a = s.args in
     let h = s.requires.0 in
     sym
-    (news-decide a.sites h.few-sites a.recs.now a.n h.pass a.places.now s.requires.2.indexed
-    a.held.now s.requires.4 h.held (e-of c.before.before.before.before.before.before.before.before.before.before))
+    (news-decide a.sites h.few-sites a.recs.now a.n h.pass a.ix.now.places s.requires.2.indexed
+    a.held.now s.requires.4 h.held (decode_of c.args.rec.now))
     ∙ sym c.is_passing_with.ensures
     ∙ ok
 
-pub returns-then-not-is_passing_with : goal.returns-then-not-is_passing_with
-returns-then-not-is_passing_with c ok = clash ok c.no_set.ensures.0
+-- what is found, and so more is known of it
+found-so : {P Q : Looked → Type 0} (r : Option Looked) → ((x : Looked) → P x → Q x) → IfSome r P → IfSome r Q
+found-so None f h = h
+found-so (Some x) f h = f x h
 
 pub look_at_set-requires : goal.look_at_set-requires
 look_at_set-requires c =
     let k = c in
     let c3 = k in
-    let s = start-of c.before.before.before.before in
+    let s = c in
     let a = s.args in
-    let e = e-of c.before.before.before.before.before.before.before.before.before.before.before.before.before.before in
+    let e = decode_of c.args.rec.now in
     let ok = k.if-not-is_passing_with.false in
     let set : is_set e ≡ true = sym k.is_set_kind.ensures ∙ c.if-is_set_kind.true in (
       (
         counters_of a.sites a.n a.m a.held.now 0,
         s.requires.0,
         refl,
-        turn-of a.sites a.held.now a.recs.now a.places.now e
+        turn-of a.sites a.held.now a.recs.now a.ix.now.places e
             (sym c3.is_passing_with.ensures ∙ ok),
         c3.is_all_seen-all.ensures,
       ),
@@ -62,31 +55,26 @@ look_at_set-requires c =
       s.requires.2,
       s.requires.3,
       set,
-      target-of a.sites (edits_of a.recs.now a.n) e (passed c.before.before.before.before ok) set,
+      target-of a.sites (edits_of a.recs.now a.n) e (passed (goal.at.look_at_set-requires c).After-is_passing_with ok) set,
     )
 
 pub returns-then-is_set_kind : goal.returns-then-is_set_kind
-returns-then-is_set_kind c ok =
-    let k = c in
-    let c4 = k in
-    let e = e-of (start-of c.before.before.before.before.before) in
-    let set : is_set e ≡ true = sym k.is_set_kind.ensures ∙ c.if-is_set_kind.true in
-    record {
-      pass = passed c.before.before.before.before.before (k.if-not-is_passing_with.false);
+returns-then-is_set_kind c =
+    let e = decode_of c.args.rec.now in
+    let set : is_set e ≡ true = sym c.is_set_kind.ensures ∙ c.if-is_set_kind.true in
+    found-so c.look_at_set.result
+    (λ r met. record {
+      pass = passed (goal.at.returns-then-is_set_kind c).After-is_passing_with c.if-not-is_passing_with.false;
       create-room = λ y. clash y (set-not-create e set);
-      set = λ y. c.look_at_set.ensures ok;
+      set = λ y. met;
       no_other = λ y. set;
-    }
+    })
+    c.look_at_set.ensures
 
-pub returns : goal.returns
-returns c ok =
-    let k = c in
-    let c4 = k in
-    let s = start-of c.before.before.before.before.before in
-    let e = e-of c.before.before.before.before.before.before.before.before.before.before.before.before.before.before.before in
-    record {
-      pass = passed c.before.before.before.before.before (k.if-not-is_passing_with.false);
-      create-room = create-room-of e s.args.m (sym c.no_set-2.ensures.0 ∙ ok);
-      set = λ y. clash y (sym k.is_set_kind.ensures ∙ c.if-is_set_kind.false);
-      no_other = λ y. clash y c.no_set-2.ensures.1;
-    }
+pub returns-then-kind-m : goal.returns-then-kind-m
+returns-then-kind-m c = record {
+  pass = passed (goal.at.returns-then-kind-m c).After-is_passing_with c.if-not-is_passing_with.false;
+  create-room = create-room-of (decode_of c.args.rec.now) c.args.m c.if-kind-m.true;
+  set = λ y. clash y (sym c.is_set_kind.ensures ∙ c.if-is_set_kind.false);
+  no_other = λ y. clash y c.no_set.ensures;
+}

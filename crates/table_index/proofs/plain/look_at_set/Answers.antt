@@ -4,45 +4,34 @@ use mathlib.Core.Bool.{not}
 use Prim.Native.Nat.{ℕ}
 use lib.Dec.{eqb}
 use lib.ListN.{get_or}
-use borrow.Author.Tests.{ltb-true}
-use Rattle.edit_record.specs.declared.Edit.{Edit}
+use native.Mathlib.Omega.{arith}
 use Rattle.edit_record.specs.RecordBytes.{decode_of}
 use Rattle.edit_walk.specs.WalkForms.{place_of}
 use Rattle.table_index.specs.IndexForms.{marks_on}
 use Rattle.table_index.proofs.LookByIndex.{target, met_of}
-use Rattle.table_index.proofs.plain.look_at_set.Lts
-use Rattle.table_index.proofs.plain.look_at_set.Tie
-use Rattle.table_index.proofs.plain.look_at_set.Reads
 use Rattle.table_index.proofs.plain.look_at_set.Goals as goal
-
-abbrev start-of : (Lts.After-place_at Tie.the-claims Reads.Pre Reads.Post) → (Lts.Start Tie.the-claims Reads.Pre Reads.Post)
-start-of c =
-    let c6 = c in
-    c.before.before.before.before.before.before.before.before.before
-
-abbrev e-of : (Lts.Start Tie.the-claims Reads.Pre Reads.Post) → Edit
-e-of s = decode_of s.args.rec.now
+use Rattle.table_index.proofs.plain.look_at_set.Goals.{After-place_at-q}
 
 -- where the code finds the target
 place_is :
-    (c : (Lts.After-place_at Tie.the-claims Reads.Pre Reads.Post)) →
-    (let s = start-of c in c.place_at-q.result
-    ≡ place_of s.args.places.now (e-of c.before.before.before.before.before.before.before.before.before).tsite.0 (e-of c.before.before.before.before.before.before.before.before.before).tseq.0)
+    (c : After-place_at-q) →
+    (let s = c in c.place_at-q.result
+    ≡ place_of s.args.ix.now.places (decode_of c.args.rec.now).tsite.0 (decode_of c.args.rec.now).tseq.0)
 place_is c =
-    let s = start-of c in
+    let s = c in
     c.place_at-q.ensures
-    ∙ ap (place_of s.args.places.now (e-of c.before.before.before.before.before.before.before.before.before).tsite.0) c.pair_at-seq.ensures
+    ∙ ap (place_of s.args.ix.now.places (decode_of c.args.rec.now).tsite.0) c.pair_at-seq.ensures
 
 pub marks_unless-conflicts-requires : goal.marks_unless-conflicts-requires
 marks_unless-conflicts-requires c =
     let c4 = c in
-    let s = start-of c.before.before.before.before in
+    let s = c in
     let a = s.args in
     let (d, h, count, turn, sees) = s.requires.0 in
     let x = s.requires.2 in
-    let t = target d a.recs.now h a.n count a.places.now a.numbers.now a.counts.now
-    a.chains.now x (e-of c.before.before.before.before.before.before.before.before.before.before.before.before.before) s.requires.5 in
-    rw (place_is c.before.before.before.before) (
+    let t = target d a.recs.now h a.n count a.ix.now.places a.ix.now.numbers a.ix.now.counts
+    a.ix.now.chains x (decode_of c.args.rec.now) s.requires.5 in
+    rw (place_is (goal.at.marks_unless-conflicts-requires c).After-place_at-q) (
       (d, h, count, record { in-turn = turn; place = t.low; target = t.target }, sees),
       s.requires.1,
       x.chained,
@@ -53,18 +42,18 @@ marks_unless-conflicts-requires c =
     )
 
 pub returns : goal.returns
-returns c ok =
+returns c =
     let c1 = c in
     let c2 = c1 in
     let c4 = c2 in
-    let s = start-of c.before.before.before.before.before in
+    let s = c in
     let a = s.args in
     let (d, h, count, turn, sees) = s.requires.0 in
-    let is = place_is c.before.before.before.before.before in
-    met_of d a.recs.now h a.n count a.places.now a.numbers.now a.counts.now
-    a.chains.now s.requires.2 (e-of c.before.before.before.before.before.before.before.before.before.before.before.before.before.before) s.requires.5 _
-    (c2.byte_at-object.ensures ∙ ap (λ (i : ℕ). get_or a.numbers.now i 0) is)
+    let is = place_is (goal.at.returns c).After-place_at-q in
+    met_of d a.recs.now h a.n count a.ix.now.places a.ix.now.numbers a.ix.now.counts
+    a.ix.now.chains s.requires.2 (decode_of c.args.rec.now) s.requires.5 _
+    (c2.byte_at-object.ensures ∙ ap (λ (i : ℕ). get_or a.ix.now.numbers i 0) is)
     c2.at16-sets.ensures
     (ap (λ (k : ℕ). not (eqb k 0)) c1.byte_at-limits.ensures)
-    (c.marks_unless-conflicts.ensures ∙ ap (λ (i : ℕ). marks_on a.recs.now a.n i (e-of c.before.before.before.before.before.before.before.before.before.before.before.before.before.before)) is)
-    (ltb-true c2.at16-sets.result _ ok)
+    (c.marks_unless-conflicts.ensures ∙ ap (λ (i : ℕ). marks_on a.recs.now a.n i (decode_of c.args.rec.now)) is)
+    (omega arith)

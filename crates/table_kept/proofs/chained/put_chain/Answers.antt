@@ -10,13 +10,11 @@ use Rattle.table_index.proofs.ChainsOfSets.{latest-low}
 use Rattle.table_kept.specs.ChainForms.{number_on, PutFrom}
 use Rattle.table_kept.proofs.AlongChains.{LatestBefore, latest-before, rank-fits, put-one-more, put-to-end}
 use borrow.Author.Rules.{rules}
-use Rattle.table_kept.proofs.chained.put_chain.Lts
-use Rattle.table_kept.proofs.chained.put_chain.Tie
-use Rattle.table_kept.proofs.chained.put_chain.Reads
 use Rattle.table_kept.proofs.chained.put_chain.Goals as goal
+use Rattle.table_kept.proofs.chained.put_chain.Goals.{Start}
 
 -- one link of the chain
-record Linking (s : (Lts.Start Tie.the-claims Reads.Pre Reads.Post goal.the-invariant-loop-p goal.the-decreases-loop-p)) (m p : ℕ) : Type 0 where
+record Linking (s : Start) (m p : ℕ) : Type 0 where
   latest : LatestBefore s.args.recs.now s.args.q s.args.key m p
   low : p < s.args.n
   rank : get_or s.args.numbers.now p 0 ≡ number_on s.args.recs.now s.args.q p
@@ -24,7 +22,7 @@ record Linking (s : (Lts.Start Tie.the-claims Reads.Pre Reads.Post goal.the-inva
   next : get_or s.args.chains.now (link_at p) 0 ≡ latest_on s.args.recs.now s.args.q s.args.key p
 
 link :
-    (s : (Lts.Start Tie.the-claims Reads.Pre Reads.Post goal.the-invariant-loop-p goal.the-decreases-loop-p)) (m p : ℕ) → m ≤ s.args.n →
+    (s : Start) (m p : ℕ) → m ≤ s.args.n →
     p ≡ latest_on s.args.recs.now s.args.q s.args.key m → 0 < p → Linking s m p
 link s m p few is some =
     let a = s.args in
@@ -62,7 +60,7 @@ overflow_cast-out c =
     let l = c.loop-p in
     let s = c in
     let (m, few, is, h) = l.invariant in
-    let t = link c.before.before.before.before.before.before.before.before.before.before m l.p few is (omega arith) in
+    let t = link (goal.at.overflow_cast-out c).Start m l.p few is (omega arith) in
     search (rules, t.low, s.requires.0.few)
 
 pub bounds-out-k : goal.bounds-out-k
@@ -70,7 +68,7 @@ bounds-out-k c =
     let l = c.loop-p in
     let s = c in
     let (m, few, is, h) = l.invariant in
-    let t = link c.before.before.before.before.before.before.before.before.before.before m l.p few is (omega arith) in
+    let t = link (goal.at.bounds-out-k c).Start m l.p few is (omega arith) in
     let there : c.byte_at-k.result < length l.out
     = omega (arith, c.byte_at-k.ensures ∙ t.rank, t.fits, s.requires.2, h.long) in
     there
@@ -80,7 +78,7 @@ overflow_add-p c =
     let l = c.loop-p in
     let s = c in
     let (m, few, is, h) = l.invariant in
-    let t = link c.before.before.before.before.before.before.before.before.before.before m l.p few is (omega arith) in
+    let t = link (goal.at.overflow_add-p c).Start m l.p few is (omega arith) in
     search (rules, t.low, s.requires.0.few)
 
 pub loop-p-smaller : goal.loop-p-smaller
@@ -88,7 +86,7 @@ loop-p-smaller c =
     let l = c.loop-p in
     let s = c in
     let (m, few, is, h) = l.invariant in
-    let t = link c.before.before.before.before.before.before.before.before.before.before.before m l.p few is (omega arith) in
+    let t = link (goal.at.loop-p-smaller c).Start m l.p few is (omega arith) in
     let low = latest-low s.args.recs.now s.args.q s.args.key l.p (omega arith) in
     omega (arith, c.byte_at-p-in-loop-p.ensures ∙ t.next, low)
 
@@ -98,7 +96,7 @@ loop-p-preserved c =
     let s = c in
     let a = s.args in
     let (m, few, is, h) = l.invariant in
-    let t = link c.before.before.before.before.before.before.before.before.before.before.before m l.p few is (omega arith) in
+    let t = link (goal.at.loop-p-preserved c).Start m l.p few is (omega arith) in
     let rank = c.byte_at-k.ensures ∙ t.rank in (
       l.p,
       omega (arith, t.low),

@@ -1,11 +1,9 @@
 -- `table_next::take_short` meets its contract. Assumes nothing.
-use mathlib.Core.Path.{◌≡◌, refl}
-use Prim.Native.Nat.{ℕ, ◌+◌, ◌≤◌}
+use mathlib.Core.Path.{refl}
+use Prim.Native.Nat.{◌≤◌}
 use native.Mathlib.Omega.{arith}
 use lib.ListN.{length}
-use borrow.Author.Tests.{not-false}
 use Rattle.math_lists.proofs.Booleans.{clash, neither}
-use Rattle.edit_record.specs.declared.Edit.{Edit}
 use Rattle.edit_record.specs.Layout.{record_length}
 use Rattle.edit_record.specs.RecordBytes.{decode_of}
 use Rattle.edit_record.specs.Answer1.{is_limited}
@@ -16,61 +14,45 @@ use Rattle.table_index.proofs.LookByIndex.{fit_of}
 use Rattle.table_plain.proofs.PlainGoes.{look-asks}
 use Rattle.table_next.proofs.LimitedTaken.{set-where, kept_either}
 use borrow.Author.Rules.{rules}
-use Rattle.table_next.proofs.short.take_short.Lts
-use Rattle.table_next.proofs.short.take_short.Tie
-use Rattle.table_next.proofs.short.take_short.Reads
 use Rattle.table_next.proofs.short.take_short.Goals as goal
+use Rattle.table_next.proofs.short.take_short.Goals.{Start}
 
-none_more : (n : ℕ) → n + 0 ≡ n
-none_more n = omega arith
-
-abbrev start-of : (Lts.After-look Tie.the-claims Reads.Pre Reads.Post) → (Lts.Start Tie.the-claims Reads.Pre Reads.Post)
-start-of c =
-    let c8 = c in
-    c.before.before.before.before.before.before.before.before.before.before.before.before
-
-abbrev e-of : (Lts.Start Tie.the-claims Reads.Pre Reads.Post) → Edit
-e-of s = decode_of s.args.rec.now
-
-there : (s : (Lts.Start Tie.the-claims Reads.Pre Reads.Post)) → record_length ≤ length s.args.rec.now
+there : (s : Start) → record_length ≤ length s.args.rec.now
 there s = omega (arith, s.requires.0.whole, span-least s.args.rec.now)
 
-pub look-a-requires : goal.look-a-requires
-look-a-requires c =
+pub look-requires : goal.look-requires
+look-requires c =
     let s = c in
     let a = s.args in (
       look-asks a.sites a.n a.m a.sum a.held.now a.records.now a.objects.now a.groups.now s.requires.0.takes.is_sound,
       omega (arith, (sound-at _ s.requires.0.takes.is_sound).records-long),
       s.requires.0.takes.index,
-      there c.before.before.before.before.before.before.before.before.before.before.before.before,
+      there (goal.at.look-requires c).Start,
       s.requires.0.takes.wide,
     )
 
-pub returns-then-not-a : goal.returns-then-not-a
-returns-then-not-a c =
-    let s = start-of c.before.before.before.before in
-    let x = c.not_taken.ensures in
-    rw (x.0, x.1, x.2, none_more s.args.n) (
+pub returns-in_default : goal.returns-in_default
+returns-in_default c =
+    let s = c in (
       record { taken = λ y. clash y refl; tables = λ y. refl; index = λ y. (refl, refl, refl, refl) },
       s.requires.1,
     )
 
 pub bounds-rec-0 : goal.bounds-rec-0
 bounds-rec-0 c =
-    let long = there (start-of c.before.before.before.before) in
+    let long = there (goal.at.bounds-rec-0 c).Start in
     search (rules, long)
 
 pub take_limited-requires : goal.take_limited-requires
 take_limited-requires c =
     let i = c in
-    let l = i in
-    let s = start-of c.before.before.before.before.before.before.before.before.before.before.before.before.before.before.before.before in
+    let s = c in
     let a = s.args in
-    let f = l.look-a.ensures (not-false l.look-a.result.ok i.if-not-a.false) in (
+    let f = c.in-Some.ensures in (
       s.requires.0,
       f,
-      set-where a.sites a.n a.m a.records.now a.places.now a.numbers.now a.counts.now
-          (e-of c.before.before.before.before.before.before.before.before.before.before.before.before.before.before.before.before.before.before.before.before.before.before.before.before.before.before.before.before) l.look-a.result f i.if-a-kind.true,
+      set-where a.sites a.n a.m a.records.now a.ix.now.places a.ix.now.numbers a.ix.now.counts
+          (decode_of a.rec.now) c.in-Some.a f i.if-a-kind.true,
       s.requires.1,
     )
 
@@ -80,22 +62,21 @@ returns-then-a-kind c = c.take_limited.ensures
 pub take_plain-requires : goal.take_plain-requires
 take_plain-requires c =
     let i = c in
-    let l = i in
-    let s = start-of c.before.before.before.before.before.before.before.before.before.before.before.before.before.before in
+    let s = c in
     let a = s.args in
-    let f = l.look-a.ensures (not-false l.look-a.result.ok i.if-not-a.false) in
-    let (none, plain) = neither l.look-a.result.limited (is_limited (e-of c.before.before.before.before.before.before.before.before.before.before.before.before.before.before.before.before.before.before.before.before.before.before.before.before.before.before)) i.if-a-kind.false in (
+    let f = c.in-Some.ensures in
+    let (none, plain) = neither c.in-Some.a.limited (is_limited (decode_of a.rec.now)) i.if-a-kind.false in (
       s.requires.0,
-      fit_of a.sites a.n a.m a.records.now a.places.now a.numbers.now a.counts.now
-          (e-of c.before.before.before.before.before.before.before.before.before.before.before.before.before.before.before.before.before.before.before.before.before.before.before.before.before.before)
-          l.look-a.result f plain none,
+      fit_of a.sites a.n a.m a.records.now a.ix.now.places a.ix.now.numbers a.ix.now.counts
+          (decode_of a.rec.now)
+          c.in-Some.a f plain none,
     )
 
 pub returns : goal.returns
 returns c =
     let t = c.take_plain in
-    let s = start-of c.before.before.before.before.before.before.before.before.before.before.before.before.before.before.before.before.before.before.before.before.before.before.before.before.before.before.before.before.before.before.before in
-    let a = s.args in (
+    let a = c.args in (
       t.ensures,
-      kept_either t.result.ok (edits_of a.records.now a.n) (e-of c.before.before.before.before.before.before.before.before.before.before.before.before.before.before.before.before.before.before.before.before.before.before.before.before.before.before.before.before.before.before.before.before.before.before.before.before.before.before.before.before.before.before.before) a.names.now a.rows.now s.requires.1,
+      kept_either t.result (edits_of a.records.now a.n) (decode_of a.rec.now) a.kept.now.names a.kept.now.rows
+          c.requires.1,
     )

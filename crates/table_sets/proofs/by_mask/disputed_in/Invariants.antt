@@ -1,7 +1,6 @@
 -- `table_sets::by_mask::disputed_in` meets its contract: of the Sets passed, those in dispute among them are marked.
 -- Assumes nothing.
 use mathlib.Core.Path.{◌≡◌}
-use Prim.Native.Nat.{◌-◌, ◌≤◌}
 use lib.ListN.{length}
 use Rattle.edit_record.specs.Layout.{keys}
 use Rattle.table_sets.specs.MaskForms.{MaskedTo}
@@ -10,11 +9,7 @@ use Rattle.table_sets.proofs.by_mask.disputed_in.Given as goal
 
 abbrev pub invariant-loop-i : goal.invariant-loop-i
 invariant-loop-i l =
-    (l.i ≤ l.t)
-    × (length l.sets ≡ keys)
+    (length l.sets ≡ keys)
     × (length l.tolds ≡ length l.initial.tolds)
     × MaskedTo l.recs l.places l.i l.sets l.tolds
     × MarkedTo l.recs l.places l.i l.all
-
-abbrev pub decreases-loop-i : goal.decreases-loop-i
-decreases-loop-i l = l.t - l.i

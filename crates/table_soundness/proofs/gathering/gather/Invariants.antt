@@ -1,5 +1,4 @@
 -- `table_soundness::gathering::gather` meets its contract: after i records it has what they give. Assumes nothing.
-use Prim.Native.Nat.{◌-◌, ◌≤◌}
 use lib.ListN.{get_or}
 use Rattle.edit_walk.specs.WalkForms.{Walking}
 use Rattle.table_soundness.proofs.GatheredSoFar.{Gathering}
@@ -7,10 +6,5 @@ use Rattle.table_soundness.proofs.gathering.gather.Given as goal
 
 abbrev pub invariant-loop-i : goal.invariant-loop-i
 invariant-loop-i l =
-    (l.i ≤ l.n)
-    × Walking l.sites (λ s. get_or l.room s 0) l.recs l.i l.held l.places
+    Walking l.sites (λ s. get_or l.room s 0) l.recs l.i l.held l.places
     × Gathering l.recs l.i l.places l.sum l.creates l.earlier l.tallies
-
-abbrev pub decreases-loop-i : goal.decreases-loop-i
-decreases-loop-i l =
-    l.n - l.i

@@ -1,5 +1,6 @@
 -- `table_soundness::gathering::tally_set` meets its contract: the tally of the target's place grows by one for a Set,
 -- and past the last place there is nothing to tally. Assumes nothing.
+use mathlib.Core.Path.{◌∙◌}
 use mathlib.Core.Bool.{cond}
 use Prim.Native.Nat.{◌+◌, ◌≤◌}
 use native.Mathlib.Omega.{arith}
@@ -9,40 +10,35 @@ use Rattle.edit_record.specs.Answer1.{is_set}
 use Rattle.edit_history.specs.EditsHeld.{record_at}
 use Rattle.edit_history.proofs.FieldsInPlace.{kind-in-place, target-in-place, target-seq-in-place}
 use Rattle.edit_walk.specs.WalkForms.{place_of}
-use Rattle.table_soundness.proofs.CountingPasses.{aimed-low, aimed_more}
+use Rattle.table_soundness.proofs.CountingPasses.{counted_once, counted_most, aimed-low, aimed_more}
 use borrow.Author.Rules.{rules}
-use Rattle.table_soundness.proofs.gathering.tally_set.Lts
-use Rattle.table_soundness.proofs.gathering.tally_set.Tie
-use Rattle.table_soundness.proofs.gathering.tally_set.Reads
 use Rattle.table_soundness.proofs.gathering.tally_set.Goals as goal
 
-abbrev start-of : (Lts.After-place_at Tie.the-claims Reads.Pre Reads.Post) → (Lts.Start Tie.the-claims Reads.Pre Reads.Post)
-start-of x = x.before.before.before.before.before.before.before
-
 pub bounds-tallies-p : goal.bounds-tallies-p
-bounds-tallies-p c = search (rules, (start-of c.before.before.before.before.before).requires.3.0)
+bounds-tallies-p c = search (rules, c.requires.3.0)
 
 pub overflow_add-tallies : goal.overflow_add-tallies
 overflow_add-tallies c =
-    let s = start-of c.before.before.before.before.before in
+    let s = c in
     let a = s.args in
     let p = c.place_at-p.result in
     omega (
       arith,
       aimed-low a.recs.now a.places.now a.tallies.now a.i p s.requires.0 s.requires.2 s.requires.3
           c.if-p-lt-RECORDS.true,
-      c.one_if-more.ensures.1,
+      c.from-more.ensures,
+      counted_most c.is_set_kind.result,
     )
 
 pub bounds-tallies-p-then-p-lt-RECORDS : goal.bounds-tallies-p-then-p-lt-RECORDS
-bounds-tallies-p-then-p-lt-RECORDS c = search (rules, (start-of c.before.before.before.before.before).requires.3.0)
+bounds-tallies-p-then-p-lt-RECORDS c = search (rules, c.requires.3.0)
 
 pub returns-then-p-lt-RECORDS : goal.returns-then-p-lt-RECORDS
 returns-then-p-lt-RECORDS c =
-    let s = start-of c.before.before.before.before.before in
+    let s = c in
     let a = s.args in
     rw (
-      c.one_if-more.ensures.0,
+      c.from-more.ensures ∙ counted_once c.is_set_kind.result,
       c.is_set_kind.ensures,
       c.place_at-p.ensures,
       c.pair_at-seq.ensures,
@@ -55,7 +51,7 @@ returns-then-p-lt-RECORDS c =
 pub returns-else-p-lt-RECORDS : goal.returns-else-p-lt-RECORDS
 returns-else-p-lt-RECORDS c =
     let x = c in
-    let s = start-of c.before.before.before.before in
+    let s = c in
     let a = s.args in
     let rs = a.recs.now in
     let ts = a.tallies.now in

@@ -1,7 +1,6 @@
 -- `table_soundness::objects::objects_sound` meets its contract: `sound` is the test of the first o objects. Assumes
 -- nothing.
 use mathlib.Core.Path.{◌≡◌}
-use Prim.Native.Nat.{◌-◌}
 use native.Mathlib.Numerals.{add-one}
 use native.Mathlib.Omega.{arith}
 use borrow.Author.Rules.{rules}
@@ -14,9 +13,9 @@ loop-o-init c = search rules
 
 pub loop-o-preserved : goal.loop-o-preserved
 unfolding all
-loop-o-preserved c = (omega arith, rw (add-one, c.loop-o.invariant.1, c.object_sound-sound.ensures))
+loop-o-preserved c = (rw (add-one, c.loop-o.invariant, c.object_sound-sound.ensures))
 
 pub returns : goal.returns
 returns c =
     let k : c.loop-o.o ≡ c.args.m = omega arith in
-    rw (← k) c.loop-o.invariant.1
+    rw (← k) c.loop-o.invariant

@@ -1,11 +1,12 @@
 -- `table_soundness::unused::is_zero_from8` meets its contract: the first i entries of each of four parts are zero if no
 -- bit was met, and then all up to j. Assumes nothing.
 use mathlib.Core.Path.{◌≡◌, refl, ◌∙◌, ap}
-use Prim.Native.Nat.{ℕ, ◌-◌, ◌*◌, ◌/◌}
+use Prim.Native.Nat.{ℕ, ◌+◌, ◌-◌, ◌*◌, ◌/◌}
 use native.Mathlib.Omega.{arith}
-use lib.ListN.{length}
+use lib.ListN.{length, length-drop}
+use lib.Seq.{get_or-drop}
 use Rattle.math_lists.specs.NumbersBelow.{all}
-use Rattle.table_soundness.proofs.ZeroFrom.{zero_four, zero-past, four-end, zero-end, bits-more}
+use Rattle.table_soundness.proofs.ZeroFrom.{zero_at, zero_four, rest-is, zero-past, four-end, zero-end, bits-more}
 use Rattle.table_soundness.proofs.ZeroFrom.{four-bits-more}
 use Rattle.table_soundness.proofs.unused.is_zero_from8.Goals as goal
 
@@ -14,32 +15,40 @@ returns-then-s-k c = zero-past c.args.s.now c.args.k c.if-s-k.true
 
 pub loop-i-init : goal.loop-i-init
 unfolding all
-loop-i-init c = (omega arith, omega arith, refl)
+loop-i-init c = (omega arith, refl)
 
 pub loop-i-preserved : goal.loop-i-preserved
 loop-i-preserved c =
     let a = c.args in
     let l = c.loop-i in
-    (omega arith, l.invariant.1, four-bits-more a.s.now a.k _ l.i l.bits l.invariant.2)
+    (l.invariant.0, four-bits-more a.s.now a.k _ l.i l.bits l.invariant.1)
 
-pub loop-j-init : goal.loop-j-init
-loop-j-init c =
+pub loop-byte-init : goal.loop-byte-init
+loop-byte-init c =
     let a = c.args in
     let l = c.loop-i in
     let part = (length a.s.now - a.k) / 256 * 64 in
-    let e : l.i ≡ part = omega arith in (
-      omega arith,
-      l.invariant.2 ∙ ap (λ (i : ℕ). all i (zero_four a.s.now a.k part)) e ∙ four-end a.s.now a.k part,
-    )
+    let e : l.i ≡ part = omega arith in
+    l.invariant.1
+    ∙ ap (λ (i : ℕ). all i (zero_four a.s.now a.k part)) e
+    ∙ four-end a.s.now a.k part
+    ∙ ap (λ (i : ℕ). all i (zero_at a.s.now a.k)) (omega arith)
 
-pub loop-j-preserved : goal.loop-j-preserved
-loop-j-preserved c =
+pub loop-byte-preserved : goal.loop-byte-preserved
+loop-byte-preserved c =
     let a = c.args in
-    let l = c.loop-j in
-    (omega arith, bits-more a.s.now a.k l.j l.bits l.invariant.0 l.invariant.1)
+    let s = a.s.now in
+    let l = c.loop-byte in
+    let part = (length s - a.k) / 256 * 64 in
+    let end = a.k + part + part + part + part in
+    let next : end + (l.byte-index + 1) ≡ end + l.byte-index + 1 = omega arith in
+    rw (next, rest-is s end, get_or-drop end s l.byte-index 0)
+    (bits-more s a.k (end + l.byte-index) l.bits (omega arith) l.invariant)
 
 pub returns : goal.returns
 returns c =
     let a = c.args in
-    let l = c.loop-j in
-    l.invariant.1 ∙ zero-end a.s.now a.k l.j (omega arith)
+    let l = c.loop-byte in
+    let part = (length a.s.now - a.k) / 256 * 64 in
+    let end = a.k + part + part + part + part in
+    l.invariant ∙ zero-end a.s.now a.k (end + l.byte-index) (omega (arith, length-drop end a.s.now))
