@@ -13,7 +13,7 @@ ghost use Rattle.edit_record.specs.declared.Edit.{Edit};
 ghost use Rattle.edit_record.specs.RecordBytes.{decode_of};
 ghost use Rattle.edit_record.specs.Answer1.{is_limited};
 ghost use Rattle.edit_causal.specs.Conflict.{box_on};
-ghost use Rattle.edit_causal.specs.ConflictForms.{plain_marks};
+ghost use Rattle.edit_causal.specs.ConflictForms.{Proper, plain_marks};
 ghost use Rattle.edit_history.specs.EditsHeld.{record_at};
 ghost use Rattle.edit_history.specs.Answer16.{nameless_among};
 ghost use Rattle.group_step.specs.GroupRows.{most_sets};
@@ -76,6 +76,32 @@ impl BoxRows {
             contexts: [1; SETS],
             sees: [1; RECENT],
         }
+    }
+
+    // What is told of the Set in place p, which comes after those in the n first places.
+    pub fn told_at(&self, recs: &[u8], places: &[u16], n: usize, p: u16) -> Told
+        requires { (n ≤ most_sets)
+            × (n ≤ length places.now)
+            × NamesIn recs.now places.now n self.now.names }
+        ensures { (result.row < 2 ^ n) × SightedTo (sets_in recs.now places.now n)
+            (record_at recs.now p) self.now.sees
+            (RowsTell (sets_in recs.now places.now n) self.now.plain self.now.contexts →
+            ToldOf (sets_in recs.now places.now n) (record_at recs.now p) result) }
+    {
+        let (plain, ctx) = (&self.plain, &self.contexts);
+        told_at(recs, places, &self.names, &self.sees, n, plain, ctx, p)
+    }
+
+    // What the Set of rec is told, which arrives after the k first members.
+    pub fn judge(&self, recs: &[u8], k: usize, rec: &[u8]) -> Judged
+        requires { (k ≤ most_sets)
+            × NamesIn recs.now self.now.members k self.now.names }
+        ensures { RowsTell (sets_in recs.now self.now.members k) self.now.plain self.now.contexts →
+            SeesTell (sets_in recs.now self.now.members k) self.now.sees →
+            JudgedOf (sets_in recs.now self.now.members k) (decode_of rec.now) result }
+    {
+        let (members, plain, ctx) = (&self.members, &self.plain, &self.contexts);
+        judge(recs, members, &self.names, &self.sees, k, plain, ctx, rec)
     }
 }
 
@@ -170,18 +196,31 @@ pub fn told_by(plain: &[u64], ctx: &[u64], n: usize, s: Sight) -> Told
     }
 }
 
-// What is told of the Set in place p, which comes after those in the n first places, by what is put down of them.
-pub fn told_at(rows: &BoxRows, recs: &[u8], places: &[u16], n: usize, p: u16) -> Told
+// What is told of the Set in place p, which comes after those in the n first places, by their names and their rows.
+pub fn told_at(
+    recs: &[u8],
+    places: &[u16],
+    names: &[u32],
+    sees: &[u64],
+    n: usize,
+    plain: &[u64],
+    ctx: &[u64],
+    p: u16,
+) -> Told
     requires { (n ≤ most_sets)
         × (n ≤ length places.now)
-        × NamesIn recs.now places.now n rows.now.names }
+        × (n ≤ length names.now)
+        × (most_recent ≤ length sees.now)
+        × (n ≤ length plain.now)
+        × (n ≤ length ctx.now)
+        × NamesIn recs.now places.now n names.now }
     ensures { (result.row < 2 ^ n) × SightedTo (sets_in recs.now places.now n)
-        (record_at recs.now p) rows.now.sees
-        (RowsTell (sets_in recs.now places.now n) rows.now.plain rows.now.contexts →
+        (record_at recs.now p) sees.now
+        (RowsTell (sets_in recs.now places.now n) plain.now ctx.now →
         ToldOf (sets_in recs.now places.now n) (record_at recs.now p) result) }
 {
-    let s = sight_at(recs, places, &rows.names, &rows.sees, n, p);
-    told_by(&rows.plain, &rows.contexts, n, s)
+    let s = sight_at(recs, places, names, sees, n, p);
+    told_by(plain, ctx, n, s)
 }
 
 // Marks Set n in the numbers of those before it that are members of `row`: only these are touched.
@@ -219,16 +258,60 @@ pub fn put_told(plain: &mut [u64], ctx: &mut [u64], n: usize, row: u64, own: u64
     ctx[n] = own;
 }
 
-// What the Set of rec is told, which arrives after the k first members, by what is put down of them.
-pub fn judge(rows: &BoxRows, recs: &[u8], k: usize, rec: &[u8]) -> Judged
+// Puts down the rows of the Sets in the k first places, whose names these are, each by those before it, and in `sees`
+// what the authors of the last of them had seen.
+pub fn put_rows(
+    plain: &mut [u64],
+    ctx: &mut [u64],
+    sees: &mut [u64],
+    recs: &[u8],
+    places: &[u16],
+    names: &[u32],
+    k: usize,
+)
     requires { (k ≤ most_sets)
-        × NamesIn recs.now rows.now.members k rows.now.names }
-    ensures { RowsTell (sets_in recs.now rows.now.members k) rows.now.plain rows.now.contexts →
-        SeesTell (sets_in recs.now rows.now.members k) rows.now.sees →
-        JudgedOf (sets_in recs.now rows.now.members k) (decode_of rec.now) result }
+        × (k ≤ length places.now)
+        × (k ≤ length names.now)
+        × (k ≤ length plain.old)
+        × (k ≤ length ctx.old)
+        × (most_recent ≤ length sees.old)
+        × NamesIn recs.now places.now k names.now }
+    ensures { Proper (sets_in recs.now places.now k) →
+        RowsTell (sets_in recs.now places.now k) plain.new ctx.new
+        × SeesTell (sets_in recs.now places.now k) sees.new }
 {
-    let s = sight_of(recs, &rows.members, &rows.names, &rows.sees, k, rec);
-    let t = told_by(&rows.plain, &rows.contexts, k, s);
+    for i in 0..k {
+        let s = sight_at(recs, places, names, sees, i, places[i]);
+        let own = left_by(plain, ctx, s);
+        put_told(plain, ctx, i, s.plain, own);
+        sees[i % RECENT] = s.seen;
+    }
+}
+
+// What the Set of rec is told, which arrives after those in the k first places, by their names and their rows.
+pub fn judge(
+    recs: &[u8],
+    places: &[u16],
+    names: &[u32],
+    sees: &[u64],
+    k: usize,
+    plain: &[u64],
+    ctx: &[u64],
+    rec: &[u8],
+) -> Judged
+    requires { (k ≤ most_sets)
+        × (k ≤ length places.now)
+        × (k ≤ length names.now)
+        × (most_recent ≤ length sees.now)
+        × (k ≤ length plain.now)
+        × (k ≤ length ctx.now)
+        × NamesIn recs.now places.now k names.now }
+    ensures { RowsTell (sets_in recs.now places.now k) plain.now ctx.now →
+        SeesTell (sets_in recs.now places.now k) sees.now →
+        JudgedOf (sets_in recs.now places.now k) (decode_of rec.now) result }
+{
+    let s = sight_of(recs, places, names, sees, k, rec);
+    let t = told_by(plain, ctx, k, s);
     Judged {
         nameless: t.nameless,
         conflicts: t.conflicts,

@@ -9,7 +9,7 @@ use lib.Dec.{eqb}
 use lib.ListN.{length, get_or, take, drop, set, length-set, length-drop}
 use lib.ListN.{get_or-replicate, length-replicate, replicate}
 use lib.Seq.{take-add, take-take, take-append-le, take-append-add, drop_at, drop-drop, length-take-le}
-use lib.Seq.{get_or-set_same, get_or-set_other}
+use lib.Seq.{get_or-set_same, get_or-set_other, get_or-take}
 use borrow.Author.Tests.{eq-eqb, eqb-true}
 use borrow.Rule.Slice.PartMut.{mid_of, put_mid, post_of, mid_len, same_len_mid, take_put, drop_put}
 use Rattle.math_lists.proofs.Booleans.{both, clash}
@@ -19,7 +19,7 @@ use Rattle.table_output.proofs.OutputOutcomes.{lent_back}
 use Rattle.list_text.specs.Pieces.{plus, dotted_length, equated_length}
 use Rattle.list_version.specs.VersionForms.{name_by}
 use Rattle.list_line.specs.Line.{name_text}
-use Rattle.list_line.specs.LineForms.{stamp_text, piece_length, pieces, piece_at, Kept, NameIn}
+use Rattle.list_line.specs.LineForms.{stamp_text, piece_length, pieces, piece_at, Kept, NameIn, NamesKept}
 use Rattle.list_line.specs.LineForms.{NameMore, SameNames}
 
 -- a part goes by what stands up to its end
@@ -191,3 +191,16 @@ named_more {texts₁ = texts₁} {lens₁ = lens₁} xs i few more have k l =
       | yes q ↦ rw q more.own
       | no d ↦ more.others k (get_or xs k 0) (omega arith) d (have k (omega (arith, d)))
     ]
+
+pub all-names-kept :
+    {texts lens : List ℕ} (xs : List ℕ) (d : ℕ) → d ≤ length xs →
+    ((k : ℕ) → k < d → NameIn texts lens k (get_or xs k 0)) → NamesKept texts lens (take d xs)
+all-names-kept xs d fits have k l =
+    let low : k < d = omega (arith, length-take-le d xs fits) in
+    rw (get_or-take d xs k 0 low) (have k low)
+
+pub kept-name-at :
+    {texts lens : List ℕ} (xs : List ℕ) (d i : ℕ) → d ≤ length xs → i < d → NamesKept texts lens (take d xs) →
+    NameIn texts lens i (get_or xs i 0)
+kept-name-at {texts} {lens} xs d i fits low all =
+    rw (get_or-take d xs i 0 low) at (all i (omega (arith, length-take-le d xs fits)))

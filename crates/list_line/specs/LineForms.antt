@@ -6,7 +6,7 @@ use Rattle.edit_causal.specs.ShownValue.{shown_value}
 use Rattle.group_step.specs.GroupRows.{most_sets}
 use Rattle.list_text.specs.Pieces.{space, plus, newline, dotted, equated, dotted_length, equated_length}
 use Rattle.list_line.specs.Line.{name_text, identifier_text}
-use Rattle.list_version.specs.declared.gathered.Gathered.{Gathered}
+use Rattle.list_version.specs.declared.gathered.Workspace.{Workspace}
 use Rattle.list_version.specs.VersionForms.{name_by, identifier_by, largest_by, values}
 
 -- ` key=value` by a stamp
@@ -24,7 +24,7 @@ line_by s q xs stamps g =
     dotted s q ++ ((space ∷ identifier_text (identifier_by xs g)) ++ (settings_by stamps g keys ++ (newline ∷ [])))
 
 -- of what is gathered of an object, the line of the version v
-abbrev pub line_in : Gathered → ℕ → List ℕ
+abbrev pub line_in : Workspace → ℕ → List ℕ
 line_in g v = line_by g.site g.seq (take g.disputed g.disputes) (take g.sets g.stamps) v
 
 -- ---- pieces that are kept from line to line: a setting of each key, then a name for each Set in dispute

@@ -8,12 +8,12 @@ ghost use Rattle.list_text.specs.Pieces.{space, plus, dotted_length, equated_len
 ghost use Rattle.list_line.specs.Line.{name_text, identifier_text};
 ghost use Rattle.list_line.specs.Line.{identifier_length, settings_length, line_length};
 ghost use Rattle.list_version.specs.VersionForms.{name_by, is_in, identifier_by, KeyedBy};
-ghost use Rattle.list_line.specs.LineForms.{stamp_text, settings_by, line_in};
+ghost use Rattle.list_line.specs.LineForms.{stamp_text, settings_by, line_by, line_in};
 
 use super::pieces::{form_name, form_setting};
 use group_step::has;
 use list_text::{MINUS, NEWLINE, SPACE, put_byte, put_dotted};
-use list_version::gathered::Gathered;
+use list_version::gathered::Workspace;
 use list_version::values::last_of;
 use list_version::{ALL_KEYS, NUMBERS};
 
@@ -105,13 +105,52 @@ fn put_lone_settings(
     w
 }
 
-// Puts at the front the line of the version v of the object gathered; says how many bytes it has.
-pub fn put_lone_line(out: &mut [u8], g: &Gathered, v: u64) -> usize
+// Puts at the front the line of the version g of the object whose Create is site.seq, by the d Sets in dispute, the
+// stamps of the t Sets and what is noted of their keys; says how many bytes it has.
+pub fn put_lone_line(
+    out: &mut [u8],
+    site: u8,
+    seq: u16,
+    disputes: &[u64],
+    d: usize,
+    stamps: &[u64],
+    t: usize,
+    keyed: &[u64],
+    peaks: u64,
+    g: u64,
+) -> usize
+    requires { (d ≤ length disputes.now)
+        × (d ≤ most_sets)
+        × (line_length ≤ length out.old)
+        × (t ≤ length stamps.now)
+        × (t ≤ most_sets)
+        × (keys ≤ length keyed.now)
+        × KeyedBy stamps.now keyed.now peaks t }
+    ensures { (take result out.new
+        ≡ line_by site seq (take d disputes.now) (take t stamps.now) g)
+        × (result ≤ line_length) }
+{
+    let a = put_dotted(out, 0, site, seq);
+    let b = put_lone_identifier(out, a, disputes, d, g);
+    let w = put_lone_settings(out, b, stamps, t, keyed, peaks, g);
+    put_byte(out, w, NEWLINE)
+}
+
+// The same of the version v of what is gathered of an object.
+pub fn put_lone_line_of(out: &mut [u8], g: &Workspace, v: u64) -> usize
     requires { line_length ≤ length out.old }
     ensures { (take result out.new ≡ line_in g.now v) × (result ≤ line_length) }
 {
-    let a = put_dotted(out, 0, g.site, g.seq);
-    let b = put_lone_identifier(out, a, &g.disputes, g.disputed, v);
-    let w = put_lone_settings(out, b, &g.stamps, g.sets, &g.keyed, g.peaks, v);
-    put_byte(out, w, NEWLINE)
+    put_lone_line(
+        out,
+        g.site,
+        g.seq,
+        &g.disputes,
+        g.disputed,
+        &g.stamps,
+        g.sets,
+        &g.keyed,
+        g.peaks,
+        v,
+    )
 }

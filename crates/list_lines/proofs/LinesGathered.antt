@@ -25,16 +25,16 @@ use Rattle.list_line.specs.Line.{version_line, object_lines}
 use Rattle.math_lists.proofs.ByPlaces.{map-place}
 use Rattle.list_line.specs.LineForms.{line_in}
 use Rattle.list_line.proofs.LineByStamps.{line-by}
-use Rattle.list_version.specs.declared.gathered.Gathered.{Gathered}
+use Rattle.list_version.specs.declared.gathered.Workspace.{Workspace}
 use Rattle.list_objects.specs.Objects.{create_of, sets_for, objects_of}
-use Rattle.list_objects.specs.ObjectForms.{goes_first, GatheredOf}
+use Rattle.list_objects.specs.ObjectForms.{goes_first, GatheredIn}
 use Rattle.list_objects.proofs.GatheredIs.{names-differ}
 use Rattle.list_objects.proofs.KeysByTops.{in_order_lem}
 use Rattle.list_lines.specs.List.{lines_for}
 
 -- ---- what is gathered of an object
 
-module _ (t : Tables) (s : Sound t) (o : ℕ) (low : o < t.counters.objects) (g : Gathered) (f : GatheredOf t o g) where
+module _ (t : Tables) (s : Sound t) (o : ℕ) (low : o < t.counters.objects) (g : Workspace) (f : GatheredIn t o g) where
   line-is : (v : ℕ) → line_in g v ≡ version_line (create_of t o) (sets_for t o) v
   line-is v =
       let stamps = take g.sets g.stamps in

@@ -18,10 +18,10 @@ ghost use Rattle.list_lines.specs.LinesForms.{head_of, FoundIn, NumberedAs};
 use edit_walk::PLACES;
 use group_step::{OBJECTS, SETS};
 use list_line::LINE;
-use list_line::alone::put_lone_line;
+use list_line::alone::put_lone_line_of;
 use list_objects::order::sort_objects;
-use list_objects::{gather, put_sets};
-use list_version::gathered::Gathered;
+use list_objects::{gather_in, put_sets};
+use list_version::gathered::Workspace;
 use table_drawing::entries::at16;
 use table_drawing::{Counters, ENTRY, Refusal};
 use table_output::put_at;
@@ -112,9 +112,9 @@ fn put_found(
     // what work space holds at first does not matter; zeros would be set by memset (docs/DECISIONS.md, 24)
     let mut places = [1u16; SETS];
     put_sets(&mut places, c, records, objects, groups, o);
-    let mut g = Gathered::none();
-    gather(&mut g, c, records, objects, groups, &places, o);
-    put_lone_line(out, &g, g.versions[v])
+    let mut g = Workspace::none();
+    gather_in(&mut g, c, records, objects, groups, &places, o);
+    put_lone_line_of(out, &g, g.versions[v])
 }
 
 // Puts line k at the front of out, if there is one, by the index of the records' places; says how many bytes it has.

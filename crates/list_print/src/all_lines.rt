@@ -19,8 +19,8 @@ use list_line::BUFFER;
 use list_line::pieces::Pieces;
 use list_lines::head;
 use list_objects::order::sort_objects;
-use list_objects::{gather, put_chained};
-use list_version::gathered::Gathered;
+use list_objects::{gather_in, put_chained};
+use list_version::gathered::Workspace;
 use table_drawing::Counters;
 use table_index::Index;
 
@@ -38,7 +38,7 @@ fn put_object(
     out: &mut [u8],
     line: &mut [u8],
     kept: &mut Pieces,
-    g: &mut Gathered,
+    g: &mut Workspace,
     n: usize,
     c: Counters,
     records: &[u8],
@@ -59,7 +59,7 @@ fn put_object(
     // what work space holds at first does not matter; zeros would be set by memset (docs/DECISIONS.md, 24)
     let mut places = [1u16; SETS];
     put_chained(&mut places, c, records, objects, groups, chain, o);
-    gather(g, c, records, objects, groups, &places, o);
+    gather_in(g, c, records, objects, groups, &places, o);
     put_versions(out, line, kept, n, g)
 }
 
@@ -90,7 +90,7 @@ fn put_objects(
     let mut order = [1u16; OBJECTS];
     sort_objects(&mut order, records, c.records as usize, objects, m, places);
     let mut kept = Pieces::none();
-    let mut g = Gathered::none();
+    let mut g = Workspace::none();
     let mut w = n;
     for i in 0..m {
         let o = order[i] as usize;

@@ -6,10 +6,10 @@ ghost use Rattle.list_line.specs.LineForms.{line_in, piece_length, NamesKept};
 ghost use Rattle.list_print.specs.Printing.{joined, list_length};
 ghost use Rattle.list_print.specs.PrintForms.{Behind};
 
-use list_line::alone::put_lone_line;
+use list_line::alone::put_lone_line_of;
 use list_line::pieces::Pieces;
-use list_line::put_line;
-use list_version::gathered::Gathered;
+use list_line::put_line_of;
+use list_version::gathered::Workspace;
 use table_output::{copy_in, has_room};
 
 // Puts the first k bytes of a line behind the first n bytes of out, if they have room there; says where they end, room
@@ -32,7 +32,7 @@ fn put_version(
     line: &mut [u8],
     kept: &mut Pieces,
     n: usize,
-    g: &Gathered,
+    g: &Workspace,
     v: usize,
 ) -> usize
     requires { (v < most_groups)
@@ -42,13 +42,13 @@ fn put_version(
     ensures { Behind out.old n (line_in g.now (get_or g.now.versions v 0)) line_length out.new result
         × NamesKept kept.new.texts kept.new.lens (take g.now.disputed g.now.disputes) }
 {
-    let k = put_line(line, kept, g, g.versions[v]);
+    let k = put_line_of(line, kept, g, g.versions[v]);
     put_behind(out, n, line, k)
 }
 
 // Puts the lines of all versions behind the first n bytes, one after another. The names of the Sets in dispute are
 // formed once for all of them.
-fn put_each(out: &mut [u8], line: &mut [u8], kept: &mut Pieces, n: usize, g: &Gathered) -> usize
+fn put_each(out: &mut [u8], line: &mut [u8], kept: &mut Pieces, n: usize, g: &Workspace) -> usize
     requires { (n + most_groups * line_length ≤ list_length)
         × (line_length + piece_length ≤ length line.old) }
     ensures { Behind out.old n
@@ -63,11 +63,11 @@ fn put_each(out: &mut [u8], line: &mut [u8], kept: &mut Pieces, n: usize, g: &Ga
 }
 
 // Puts the line of the only version of the object gathered behind the first n bytes.
-fn put_alone(out: &mut [u8], line: &mut [u8], n: usize, g: &Gathered) -> usize
+fn put_alone(out: &mut [u8], line: &mut [u8], n: usize, g: &Workspace) -> usize
     requires { (n + line_length ≤ list_length) × (line_length ≤ length line.old) }
     ensures { Behind out.old n (line_in g.now (get_or g.now.versions 0 0)) line_length out.new result }
 {
-    let k = put_lone_line(line, g, g.versions[0]);
+    let k = put_lone_line_of(line, g, g.versions[0]);
     put_behind(out, n, line, k)
 }
 
@@ -77,7 +77,7 @@ pub fn put_versions(
     line: &mut [u8],
     kept: &mut Pieces,
     n: usize,
-    g: &Gathered,
+    g: &Workspace,
 ) -> usize
     requires { (n + most_groups * line_length ≤ list_length)
         × (line_length + piece_length ≤ length line.old) }

@@ -11,7 +11,7 @@ use group_step::{GROUPS, SETS};
 // of all Sets and how many they are, those that have each key, and the peaks among them; the groups and how many they
 // are. What stands past their numbers does not matter.
 #[derive(Drop)]
-pub struct Gathered {
+pub struct Workspace {
     pub site: u8,
     pub seq: u16,
     pub disputes: [u64; SETS],
@@ -30,13 +30,13 @@ pub struct Gathered {
     pub ghost versions_long: { length versions ≡ most_groups },
 }
 
-impl Gathered {
+impl Workspace {
     // Nothing is gathered yet. Zeros in all: then it is made where it is to stand, and not first elsewhere, which would
     // take stack twice.
-    pub fn none() -> Gathered
+    pub fn none() -> Workspace
         ensures { result.sets ≡ 0 }
     {
-        Gathered {
+        Workspace {
             site: 0,
             seq: 0,
             disputes: [0; SETS],

@@ -140,7 +140,24 @@ pub fn survey(c: Counters, recs: &[u8], places: &[u16], rec: &[u8]) -> Surveyed
     }
 }
 
-// Why a record that asks nothing of the Sets held is refused: 8 before r, where 16 is given to a record held.
+// The answer to a record that asks nothing of the Sets held: 8 before it, where 16 is given to a record held.
+pub fn answer_where_named(
+    c: Counters,
+    recs: &[u8],
+    places: &[u16],
+    answer: Result<(), Refusal>,
+) -> Result<(), Refusal>
+    requires { Holds c recs.now × Indexed recs.now c.records places.now }
+    ensures { answer_of result ≡ cond (records_named recs.now c.records) (answer_of answer) 8 }
+{
+    if group_named::are_all_named(recs, c.records as usize, places) {
+        answer
+    } else {
+        Err(Refusal::Unsound)
+    }
+}
+
+// The same of one that is refused with r.
 pub fn refusal_where_named(c: Counters, recs: &[u8], places: &[u16], r: Refusal) -> Refusal
     requires { Holds c recs.now × Indexed recs.now c.records places.now }
     ensures { number_of result ≡ cond (records_named recs.now c.records) (number_of r) 8 }

@@ -32,11 +32,11 @@ fn judge_by_rows(c: Counters, recs: &[u8], places: &[u16], rec: &[u8], k: usize)
     let p = edit_walk::place_at(places, Site(s), Seq(q));
     let mut rows = BoxRows::none();
     let n = c.records as usize;
-    let named = group_named::are_named_last(&mut rows, recs, n, places, p as usize);
+    let named = group_named::are_named_last_in(&mut rows, recs, n, places, p as usize);
     if !named {
         return None;
     }
-    let judged = group_limited::judge(&rows, recs, k, rec);
+    let judged = rows.judge(recs, k, rec);
     Some(judged)
 }
 

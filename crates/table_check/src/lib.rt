@@ -139,9 +139,9 @@ fn step_limited(
 {
     let mut n: usize = 1;
     for i in 0..k {
-        let t = group_limited::told_at(rows, recs, places, i, places[i]);
+        let t = rows.told_at(recs, places, i, places[i]);
         if t.nameless {
-            return None;
+            return None; // no row is right
         }
         n = group_apart::step_apart(gs, n, t.conflicts, i);
         if GROUPS < n {

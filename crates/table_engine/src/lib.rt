@@ -67,7 +67,7 @@ fn put_by_rows(
         masks.new result }
 {
     let mut rows = BoxRows::none();
-    let named = group_named::are_named_last(&mut rows, recs, c.records as usize, index, p);
+    let named = group_named::are_named_last_in(&mut rows, recs, c.records as usize, index, p);
     if !(named & (k <= DECIDED)) {
         return named;
     }

@@ -70,20 +70,30 @@ impl Index {
 }
 
 // Puts the Set in place p, of this kind and key, into its chain of object o, and counts it.
-pub fn add_set(ix: &mut Index, p: usize, o: usize, kind: u8, key: u8)
+pub fn add_set(
+    p: usize,
+    o: usize,
+    kind: u8,
+    key: u8,
+    numbers: &mut [u8],
+    counts: &mut [u16],
+    chains: &mut [u8],
+)
     requires { (p < most_records)
         × (o < most_objects)
         × (key < keys)
-        × (get_or ix.old.counts o 0 < most_sets) }
-    ensures { (ix.new.places ≡ ix.old.places)
-        × (ix.new.numbers ≡ set ix.old.numbers p (get_or ix.old.counts o 0))
-        × (ix.new.counts ≡ set ix.old.counts o (get_or ix.old.counts o 0 + 1))
-        × (ix.new.chains ≡ linked_in ix.old.chains p o kind key) }
+        × (length numbers.old ≡ most_records)
+        × (length counts.old ≡ most_objects)
+        × (length chains.old ≡ chains_length)
+        × (get_or counts.old o 0 < most_sets) }
+    ensures { (numbers.new ≡ set numbers.old p (get_or counts.old o 0))
+        × (counts.new ≡ set counts.old o (get_or counts.old o 0 + 1))
+        × (chains.new ≡ linked_in chains.old p o kind key) }
 {
-    let k = ix.counts[o];
-    ix.numbers[p] = k as u8;
-    ix.counts[o] = k + 1;
-    chain::link_set(p, o, kind, key, &mut ix.chains);
+    let k = counts[o];
+    numbers[p] = k as u8;
+    counts[o] = k + 1;
+    chain::link_set(p, o, kind, key, chains);
 }
 
 // Puts the record in place p into the index of those before it, of which m are Creates, and which has room for it; says
@@ -110,7 +120,15 @@ pub fn add(ix: &mut Index, recs: &[u8], p: usize, m: u16) -> u16
     let q = edit_walk::target_place(recs, &ix.places, p);
     let o = ix.numbers[q as usize];
     let key = edit_record::byte_at(recs, p * PLACE + AT_KEY);
-    add_set(ix, p, o as usize, kind, key);
+    add_set(
+        p,
+        o as usize,
+        kind,
+        key,
+        &mut ix.numbers,
+        &mut ix.counts,
+        &mut ix.chains,
+    );
     m
 }
 

@@ -34,7 +34,7 @@ const BOX_SEQ: usize = SETS + 1;
 
 const COUNT: usize = SETS + 2;
 
-const NAMES: usize = SETS + 3;
+pub const NAMES: usize = SETS + 3;
 
 // What is kept: the rows, and the names with what is behind them.
 #[derive(Drop)]
@@ -54,6 +54,38 @@ impl Kept {
             names: [0u32; NAMES],
         }
     }
+
+    // Puts down that it is told of no Set.
+    pub fn forget(&mut self)
+        ensures { (es : List Edit) → KeptFor es self.new.names self.new.rows }
+    {
+        forget(&mut self.names);
+    }
+
+    // What is judged of an arriving record with its survey v, where the first n records are held, and what is kept with
+    // it.
+    pub fn judge(&mut self, ix: &Index, recs: &[u8], n: usize, rec: &[u8], v: Surveyed) -> Judged
+        requires { IndexedIn recs.now n ix.now.places ix.now.numbers ix.now.chains
+            × SurveyedOf (edits_of recs.now n) (decode_of rec.now) v
+            × KeptFor (edits_of recs.now n) self.old.names self.old.rows }
+        ensures { JudgedWhere (is_some v.held)
+            (sets_on (decode_of rec.now).tsite (decode_of rec.now).tseq
+            (edits_of recs.now n))
+            (decode_of rec.now) result
+            × KeptFor (edits_of recs.now n ++ (decode_of rec.now ∷ [])) self.new.names self.new.rows }
+    {
+        judge(
+            &mut self.rows,
+            &mut self.names,
+            recs,
+            n,
+            &ix.places,
+            &ix.numbers,
+            &ix.chains,
+            rec,
+            v,
+        )
+    }
 }
 
 // Whether what is kept tells of the first k Sets of the box s.q.
@@ -68,35 +100,57 @@ fn is_kept(names: &[u32], s: Site, q: Seq, k: u32) -> bool
 }
 
 // Works out the names and the rows of the k Sets, among the first n records, on the Create in place q.
-fn put_anew(kept: &mut Kept, ix: &Index, recs: &[u8], n: usize, q: usize, k: usize)
-    requires { ChainsOn recs.now n ix.now.numbers ix.now.chains q
-        × (k ≡ length (places_on recs.now n q)) }
-    ensures { TellOf (map (record_at recs.now) (places_on recs.now n q)) kept.new.names kept.new.rows }
+fn put_anew(
+    rows: &mut [u64],
+    names: &mut [u32],
+    recs: &[u8],
+    n: usize,
+    numbers: &[u8],
+    chains: &[u8],
+    q: usize,
+    k: usize,
+)
+    requires { ChainsOn recs.now n numbers.now chains.now q
+        × (k ≡ length (places_on recs.now n q))
+        × (length names.old ≡ kept_length)
+        × (length rows.old ≡ rows_length) }
+    ensures { TellOf (map (record_at recs.now) (places_on recs.now n q))
+        names.new rows.new }
 {
     // what work space holds at first does not matter; zeros would be set by memset (docs/DECISIONS.md, 24)
     let mut spots = [1u16; SETS];
-    chained::put_chains(&mut spots, recs, n, &ix.numbers, &ix.chains, q);
-    put_names(&mut kept.names, recs, &spots, k);
-    group_kept::put_rows(&mut kept.rows, recs, &spots, &kept.names, k);
+    chained::put_chains(&mut spots, recs, n, numbers, chains, q);
+    put_names(names, recs, &spots, k);
+    group_kept::put_rows(rows, recs, &spots, names, k);
 }
 
 // Sees to it that the names and the rows tell of the k Sets, among the first n records, of the box that rec targets and
 // that is held.
-fn make_ready(kept: &mut Kept, ix: &Index, recs: &[u8], n: usize, rec: &[u8], k: usize)
-    requires { IndexedIn recs.now n ix.now.places ix.now.numbers ix.now.chains
+fn make_ready(
+    rows: &mut [u64],
+    names: &mut [u32],
+    recs: &[u8],
+    n: usize,
+    places: &[u16],
+    numbers: &[u8],
+    chains: &[u8],
+    rec: &[u8],
+    k: usize,
+)
+    requires { IndexedIn recs.now n places.now numbers.now chains.now
         × (any (is_target (decode_of rec.now)) (edits_of recs.now n) ≡ true)
         × (k ≡ length (sets_on (decode_of rec.now).tsite (decode_of rec.now).tseq (edits_of recs.now n)))
-        × KeptFor (edits_of recs.now n) kept.old.names kept.old.rows }
+        × KeptFor (edits_of recs.now n) names.old rows.old }
     ensures { TellOf
         (sets_on (decode_of rec.now).tsite (decode_of rec.now).tseq
         (edits_of recs.now n))
-        kept.new.names kept.new.rows }
+        names.new rows.new }
 {
     let s = Site(edit_record::byte_at(rec, AT_TARGET));
     let q = Seq(edit_record::two_at(rec, AT_TARGET_SEQ));
-    if !is_kept(&kept.names, s, q, k as u32) {
-        let at = edit_walk::place_at(&ix.places, s, q) as usize;
-        put_anew(kept, ix, recs, n, at, k);
+    if !is_kept(names, s, q, k as u32) {
+        let at = edit_walk::place_at(places, s, q) as usize;
+        put_anew(rows, names, recs, n, numbers, chains, at, k);
     }
 }
 
@@ -122,44 +176,68 @@ fn put_box(names: &mut [u32], rec: &[u8], k: u32)
 }
 
 // Puts down that it is told of no Set.
-pub fn forget(kept: &mut Kept)
-    ensures { (es : List Edit) → KeptFor es kept.new.names kept.new.rows }
+pub fn forget(names: &mut [u32])
+    requires { length names.old ≡ kept_length }
+    ensures { (es : List Edit) (rows : List ℕ) → length rows ≡ rows_length →
+        KeptFor es names.new rows }
 {
-    kept.names[COUNT] = 0;
+    names[COUNT] = 0;
 }
 
 // What is judged, by the rows of its box, of a record whose target is held among the first n.
-fn judge_by_rows(kept: &mut Kept, ix: &Index, recs: &[u8], n: usize, rec: &[u8], h: Held) -> Judged
-    requires { IndexedIn recs.now n ix.now.places ix.now.numbers ix.now.chains
+fn judge_by_rows(
+    rows: &mut [u64],
+    names: &mut [u32],
+    recs: &[u8],
+    n: usize,
+    places: &[u16],
+    numbers: &[u8],
+    chains: &[u8],
+    rec: &[u8],
+    h: Held,
+) -> Judged
+    requires { IndexedIn recs.now n places.now numbers.now chains.now
         × (any (is_target (decode_of rec.now)) (edits_of recs.now n) ≡ true)
         × (h ≡ survey_of (edits_of recs.now n) (decode_of rec.now))
-        × KeptFor (edits_of recs.now n) kept.old.names kept.old.rows }
+        × KeptFor (edits_of recs.now n) names.old rows.old }
     ensures { JudgedWhere true
         (sets_on (decode_of rec.now).tsite (decode_of rec.now).tseq
         (edits_of recs.now n))
         (decode_of rec.now) result
-        × KeptFor (edits_of recs.now n ++ (decode_of rec.now ∷ [])) kept.new.names kept.new.rows }
+        × KeptFor (edits_of recs.now n ++ (decode_of rec.now ∷ [])) names.new
+        rows.new }
 {
     let k = h.sets;
-    make_ready(kept, ix, recs, n, rec, k);
-    let j = group_kept::judge(&mut kept.rows, &mut kept.names, k, rec, h.plain);
+    make_ready(rows, names, recs, n, places, numbers, chains, rec, k);
+    let j = group_kept::judge(rows, names, k, rec, h.plain);
     let told = told_after(k, edit_record::byte_at(rec, AT_KIND));
-    put_box(&mut kept.names, rec, told);
+    put_box(names, rec, told);
     j
 }
 
 // What is judged of an arriving record with its survey v, where the first n records are held, and what is kept with it.
 // Where no Set of its object is limited, and it is not, document 01's conflicts are all that there are. One whose
 // object is not held is not judged.
-pub fn judge(kept: &mut Kept, ix: &Index, recs: &[u8], n: usize, rec: &[u8], v: Surveyed) -> Judged
-    requires { IndexedIn recs.now n ix.now.places ix.now.numbers ix.now.chains
+pub fn judge(
+    rows: &mut [u64],
+    names: &mut [u32],
+    recs: &[u8],
+    n: usize,
+    places: &[u16],
+    numbers: &[u8],
+    chains: &[u8],
+    rec: &[u8],
+    v: Surveyed,
+) -> Judged
+    requires { IndexedIn recs.now n places.now numbers.now chains.now
         × SurveyedOf (edits_of recs.now n) (decode_of rec.now) v
-        × KeptFor (edits_of recs.now n) kept.old.names kept.old.rows }
+        × KeptFor (edits_of recs.now n) names.old rows.old }
     ensures { JudgedWhere (is_some v.held)
         (sets_on (decode_of rec.now).tsite (decode_of rec.now).tseq
         (edits_of recs.now n))
         (decode_of rec.now) result
-        × KeptFor (edits_of recs.now n ++ (decode_of rec.now ∷ [])) kept.new.names kept.new.rows }
+        × KeptFor (edits_of recs.now n ++ (decode_of rec.now ∷ [])) names.new
+        rows.new }
 {
     let Some(h) = v.held else {
         return Judged {
@@ -174,5 +252,5 @@ pub fn judge(kept: &mut Kept, ix: &Index, recs: &[u8], n: usize, rec: &[u8], v: 
             conflicts: h.plain,
         };
     }
-    judge_by_rows(kept, ix, recs, n, rec, h)
+    judge_by_rows(rows, names, recs, n, places, numbers, chains, rec, h)
 }

@@ -42,7 +42,7 @@ pub fn take_next(
     asked::one_to_three(c, rec)?;
     let n = c.records as usize;
     let v = table_index::survey(ix, c, records, rec);
-    let j = table_kept::judge(kept, ix, records, n, rec, v);
+    let j = kept.judge(ix, records, n, rec, v);
     let after = table_arrival::accept(c, records, objects, groups, rec, v, j, true)?;
     table_index::add(ix, records, n, c.objects);
     Ok(after)

@@ -55,9 +55,9 @@ fn take_limited(
             limited: a.limited,
         }),
     };
-    let j = table_kept::judge(kept, ix, records, n, rec, v);
+    let j = kept.judge(ix, records, n, rec, v);
     if j.nameless {
-        table_kept::forget(kept);
+        kept.forget();
         return None;
     }
     let judged = Looked {
@@ -69,7 +69,7 @@ fn take_limited(
     let Some(t) = table_plain::take_judged(
         ix, sites, n, m, sum, held, records, objects, groups, rec, judged,
     ) else {
-        table_kept::forget(kept);
+        kept.forget();
         return None;
     };
     Some(t)

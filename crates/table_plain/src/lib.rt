@@ -94,20 +94,21 @@ fn step_in(groups: &mut [u64], o: usize, n: usize, m: u64, k: usize) -> usize
 // Puts a Set in place n of which a was found into its object's groups, entry and chain; says whether there is room for
 // the groups. Where there is none, nothing is changed.
 pub fn store_set(
-    ix: &mut Index,
     n: usize,
     objects: &mut [u16],
     groups: &mut [u64],
+    numbers: &mut [u8],
+    counts: &mut [u16],
+    chains: &mut [u8],
     kind: u8,
     key: u8,
     a: Looked,
 ) -> bool
     requires { (n < most_records)
-        × Steps objects.old groups.old ix.old.numbers ix.old.counts ix.old.chains key a }
+        × Steps objects.old groups.old numbers.old counts.old chains.old key a }
     ensures { SetStored n kind key a result
-        objects.old groups.old ix.old.numbers ix.old.counts ix.old.chains
-        objects.new groups.new ix.new.numbers ix.new.counts ix.new.chains
-        × (ix.new.places ≡ ix.old.places) }
+        objects.old groups.old numbers.old counts.old chains.old
+        objects.new groups.new numbers.new counts.new chains.new }
 {
     let o = a.object;
     let k = a.sets;
@@ -117,7 +118,7 @@ pub fn store_set(
         return false;
     }
     table_arrival::put_counts(objects, o, k as u16 + 1, w as u16);
-    table_index::add_set(ix, n, o, kind, key);
+    table_index::add_set(n, o, kind, key, numbers, counts, chains);
     true
 }
 
@@ -144,7 +145,17 @@ fn store(
     let kind = rec[AT_KIND];
     if kind == SET {
         let key = rec[AT_KEY];
-        return store_set(ix, n, objects, groups, SET, key, a);
+        return store_set(
+            n,
+            objects,
+            groups,
+            &mut ix.numbers,
+            &mut ix.counts,
+            &mut ix.chains,
+            SET,
+            key,
+            a,
+        );
     }
     if kind == CREATE {
         put_create(n, m, objects, &mut ix.numbers);
@@ -236,7 +247,17 @@ pub fn take_judged(
 {
     let kind = rec[AT_KIND];
     let key = rec[AT_KEY];
-    if !store_set(ix, n, objects, groups, kind, key, a) {
+    if !store_set(
+        n,
+        objects,
+        groups,
+        &mut ix.numbers,
+        &mut ix.counts,
+        &mut ix.chains,
+        kind,
+        key,
+        a,
+    ) {
         return None;
     }
     enter(held, n, &mut ix.places, rec);

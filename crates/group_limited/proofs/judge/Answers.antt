@@ -1,5 +1,4 @@
 -- `group_limited::judge` meets its contract. Assumes nothing.
-use native.Mathlib.Omega.{arith}
 use Rattle.edit_history.proofs.EditsInPlaces.{sets-length}
 use Rattle.group_limited.proofs.judge.Goals as goal
 
@@ -7,7 +6,7 @@ pub returns : goal.returns
 returns c rows sees =
     let s = c in
     let a = s.args in
-    let size = sets-length a.recs.now a.rows.now.members a.k (omega (arith, s.requires.0)) in
+    let size = sets-length a.recs.now a.places.now a.k s.requires.1 in
     let sight = c.sight_of-s.ensures in
     record {
       nameless = λ p law. (c.told_by-t.ensures.1 _ _ size rows (sight.1 sees law) law).nameless p.named;

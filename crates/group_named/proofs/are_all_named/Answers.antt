@@ -16,8 +16,8 @@ overflow_sub-n c =
     let a = c.args in
     some-limited a.recs.now a.n (sym c.is_limited_held.ensures ∙ c.if-not-is_limited_held.false)
 
-pub are_named_last-requires : goal.are_named_last-requires
-are_named_last-requires c =
+pub are_named_last_in-requires : goal.are_named_last_in-requires
+are_named_last_in-requires c =
     let s = c in
     let a = c.args in
     let more = some-limited a.recs.now a.n (sym c.is_limited_held.ensures ∙ c.if-not-is_limited_held.false) in
@@ -25,4 +25,4 @@ are_named_last-requires c =
 
 pub returns : goal.returns
 returns c sites few pass index =
-    (c.are_named_last.ensures sites few pass index).0
+    (c.are_named_last_in.ensures sites few pass index).0

@@ -31,8 +31,10 @@ returns-then-kind_at-ne-CREATE c chained law =
 
 pub is_any_limited-limited-requires : goal.is_any_limited-limited-requires
 is_any_limited-limited-requires c =
+    let back = c in
     let g = c.gather_sets-k in
-    omega (arith, g.ensures.0, g.auto.out)
+    let s = back in
+    omega (arith, g.ensures.0, g.auto.out, s.requires.3)
 
 pub returns-then-not-limited-asked : goal.returns-then-not-limited-asked
 unfolding is_named_at
@@ -56,13 +58,15 @@ returns-then-not-limited-asked c chained law =
 
 pub are_named-requires : goal.are_named-requires
 are_named-requires c =
-    let g = c.gather_sets-k in (
+    let y = c in
+    let g = y.gather_sets-k in
+    let s = y in (
       g.ensures.0,
-      omega (arith, g.ensures.0, g.auto.out),
-      omega (arith, g.ensures.0),
-      omega (arith, g.ensures.0),
-      omega (arith, g.ensures.0),
-      omega arith,
+      omega (arith, g.ensures.0, g.auto.out, s.requires.3),
+      omega (arith, g.ensures.0, s.requires.7),
+      omega (arith, g.ensures.0, s.requires.4),
+      omega (arith, g.ensures.0, s.requires.5),
+      omega (arith, g.ensures.0, s.requires.6),
     )
 
 pub returns : goal.returns
@@ -85,7 +89,7 @@ returns c chained law =
     (s.requires.2 e.site e.seq) g.ensures.1 in
     let size : length ms ≡ g.result
     = ap length (sym same)
-    ∙ sets-length rs g.new.out g.result (omega (arith, g.ensures.0, g.auto.out)) in
+    ∙ sets-length rs g.new.out g.result (omega (arith, g.ensures.0, g.auto.out, s.requires.3)) in
     let lawful = subst (λ (m : List Edit). Lawful (box_on m) g.result) (sym same)
     (subst (Lawful (box_on ms)) size (law e.site e.seq)) in
     let by = named.ensures.1 lawful in (

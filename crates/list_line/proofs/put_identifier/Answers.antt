@@ -14,12 +14,15 @@ use Rattle.list_line.proofs.put_identifier.Goals as goal
 pub returns-then-w-n : goal.returns-then-w-n
 unfolding identifier_text
 returns-then-w-n c =
-    let a = c.args in
-    let all = c.put_members-w in
+    let none-put = c in
+    let members = none-put in
+    let s = members in
+    let a = s.args in
+    let all = members.put_members-w in
     let ids = identifier_by (take a.d a.disputes.now) a.g in
     let (front, none) = none-marked all.new.out a.out.now all.result a.n
-    (omega (arith, c.requires.1, c.requires.2, all.ensures.1, all.auto.out)) (omega (arith, c.requires.2)) ids
-    all.ensures.0 c.if-w-n.true in
+    (omega (arith, s.requires.1, s.requires.2, all.ensures.1, all.auto.out)) (omega (arith, s.requires.2)) ids
+    all.ensures.0 none-put.if-w-n.true in
     let first = c.put_byte-k.ensures in
     let second = c.put_byte.ensures in (
       rw none (two (take a.n a.out.now) (space ∷ []) (minus ∷ []) (first.0 ∙ rw front) second.0),
@@ -28,11 +31,13 @@ returns-then-w-n c =
 
 pub returns : goal.returns
 returns c =
-    let a = c.args in
-    let all = c.put_members-w in
+    let members = c in
+    let s = members in
+    let a = s.args in
+    let all = members.put_members-w in
     let ids = identifier_by (take a.d a.disputes.now) a.g in (
       first-mark-spaced all.new.out a.out.now all.result a.n
-          (omega (arith, c.requires.1, c.requires.2, all.ensures.1, all.auto.out)) (omega (arith, c.requires.2)) ids
-          all.ensures.0 c.if-w-n.false (omega (arith, c.requires.2, all.auto.out)),
-      omega (arith, c.requires.1, all.ensures.1),
+          (omega (arith, s.requires.1, s.requires.2, all.ensures.1, all.auto.out)) (omega (arith, s.requires.2)) ids
+          all.ensures.0 c.if-w-n.false (omega (arith, s.requires.2, all.auto.out)),
+      omega (arith, s.requires.1, all.ensures.1),
     )

@@ -16,16 +16,22 @@ use Rattle.list_line.proofs.put_line.Goals as goal
 pub returns : goal.returns
 unfolding line_by
 returns c =
-    let g = c.args.g.now in
-    let v = c.args.v in
-    let first = c.put_dotted-a.ensures in
-    let second = c.put_identifier-b.ensures in
-    let third = c.put_settings-w.ensures in
+    let s4 = c in
+    let set = s4 in
+    let marked = set in
+    let named = marked in
+    let start = named in
+    let a = start.args in
+    let first = named.put_dotted-a.ensures in
+    let second = marked.put_identifier-b.ensures in
+    let third = set.put_settings-w.ensures in
     let last = c.put_byte.ensures in
-    let disputes = take g.disputed g.disputes in
-    let few : length disputes ≤ most_sets = omega (arith, g.few_disputed, length-take-le g.disputed g.disputes (omega arith)) in (
-      four [] (dotted g.site g.seq) (space ∷ identifier_text (identifier_by disputes v))
-          (settings_by _ v keys) (newline ∷ []) first.0 second.0 third.0 last.0,
+    let disputes = take a.d a.disputes.now in
+    let few : length disputes ≤ most_sets
+    = omega (arith, start.requires.1, length-take-le a.d a.disputes.now start.requires.0) in (
+      four [] (dotted a.site a.seq) (space ∷ identifier_text (identifier_by disputes a.g))
+          (settings_by _ a.g keys) (newline ∷ []) first.0 second.0 third.0 last.0,
       omega (arith, first.1, second.1, third.1, last.1),
-      λ i l. third.2 i (get_or disputes i 0) (omega (arith, few)) (c.requires.1 i l),
+      third.2,
+      λ i l. third.3 i (get_or disputes i 0) (omega (arith, few)) (start.requires.4 i l),
     )

@@ -5,12 +5,13 @@ use mathlib.Core.List.{◌++◌}
 use Prim.Native.Nat.{◌+◌, ◌*◌, ◌≤◌}
 use lib.ListN.{length, take}
 use Rattle.list_text.specs.Pieces.{equated_length}
-use Rattle.list_line.specs.LineForms.{settings_by, SameNames}
+use Rattle.list_line.specs.LineForms.{settings_by, Kept, SameNames}
 use Rattle.list_line.proofs.put_settings.Given as goal
 
 abbrev pub invariant-loop-k : goal.invariant-loop-k
 invariant-loop-k l =
     (l.w ≤ l.n + l.k * (1 + equated_length))
     × (length l.out ≡ length l.initial.out)
-    × (take l.w l.out ≡ take l.n l.initial.out ++ settings_by (take l.g.sets l.g.stamps) l.v l.k)
-    × SameNames l.initial.kept.texts l.initial.kept.lens l.kept.texts l.kept.lens
+    × Kept l.texts l.lens l.told
+    × (take l.w l.out ≡ take l.n l.initial.out ++ settings_by (take l.t l.stamps) l.g l.k)
+    × SameNames l.initial.texts l.initial.lens l.texts l.lens

@@ -11,7 +11,7 @@ offset_bounds-g-v c =
     let a = c.args in
     let t = tables_of a.c a.records.now a.objects.now a.groups.now in
     let s = sound-at t c.requires.0 in
-    let g = c.gather in
+    let g = c.gather_in in
     let count = gathered-count t s a.o c.requires.1 g.new.g g.ensures in
     record { fits = omega (arith, c.requires.2, count, g.new.g.few_groups) }
 
@@ -20,7 +20,7 @@ bounds-g-v c =
     let a = c.args in
     let t = tables_of a.c a.records.now a.objects.now a.groups.now in
     let s = sound-at t c.requires.0 in
-    let g = c.gather in
+    let g = c.gather_in in
     let count = gathered-count t s a.o c.requires.1 g.new.g g.ensures in
     omega (arith, c.requires.2, count, g.new.g.few_groups)
 
@@ -29,6 +29,6 @@ returns c =
     let a = c.args in
     let t = tables_of a.c a.records.now a.objects.now a.groups.now in
     let s = sound-at t c.requires.0 in
-    let g = c.gather in
-    let e = c.put_lone_line.ensures in
+    let g = c.gather_in in
+    let e = c.put_lone_line_of.ensures in
     (e.0 ∙ gathered-line t s a.o c.requires.1 g.new.g g.ensures a.v c.requires.2, e.1)

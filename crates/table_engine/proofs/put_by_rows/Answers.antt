@@ -19,7 +19,7 @@ returns-then-not-named-k c =
     let y = c in
     let s = y in
     let b = s.requires.0 in
-    let t = y.are_named_last-named in
+    let t = y.are_named_last_in-named in
     record {
       decides = (t.ensures s.args.c.sites b.holds.few-sites b.holds.pass b.indexed).0;
       masked = λ on few.
@@ -31,7 +31,7 @@ pub put_conflicts-requires : goal.put_conflicts-requires
 put_conflicts-requires c =
     let y = c in
     let k = y.args.k in
-    let t = y.are_named_last-named in
+    let t = y.are_named_last_in-named in
     let asked = not-false (t.result && leb k most_decided) c.if-not-named-k.false-raw in
     let few : k ≤ most_decided = leb-true k most_decided (both t.result (leb k most_decided) asked).1 in
     (omega arith, search (rules, few), search (rules, few), search (rules, few))
@@ -43,7 +43,7 @@ returns c =
     let s = y in
     let a = s.args in
     let b = s.requires.0 in
-    let (is, told) = y.are_named_last-named.ensures a.c.sites b.holds.few-sites b.holds.pass b.indexed in
+    let (is, told) = y.are_named_last_in-named.ensures a.c.sites b.holds.few-sites b.holds.pass b.indexed in
     record {
       decides = is;
       masked = λ on few.

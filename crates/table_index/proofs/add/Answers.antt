@@ -206,6 +206,9 @@ add_set-requires c =
       omega (arith, h.few-records, l),
       rw t.number t.few,
       rw (c.byte_at-key.ensures, ← key-in-place rs a.p) key,
+      omega arith,
+      omega arith,
+      omega arith,
       rw t.number t.left,
     )
 
@@ -233,11 +236,11 @@ returns c =
     let added = c6.add_set.ensures in
     let more : number_at rs (suc a.p) ≡ number_at rs a.p + 0
     = number_more d rs h a.p l ∙ ap (λ (b : Bool). number_at rs a.p + cond b 1 0) none in (
-      rw (add-one a.p, added.0, added.1, added.2, added.3, t.number, key, c17.kind_at-kind.ensures, c18.spot-at.ensures)
+      rw (add-one a.p, added.0, added.1, added.2, t.number, key, c17.kind_at-kind.ensures, c18.spot-at.ensures)
           (set-added d rs h a.p l a.ix.now.places a.ix.now.numbers a.ix.now.counts a.ix.now.chains x
           (room_of (goal.at.returns c).Start) f.result t.before t.create t.on),
       rw (add-one a.p) (omega (arith, more, s.requires.2)),
-      rw (added.0, c18.spot-at.ensures)
+      rw c18.spot-at.ensures
           (starts-kept d rs h a.p l a.ix.now.places a.ix.now.numbers a.ix.now.counts a.ix.now.chains x
           (room_of (goal.at.returns c).Start)),
     )

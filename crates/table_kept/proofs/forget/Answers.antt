@@ -8,6 +8,6 @@ use Rattle.table_kept.proofs.KeptAlong.{none_kept}
 use Rattle.table_kept.proofs.forget.Goals as goal
 
 pub returns : goal.returns
-returns c es =
-    let ns = c.args.kept.now.names in
-    none_kept es _ _ (length-set ns told_at 0 ∙ omega arith) (omega arith) (get_or-set_same ns told_at 0 0 (omega arith))
+returns c es rows long =
+    let ns = c.args.names.now in
+    none_kept es _ rows (length-set ns told_at 0 ∙ c.requires) long (get_or-set_same ns told_at 0 0 (omega (arith, c.requires)))

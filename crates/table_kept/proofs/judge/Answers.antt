@@ -16,7 +16,7 @@ returns-in_default c =
     let a = c.args in
     let e = decode_of a.rec.now in
     let es = edits_of a.recs.now a.n in
-    rw c.in_default.is (judged-of-none es e 0, kept_more es e a.kept.now.names a.kept.now.rows c.requires.2)
+    rw c.in_default.is (judged-of-none es e 0, kept_more es e a.names.now a.rows.now c.requires.2)
 
 pub returns-then-not-limited-h : goal.returns-then-not-limited-h
 returns-then-not-limited-h c =
@@ -28,7 +28,7 @@ returns-then-not-limited-h c =
     (not-true (is_limited e || h.limited) (rw c.byte_at-limited.ensures at c.if-not-limited-h.true-raw)) in
     rw c.in-Some.is (
       judged-plainly es e h (c.requires.1.whole h c.in-Some.is) own others,
-      kept_more es e a.kept.now.names a.kept.now.rows c.requires.2,
+      kept_more es e a.names.now a.rows.now c.requires.2,
     )
 
 pub judge_by_rows-requires : goal.judge_by_rows-requires

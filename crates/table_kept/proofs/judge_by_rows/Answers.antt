@@ -28,15 +28,15 @@ judge-j-requires c =
     let (sets, plain) = surveyed-sets es e a.h s.requires.2 in
     let m = c.make_ready in (
       rw (sets, ← s.requires.0.all) (s.requires.0.holds.few-sets e.tsite e.tseq),
-      omega arith,
-      omega arith,
+      omega (arith, m.auto.names, s.requires.3.names-long),
+      m.auto.rows ∙ s.requires.3.rows_long,
       rw (sets, plain) (marked-below e (sets_on e.tsite e.tseq es)),
     )
 
 pub put_box-requires : goal.put_box-requires
 put_box-requires c =
     let s = c in
-    omega arith
+    c.judge-j.auto.names ∙ c.make_ready.auto.names ∙ s.requires.3.names-long
 
 pub returns : goal.returns
 returns c =
@@ -48,6 +48,8 @@ returns c =
     let (sets, plain) = surveyed-sets es e a.h s.requires.2 in
     let ready = c.make_ready in
     let j = c.judge-j in
+    let ln = j.auto.names ∙ ready.auto.names ∙ s.requires.3.names-long in
+    let lr = j.auto.rows ∙ ready.auto.rows ∙ s.requires.3.rows_long in
     let (judged, put) = j.ensures ms (sym sets) ready.ensures.names ready.ensures.told plain in
     let after : length ms < most_sets → TellOf (ms ++ (e ∷ [])) j.new.names j.new.rows
     = λ few. let (names, told) = put (rw sets few) in record { names = names; told = told } in
@@ -55,5 +57,5 @@ returns c =
       record { nameless = λ asked. judged.nameless; conflicts = λ found. judged.conflicts },
       subst (λ (ns : List ℕ). KeptFor (es ++ (e ∷ [])) ns j.new.rows)
           (sym (c.put_box.ensures ∙ ap (boxed j.new.names e) count))
-          (kept-with es e j.new.names j.new.rows (omega arith) (omega arith) after _ refl),
+          (kept-with es e j.new.names j.new.rows ln lr after _ refl),
     )

@@ -21,22 +21,22 @@ use Rattle.table_kept.proofs.make_ready.Goals.{After-place_at-at}
 chains-at :
     (c : After-place_at-at) →
     (let a = c.args in
-    ChainsOn a.recs.now a.n a.ix.now.numbers a.ix.now.chains c.place_at-at.result
+    ChainsOn a.recs.now a.n a.numbers.now a.chains.now c.place_at-at.result
     × (map (record_at a.recs.now) (places_on a.recs.now a.n c.place_at-at.result)
     ≡ sets_on (decode_of a.rec.now).tsite (decode_of a.rec.now).tseq (edits_of a.recs.now a.n)))
 chains-at c =
     let s = c in
     let a = s.args in
     let e = decode_of a.rec.now in
-    let is : c.place_at-at.result ≡ place_of a.ix.now.places e.tsite.0 e.tseq.0
+    let is : c.place_at-at.result ≡ place_of a.places.now e.tsite.0 e.tseq.0
     = c.place_at-at.ensures
-    ∙ ap₂ (place_of a.ix.now.places) c.byte_at.ensures c.two_at.ensures in
+    ∙ ap₂ (place_of a.places.now) c.byte_at.ensures c.two_at.ensures in
     subst
-    (λ (q : ℕ). ChainsOn a.recs.now a.n a.ix.now.numbers a.ix.now.chains q
+    (λ (q : ℕ). ChainsOn a.recs.now a.n a.numbers.now a.chains.now q
     × (map (record_at a.recs.now) (places_on a.recs.now a.n q)
     ≡ sets_on e.tsite e.tseq (edits_of a.recs.now a.n)))
     (sym is)
-    (target-chains a.recs.now a.n a.ix.now.places a.ix.now.numbers a.ix.now.chains s.requires.0 e
+    (target-chains a.recs.now a.n a.places.now a.numbers.now a.chains.now s.requires.0 e
     s.requires.1)
 
 pub overflow_cast-k : goal.overflow_cast-k
@@ -61,12 +61,14 @@ put_anew-requires c =
       chains,
       s.requires.2 ∙ sym (ap length sets)
           ∙ length-map (places_on rs s.args.n c.place_at-at.result) (record_at rs),
+      h.names-long,
+      h.rows_long,
     )
 
 pub returns-then-not-is_kept : goal.returns-then-not-is_kept
 returns-then-not-is_kept c =
     let p = c.put_anew in
-    subst (λ (ms : List Edit). TellOf ms p.new.kept.names p.new.kept.rows) (chains-at (goal.at.returns-then-not-is_kept c).After-place_at-at).1
+    subst (λ (ms : List Edit). TellOf ms p.new.names p.new.rows) (chains-at (goal.at.returns-then-not-is_kept c).After-place_at-at).1
     p.ensures
 
 pub returns-else-not-is_kept : goal.returns-else-not-is_kept
@@ -75,5 +77,5 @@ returns-else-not-is_kept c =
     let a = s.args in
     let same = rw (c.byte_at.ensures, c.two_at.ensures) at
     (sym c.is_kept.ensures ∙ c.if-not-is_kept.false) in
-    kept-all (edits_of a.recs.now a.n) a.kept.now.names a.kept.now.rows s.requires.3
+    kept-all (edits_of a.recs.now a.n) a.names.now a.rows.now s.requires.3
     (decode_of a.rec.now).tsite (decode_of a.rec.now).tseq a.k s.requires.2 same

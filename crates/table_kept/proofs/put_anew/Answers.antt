@@ -23,7 +23,7 @@ put_chains-requires c =
 pub put_names-requires : goal.put_names-requires
 put_names-requires c =
     let s = c in
-    (omega (arith, few (goal.at.put_names-requires c).Start), omega (arith, few (goal.at.put_names-requires c).Start))
+    (omega (arith, few (goal.at.put_names-requires c).Start, s.requires.2), omega (arith, few (goal.at.put_names-requires c).Start))
 
 pub put_rows-requires : goal.put_rows-requires
 put_rows-requires c =
@@ -31,8 +31,8 @@ put_rows-requires c =
     let m = c.put_names in (
       few (goal.at.put_rows-requires c).Start,
       omega (arith, few (goal.at.put_rows-requires c).Start),
-      omega (arith, few (goal.at.put_rows-requires c).Start, m.auto.names),
-      omega arith,
+      omega (arith, few (goal.at.put_rows-requires c).Start, m.auto.names, s.requires.2),
+      s.requires.3,
       m.ensures,
     )
 

@@ -25,12 +25,12 @@ returns-then-kind-eq-SET c =
     let set = eq-eqb e.kind set_kind is in
     let other : is_create e ≡ false = rw is refl in (
       record {
-        of-set = λ y. w.store_set.ensures.0;
+        of-set = λ y. w.store_set.ensures;
         no-set = λ y. clash set y;
         of-create = λ y. clash y other;
         of_layer = λ y z. clash set z;
       },
-      w.store_set.ensures.1,
+      refl,
     )
 
 pub put_create-requires : goal.put_create-requires

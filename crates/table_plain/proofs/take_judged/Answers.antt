@@ -41,10 +41,9 @@ returns-then-not-store_set c =
     let w = c in
     let s = c in
     let a = s.args in
-    rw w.store_set.ensures.1
-    (judged-crowded a.sites a.n a.m a.sum a.held.now a.records.now a.objects.now a.groups.now
+    judged-crowded a.sites a.n a.m a.sum a.held.now a.records.now a.objects.now a.groups.now
     a.ix.now.places a.ix.now.numbers a.ix.now.counts a.ix.now.chains a.rec.now s.requires.0 a.a s.requires.1 _ _ _ _ _
-    (rw (c.if-not-store_set.true) at w.store_set.ensures.0))
+    (rw (c.if-not-store_set.true) at w.store_set.ensures)
 
 pub enter-requires : goal.enter-requires
 enter-requires c =
@@ -53,10 +52,9 @@ enter-requires c =
     let a = s.args in (
       judged-there a.sites a.n a.m a.sum a.held.now a.records.now a.objects.now a.groups.now
           a.ix.now.places a.ix.now.numbers a.ix.now.counts a.ix.now.chains a.rec.now s.requires.0 a.a s.requires.1,
-      rw w.store_set.ensures.1
-          (judged-enters a.sites a.n a.m a.sum a.held.now a.records.now a.objects.now a.groups.now
+      judged-enters a.sites a.n a.m a.sum a.held.now a.records.now a.objects.now a.groups.now
           a.ix.now.places a.ix.now.numbers a.ix.now.counts a.ix.now.chains a.rec.now s.requires.0 a.a s.requires.1 _ _ _ _ _
-          (rw (c.if-not-store_set.false) at w.store_set.ensures.0)),
+          (rw (c.if-not-store_set.false) at w.store_set.ensures),
     )
 
 pub put_record-requires : goal.put_record-requires
@@ -77,9 +75,8 @@ returns c =
     let s = c in
     let a = s.args in
     let n = c.enter.ensures in
-    let at = rw w.store_set.ensures.1 at n.1 in
     judged-left a.sites a.n a.m a.sum a.held.now a.records.now a.objects.now a.groups.now
     a.ix.now.places a.ix.now.numbers a.ix.now.counts a.ix.now.chains a.rec.now s.requires.0 a.a s.requires.1 _ _ _ _ _
-    (rw (c.if-not-store_set.false) at w.store_set.ensures.0) _ _ _ _ _ n.0
-    c.put_record.ensures at (more-none a.m)
+    (rw (c.if-not-store_set.false) at w.store_set.ensures) _ _ _ _ _ n.0
+    c.put_record.ensures n.1 (more-none a.m)
     (c.added-after.ensures ∙ ap (λ (k : ℕ). wrapped (a.sum + k)) c.sum_record.ensures)

@@ -14,14 +14,16 @@ use Rattle.list_line.proofs.alone.put_lone_line.Goals as goal
 pub returns : goal.returns
 unfolding line_by
 returns c =
-    let g = c.args.g.now in
-    let v = c.args.v in
-    let first = c.put_dotted-a.ensures in
-    let second = c.put_lone_identifier-b.ensures in
-    let third = c.put_lone_settings-w.ensures in
+    let set = c in
+    let marked = set in
+    let named = marked in
+    let a = named.args in
+    let first = named.put_dotted-a.ensures in
+    let second = marked.put_lone_identifier-b.ensures in
+    let third = set.put_lone_settings-w.ensures in
     let last = c.put_byte.ensures in
-    let disputes = take g.disputed g.disputes in (
-      four [] (dotted g.site g.seq) (space ∷ identifier_text (identifier_by disputes v))
-          (settings_by _ v keys) (newline ∷ []) first.0 second.0 third.0 last.0,
+    let disputes = take a.d a.disputes.now in (
+      four [] (dotted a.site a.seq) (space ∷ identifier_text (identifier_by disputes a.g))
+          (settings_by _ a.g keys) (newline ∷ []) first.0 second.0 third.0 last.0,
       omega (arith, first.1, second.1, third.1, last.1),
     )

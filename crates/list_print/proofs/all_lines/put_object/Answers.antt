@@ -12,6 +12,6 @@ returns c =
     let a = c.args in
     let p = c.requires in
     let t = tables_of a.c a.records.now a.objects.now a.groups.now in
-    let g = c.gather in
+    let g = c.gather_in in
     let lines = gathered-lines t (sound-at t p.0) a.o p.2 g.new.g g.ensures in
     rw (← lines) (fewer-behind a.out.now a.n (omega (arith, g.new.g.few_groups)) c.put_versions.ensures)

@@ -13,8 +13,8 @@ use Rattle.group_limited.specs.LimitedForms.{JudgedWhere}
 use Rattle.table_arrival.proofs.JudgedByRows.{box-below, box-told, names-told, judged-told}
 use Rattle.table_arrival.proofs.judging.judge_by_rows.Goals as goal
 
-pub are_named_last-named-requires : goal.are_named_last-named-requires
-are_named_last-named-requires c =
+pub are_named_last_in-named-requires : goal.are_named_last_in-named-requires
+are_named_last_in-named-requires c =
     let a = c.args in
     let (h, ix, _, held, _) = c.requires in
     let e = decode_of a.rec.now in
@@ -27,7 +27,7 @@ are_named_last-named-requires c =
 pub returns-then-not-named : goal.returns-then-not-named
 returns-then-not-named c =
     let h = c.requires.0 in
-    let named = c.are_named_last-named.ensures c.args.c.sites h.few-sites h.pass c.requires.1 in
+    let named = c.are_named_last_in-named.ensures c.args.c.sites h.few-sites h.pass c.requires.1 in
     record { named = sym c.if-not-named.true ∙ named.0; judged = λ j y. absurd (none-some j y) }
 
 pub judge-judged-requires : goal.judge-judged-requires
@@ -37,7 +37,7 @@ judge-judged-requires c =
     let e = decode_of a.rec.now in
     let at = c.place_at-p.ensures ∙ ap (place_of a.places.now e.tsite.0) c.pair_at-q.ensures in
     let few : a.k ≤ most_sets = rw many (h.few-sets e.tsite e.tseq) in
-    let named = c.are_named_last-named.ensures a.c.sites h.few-sites h.pass ix in
+    let named = c.are_named_last_in-named.ensures a.c.sites h.few-sites h.pass ix in
     let told = box-told a.c a.recs.now h a.places.now ix e held _ at _ _ _ _ _ (named.1 c.if-not-named.false) in (
       few,
       names-told a.c a.recs.now h a.places.now ix e held _ at a.k many _ _ _ _ _ told,
@@ -50,7 +50,7 @@ returns c =
     let e = decode_of a.rec.now in
     let at = c.place_at-p.ensures ∙ ap (place_of a.places.now e.tsite.0) c.pair_at-q.ensures in
     let on = c.if-not-named.false in
-    let named = c.are_named_last-named.ensures a.c.sites h.few-sites h.pass ix in
+    let named = c.are_named_last_in-named.ensures a.c.sites h.few-sites h.pass ix in
     let told = box-told a.c a.recs.now h a.places.now ix e held _ at _ _ _ _ _ (named.1 on) in
     record {
       named = sym on ∙ named.0;

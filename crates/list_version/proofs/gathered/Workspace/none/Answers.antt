@@ -1,10 +1,10 @@
--- `list_version::gathered::Gathered::none` meets its contract: of no Set nothing is noted. Assumes nothing.
+-- `list_version::gathered::Workspace::none` meets its contract: of no Set nothing is noted. Assumes nothing.
 use mathlib.Core.Path.{refl}
 use native.Mathlib.Omega.{arith}
 use lib.ListN.{replicate}
 use Rattle.edit_record.specs.Layout.{keys}
 use Rattle.list_version.proofs.StampsByKey.{keyed-none}
-use Rattle.list_version.proofs.gathered.Gathered.none.Goals as goal
+use Rattle.list_version.proofs.gathered.Workspace.none.Goals as goal
 
 pub invariant_of-result : goal.invariant_of-result
 invariant_of-result c =
