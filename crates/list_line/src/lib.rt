@@ -4,6 +4,8 @@
 
 pub mod alone;
 pub mod pieces;
+#[cfg(test)]
+mod tests;
 
 ghost use Rattle.std.specs.Prelude.{◌≡◌, cond, ◌+◌, ◌*◌, ◌≤◌, ◌<◌, length, take};
 ghost use mathlib.Core.List.{[], ◌∷◌, ◌++◌, flat_map};

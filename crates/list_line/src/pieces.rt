@@ -2,15 +2,16 @@
 // of each key, and the names of the Sets in dispute. The names are formed once for all lines of the object; a setting
 // is formed anew only where the last one in its place was told by another number. A piece is copied whole, with what
 // stands behind it: that is written over next.
-ghost use Rattle.std.specs.Prelude.{◌≡◌, not, ◌&&◌, List, ◌∷◌, ◌++◌, ℕ, ◌+◌, ◌*◌, ◌≤◌, ◌<◌, eqb, length, take, get_or};
+ghost use Rattle.std.specs.Prelude.{◌≡◌, not, ◌&&◌, cond, List, [], ◌∷◌, ◌++◌, ℕ, ◌+◌, ◌*◌, ◌≤◌, ◌<◌, eqb, length, take, get_or};
 ghost use Rattle.edit_record.specs.Layout.{keys};
 ghost use Rattle.group_step.specs.GroupRows.{most_sets};
 ghost use Rattle.list_text.specs.Pieces.{plus, dotted_length, equated_length};
 ghost use Rattle.list_line.specs.Line.{name_text};
-ghost use Rattle.list_version.specs.VersionForms.{name_by};
+ghost use Rattle.list_version.specs.VersionForms.{name_by, is_in};
 ghost use Rattle.list_line.specs.LineForms.{piece_length, pieces, stamp_text, piece_at, Kept};
-ghost use Rattle.list_line.specs.LineForms.{NamesKept, NameMore, SameNames};
+ghost use Rattle.list_line.specs.LineForms.{NameIn, NamesKept, NameMore, SameNames};
 
+use super::{put_member, put_setting};
 use edit_causal::shown;
 use edit_record::VALUES;
 use group_step::SETS;
@@ -167,5 +168,28 @@ impl Pieces {
         ensures { NamesKept self.new.texts self.new.lens (take d disputes.now) }
     {
         put_names(&mut self.texts, &mut self.lens, disputes, d);
+    }
+
+    // Puts `+` and the name of the i-th Set in dispute, x, if that is a member of g.
+    pub fn put_member(&self, out: &mut [u8], n: usize, i: usize, x: u64, g: u64) -> usize
+        requires { (i < most_sets)
+            × (n + piece_length ≤ length out.old)
+            × NameIn self.now.texts self.now.lens i x }
+        ensures { (take result out.new
+            ≡ take n out.old ++ cond (is_in g x) (plus ∷ name_text (name_by x)) [])
+            × (result ≤ n + (1 + dotted_length)) }
+    {
+        put_member(out, n, &self.texts, &self.lens, i, x, g)
+    }
+
+    // Puts ` key=value` by the stamp s, or nothing if it is 0.
+    pub fn put_setting(&mut self, out: &mut [u8], n: usize, key: usize, s: u64) -> usize
+        requires { (key < keys) × (n + piece_length ≤ length out.old) }
+        ensures { (take result out.new ≡ take n out.old ++ stamp_text key s)
+            × (result ≤ n + (1 + equated_length))
+            × SameNames self.old.texts self.old.lens self.new.texts self.new.lens }
+    {
+        let (texts, lens, told) = (&mut self.texts, &mut self.lens, &mut self.told);
+        put_setting(out, n, texts, lens, told, key, s)
     }
 }
