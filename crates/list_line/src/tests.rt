@@ -1,12 +1,12 @@
-// The methods that put one piece, on values from document 01 and not from the definitions that their clauses name.
+// The methods that put one piece: what they print is taken from document 01, not from the definitions of their clauses.
 use super::pieces::Pieces;
 
-// Puts settings and names behind the first n bytes, which stay, and reads what stands there then.
+// Puts settings and names behind the first two bytes, which stay, and reads what stands there then.
 #[test]
 fn pieces_are_put(rt: HostRuntime) {
     let mut kept = Pieces::none();
     let mut out = [b'.'; 48];
-    // a stamp tells the value below it; one square of the grid counts as its first place
+    // a stamp tells the value one less than itself; a place on the grid is shown as the first of its square
     for (key, stamp, want) in [
         (2, 41, b".. 2=40"),
         (2, 42, b".. 2=41"),
