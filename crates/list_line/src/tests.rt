@@ -1,4 +1,5 @@
-// The methods that put one piece: what they print is taken from document 01, not from the definitions of their clauses.
+// The methods that put one piece: what they print is taken from documents 01 and 02 (Req 03), not from the definitions
+// that their clauses name.
 use super::pieces::Pieces;
 
 // Puts settings and names behind the first two bytes, which stay, and reads what stands there then.
